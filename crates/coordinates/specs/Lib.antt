@@ -1,0 +1,2 @@
+-- What the contracts of layer 1 cite.
+pub mod Refusals

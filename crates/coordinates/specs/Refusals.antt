@@ -1,0 +1,42 @@
+-- Document 01, the table of refusals: a fault is answered by its number and place.
+use Prim.Native.Nat.{ℕ}
+use Rattle.coordinates.specs.declared.refusal.Refusal.{Refusal}
+
+-- nothing is refused: both numbers are zero
+abbrev pub noRefusal : Refusal
+noRefusal = record { number = 0; line = 0 }
+
+-- "calls without a sheet give line 0"
+abbrev pub refusalOf : ℕ → Refusal
+refusalOf n = record { number = n; line = 0 }
+
+-- the numbers of the table
+abbrev pub unread : ℕ
+unread = 1
+
+abbrev pub name : ℕ
+name = 2
+
+abbrev pub value : ℕ
+value = 3
+
+abbrev pub count : ℕ
+count = 4
+
+abbrev pub area : ℕ
+area = 5
+
+abbrev pub twice : ℕ
+twice = 6
+
+abbrev pub late : ℕ
+late = 7
+
+abbrev pub crowded : ℕ
+crowded = 8
+
+abbrev pub zeroLine : ℕ
+zeroLine = 9
+
+abbrev pub short : ℕ
+short = 10

@@ -1,0 +1,44 @@
+// The refusals of document 01's table, by number.
+ghost use mathlib.Core.Path.{_≡_};
+ghost use Rattle.coordinates.specs.Refusals.{noRefusal, refusalOf};
+
+// unread: a sheet too long, or a line of no form
+pub const UNREAD: u32 = 1;
+// name: outside the name range
+pub const NAME: u32 = 2;
+// value: a size outside its range
+pub const VALUE: u32 = 3;
+// count: a whole number outside its range
+pub const COUNT: u32 = 4;
+// area: an area start not below its end
+pub const AREA: u32 = 5;
+// twice: an area name or axis record again
+pub const TWICE: u32 = 6;
+// late: a record earlier in kind than one before it
+pub const LATE: u32 = 7;
+// crowded: one more would pass a panel limit
+pub const CROWDED: u32 = 8;
+// zero line: conversion of line 0
+pub const ZERO_LINE: u32 = 9;
+// short: a lent run or store that is too short
+pub const SHORT: u32 = 10;
+
+// A refusal: its number, 0 where nothing is refused, and its place, the sheet's line, 0 for a call without a sheet.
+pub struct Refusal {
+    pub number: u32,
+    pub line: u32,
+}
+
+// Nothing is refused.
+pub fn no_refusal() -> Refusal
+    ensures { λ r. ⌜ r ≡ noRefusal ⌝ }
+{
+    Refusal { number: 0, line: 0 }
+}
+
+// The refusal of a call without a sheet.
+pub fn refusal_of(number: u32) -> Refusal
+    ensures { λ r. ⌜ r ≡ refusalOf number ⌝ }
+{
+    Refusal { number, line: 0 }
+}

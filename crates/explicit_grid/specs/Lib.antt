@@ -1,0 +1,2 @@
+-- What the contracts of layer 3 cite.
+pub mod Template

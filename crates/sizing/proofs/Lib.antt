@@ -1,0 +1,2 @@
+-- Laws of layer 2.
+pub mod Bits

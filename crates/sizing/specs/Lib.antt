@@ -1,0 +1,2 @@
+-- What the contracts of layer 2 cite.
+pub mod Words

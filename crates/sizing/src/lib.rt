@@ -1,0 +1,20 @@
+// Layer 2: sizes of tracks, and the words that hold them.
+pub mod word;
+
+// The size of a track at one end.
+pub enum Sizing {
+    Length(f32),
+    Percent(f32),
+    Fraction(f32),
+    Auto,
+    MinContent,
+    MaxContent,
+    FitContentLength(f32),
+    FitContentPercent(f32),
+}
+
+// The minimum and the maximum of a track.
+pub struct MinMax {
+    pub min: Sizing,
+    pub max: Sizing,
+}
