@@ -20,7 +20,7 @@ returns c = search needs
 
 -- src/component.rt:44:1
 returns-2 : tie.Need-returns-2
-returns-2 c = sym (List·getD-eq-default _ 0 (c .if1 .left))
+returns-2 c = sym (List·getD-eq-default (c .before .args .words .now) 0 (c .if1 .left))
 
 pub word-at-spec : {M : Type 1} → statement M
 word-at-spec = tie.close (tie.spec mul-result shared-slice-read-result returns returns-2)

@@ -1,0 +1,2 @@
+//! Stand-in: the grid part only.
+pub(crate) mod grid;
