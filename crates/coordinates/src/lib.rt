@@ -3,6 +3,7 @@ pub mod axis;
 pub mod counts;
 pub mod line;
 pub mod refusal;
+pub mod signed;
 
 pub use axis::Axis;
 pub use counts::TrackCounts;

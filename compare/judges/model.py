@@ -1,0 +1,130 @@
+"""The second judge: a sheet and direct entry calls, answered from document 01's words alone."""
+import reader
+import rules
+
+LETTERS = ("c", "r")
+STORE_BYTES = 32768
+ENTERED_LINES = (1, 20000)
+FULL_STORES = (STORE_BYTES, STORE_BYTES)
+
+
+class State:
+    """An accepted sheet with what entry calls have added."""
+
+    def __init__(self, panel):
+        self.panel = panel
+        self.explicit = {letter: rules.explicit_count(panel, letter) for letter in LETTERS}
+        self.entries = {letter: rules.written_entries(panel.axes[letter]) for letter in LETTERS}
+        self.used = {letter: panel.axes[letter].name_bytes for letter in LETTERS}
+        self.accepted = []
+
+    def names(self, letter):
+        return rules.Names(self.entries[letter], self.panel.areas, letter, self.explicit[letter])
+
+
+def late_refusal(panel):
+    """The number of what is wrong with the sheet as a whole, 0 where nothing is."""
+    if any(rules.explicit_count(panel, letter) > rules.FURTHEST for letter in LETTERS):
+        return reader.COUNT
+    if any(rules.entry_count(panel.axes[letter]) > reader.MOST["entry"] for letter in LETTERS):
+        return reader.CROWDED
+    return 0
+
+
+def read_sheet(sheet, stores=FULL_STORES):
+    """The state of an accepted sheet; raises `Refused`."""
+    panel, line_after = reader.read_lines(sheet)
+    number = late_refusal(panel)
+    if number:
+        refused = reader.Refused(number, line_after)
+        refused.panel = panel
+        raise refused
+    if min(stores) < STORE_BYTES:
+        raise reader.Refused(reader.SHORT, 0)
+    return State(panel)
+
+
+def enter(state, letter, line, name, stores=FULL_STORES):
+    """One direct entry call on bytes: its number, 0 where it is accepted."""
+    if not reader.good_name(name):
+        return reader.NAME
+    if not ENTERED_LINES[0] <= line <= ENTERED_LINES[1]:
+        return reader.COUNT
+    crowded = (len(state.entries[letter]) >= reader.MOST["entry"]
+               or state.used[letter] + len(name) > STORE_BYTES)
+    if crowded:
+        return reader.CROWDED
+    if min(stores) < STORE_BYTES:
+        return reader.SHORT
+    text = name.decode("ascii")
+    state.entries[letter].append((line, text))
+    state.used[letter] += len(name)
+    state.accepted.append((letter, line, text))
+    return 0
+
+
+def refusal_line(number, line):
+    return f"refused\t{number}\t{line}"
+
+
+def entry_line(number):
+    return refusal_line(number, 0) if number else "entered\t0\t0"
+
+
+def sheet_lines(state):
+    """Document 01's output."""
+    lines = []
+    for letter in LETTERS:
+        axis = state.panel.axes[letter]
+        lines.append(f"size\t{letter}\t{rules.repetitions(axis)}\t{state.explicit[letter]}")
+        lines += rules.records(axis, state.explicit[letter])
+    return lines + placement_lines(state)
+
+
+def placement_lines(state):
+    names = {letter: state.names(letter) for letter in LETTERS}
+    lines = []
+    for placement in state.panel.placements:
+        (start, first), (end, last) = names[placement.axis].resolve(placement)
+        lines.append(f"place\t{placement.axis}\t{start}\t{first}\t{end}\t{last}")
+    return lines
+
+
+def name_lines(state):
+    """The line-name lists, in the form that README.md gives."""
+    lines = []
+    for letter in LETTERS:
+        lists = rules.line_names(state.entries[letter], state.explicit[letter])
+        lines += ["\t".join(["names", letter, str(place), *names]) for place, names in enumerate(lists, start=1)]
+    return lines
+
+
+class Answer:
+    """What the model says of a sheet and entry calls, each (axis, line, name as bytes)."""
+
+    def __init__(self, sheet, calls=()):
+        self.refused = None
+        self.state = None
+        self.numbers = []
+        try:
+            self.state = read_sheet(sheet)
+        except reader.Refused as refused:
+            self.refused = refused
+            return
+        self.numbers = [enter(self.state, *call) for call in calls]
+
+    def sheet_answer(self):
+        """Document 01's output after the entry calls."""
+        if self.refused:
+            return [refusal_line(self.refused.number, self.refused.line)]
+        return sheet_lines(self.state)
+
+    def full_answer(self):
+        """The answers of the calls, document 01's output and the line names."""
+        if self.refused:
+            return self.sheet_answer()
+        return [entry_line(number) for number in self.numbers] + sheet_lines(self.state) + name_lines(self.state)
+
+
+def text_of(lines):
+    return "".join(line + "\n" for line in lines)

@@ -1,0 +1,364 @@
+"""The panel sheet, read by the words of document 01, with every refusal."""
+import re
+from dataclasses import dataclass, field
+
+import binary32
+
+LONGEST_SHEET = 32768
+LONGEST_NAME = 32
+MOST = {"component": 64, "track": 32, "spare": 64, "area": 64, "placement": 256, "entry": 4096}
+LARGEST_LENGTH = 65535.0
+LARGEST_PERCENTAGE = 10.0
+LINE_INDEXES = (-32768, 32767)
+SPANS = (0, 65535)
+EDGES = (1, 10001)
+IMPLICIT_COUNTS = (0, 10000)
+ITEMS = (0, 29999)
+REPEAT_COUNTS = (0, 65535)
+
+UNREAD, NAME, VALUE, COUNT, AREA, TWICE, LATE, CROWDED, ZERO_LINE, SHORT = range(1, 11)
+
+KEYWORDS = ("auto", "min", "max")
+LARGEST_OF_KIND = {"len": LARGEST_LENGTH, "pct": LARGEST_PERCENTAGE, "fr": LARGEST_LENGTH,
+                   "fitl": LARGEST_LENGTH, "fitp": LARGEST_PERCENTAGE, "auto": 0.0, "min": 0.0, "max": 0.0}
+MINIMUM_KINDS = ("len", "pct", "auto", "min", "max")
+KIND_ORDER = {"axis": 0, "area": 1}
+THE_REST = 2
+
+
+class Refused(Exception):
+    def __init__(self, number, line):
+        super().__init__(number, line)
+        self.number = number
+        self.line = line
+
+
+@dataclass
+class Size:
+    """A kind and the bits of its f32."""
+    kind: str
+    bits: int
+
+    def value(self):
+        return binary32.from_bits(self.bits)
+
+
+@dataclass
+class Track:
+    minimum: Size
+    maximum: Size
+
+
+@dataclass
+class Component:
+    """A single track (count None) or a repeat (a number, `fill` or `fit`) with its name sets."""
+    count: object
+    tracks: list
+    sets: list
+
+    def automatic(self):
+        return self.count in ("fill", "fit")
+
+
+@dataclass
+class Axis:
+    inner: object = None
+    rule: str = "max"
+    gap: Size = field(default_factory=lambda: Size("len", 0))
+    given: bool = False
+    components: list = field(default_factory=list)
+    sets: list = field(default_factory=lambda: [[]])
+    open: bool = False
+    spares: list = field(default_factory=list)
+    negative: int = 0
+    positive: int = 0
+    items: set = field(default_factory=set)
+    name_bytes: int = 0
+
+
+@dataclass
+class Area:
+    row_start: int
+    row_end: int
+    column_start: int
+    column_end: int
+
+    def edges(self, axis):
+        """Start and end on an axis."""
+        return (self.column_start, self.column_end) if axis == "c" else (self.row_start, self.row_end)
+
+
+@dataclass
+class End:
+    """One end of a placement."""
+    kind: str
+    name: str
+    number: int
+
+
+@dataclass
+class Placement:
+    axis: str
+    start: End
+    end: End
+
+
+@dataclass
+class Panel:
+    axes: dict = field(default_factory=lambda: {"c": Axis(), "r": Axis()})
+    areas: dict = field(default_factory=dict)
+    placements: list = field(default_factory=list)
+    order: int = 0
+
+
+class Fields:
+    """The fields of one line, read one by one; `faults` gathers what is wrong with them."""
+
+    def __init__(self, fields):
+        self.fields = fields
+        self.at = 1
+        self.faults = set()
+
+    def next(self):
+        self.at += 1
+        return self.fields[self.at - 1]
+
+    def word(self, words):
+        """One of the words, else unread."""
+        text = self.next().decode("latin-1")
+        if text not in words:
+            self.faults.add(UNREAD)
+        return text
+
+    def exactly(self, text):
+        """An unused field."""
+        if self.next() != text:
+            self.faults.add(UNREAD)
+
+    def name(self):
+        text = self.next()
+        if not good_name(text):
+            self.faults.add(NAME)
+        return text.decode("latin-1")
+
+    def whole(self, low, high):
+        return self.whole_number(self.next(), low, high)
+
+    def whole_number(self, text, low, high):
+        if not re.fullmatch(rb"0|-?[1-9][0-9]*", text):
+            self.faults.add(UNREAD)
+            return 0
+        # No range here has a number of more than six characters.
+        number = int(text) if len(text) <= 6 else None
+        if number is None or not low <= number <= high:
+            self.faults.add(COUNT)
+            return 0
+        return number
+
+    def size(self, kind):
+        """Eight lower-case hexadecimal digits, the value within the range of its kind."""
+        text = self.next()
+        if not re.fullmatch(rb"[0-9a-f]{8}", text):
+            self.faults.add(UNREAD)
+            return Size(kind, 0)
+        bits = int(text, 16)
+        largest = LARGEST_OF_KIND.get(kind, LARGEST_LENGTH)
+        # A comparison with a NaN is false; minus zero has its own bits.
+        if bits == 0x80000000 or not 0.0 <= binary32.from_bits(bits) <= largest:
+            self.faults.add(VALUE)
+        return Size(kind, bits)
+
+    def sizing(self, kinds):
+        return self.size(self.word(kinds))
+
+    def track(self):
+        return Track(self.sizing(MINIMUM_KINDS), self.sizing(tuple(LARGEST_OF_KIND)))
+
+    def end(self):
+        """One end of a placement: kind, name, number."""
+        kind = self.word(("auto", "line", "named", "span", "nspan"))
+        name = "-"
+        if kind in ("named", "nspan"):
+            name = self.name()
+        else:
+            self.exactly(b"-")
+        if kind in ("line", "named"):
+            return End(kind, name, self.whole(*LINE_INDEXES))
+        if kind in ("span", "nspan"):
+            return End(kind, name, self.whole(*SPANS))
+        self.exactly(b"0")
+        return End(kind, name, 0)
+
+
+def good_name(text):
+    return 1 <= len(text) <= LONGEST_NAME and all(33 <= code <= 126 for code in text)
+
+
+# Each record: how many fields, and a function that reads the fields, adds the faults and answers
+# what to do where there are none.
+
+def read_axis(panel, fields):
+    axis = panel.axes.get(fields.word(("c", "r")))
+    text = fields.next()
+    inner = None
+    if text != b"-":
+        fields.at -= 1
+        inner = fields.size("len").value()
+    rule = fields.word(("max", "min"))
+    gap = fields.sizing(("len", "pct"))
+    if axis and axis.given:
+        fields.faults.add(TWICE)
+
+    def do():
+        axis.inner, axis.rule, axis.gap, axis.given = inner, rule, gap, True
+    return do
+
+
+def read_area(panel, fields):
+    name = fields.name()
+    row_start, row_end, column_start, column_end = [fields.whole(*EDGES) for _ in range(4)]
+    if row_start >= row_end or column_start >= column_end:
+        fields.faults.add(AREA)
+    if name in panel.areas:
+        fields.faults.add(TWICE)
+    if len(panel.areas) >= MOST["area"]:
+        fields.faults.add(CROWDED)
+
+    def do():
+        panel.areas[name] = Area(row_start, row_end, column_start, column_end)
+    return do
+
+
+def read_name(panel, fields):
+    axis = panel.axes.get(fields.word(("c", "r")))
+    name = fields.name()
+
+    def do():
+        sets = axis.components[-1].sets if axis.open else axis.sets
+        sets[-1].append(name)
+        axis.name_bytes += len(name)
+    return do
+
+
+def read_track(panel, fields):
+    axis = panel.axes.get(fields.word(("c", "r")))
+    track = fields.track()
+    if axis and axis.open:
+        if len(axis.components[-1].tracks) >= MOST["track"]:
+            fields.faults.add(CROWDED)
+    elif axis and len(axis.components) >= MOST["component"]:
+        fields.faults.add(CROWDED)
+
+    def do():
+        if axis.open:
+            axis.components[-1].tracks.append(track)
+            axis.components[-1].sets.append([])
+        else:
+            axis.components.append(Component(None, [track], []))
+            axis.sets.append([])
+    return do
+
+
+def read_repeat(panel, fields):
+    axis = panel.axes.get(fields.word(("c", "r")))
+    text = fields.next()
+    count = text.decode("latin-1")
+    if count not in ("fill", "fit"):
+        count = fields.whole_number(text, *REPEAT_COUNTS)
+    if axis and axis.open:
+        fields.faults.add(UNREAD)
+    if axis and len(axis.components) >= MOST["component"]:
+        fields.faults.add(CROWDED)
+
+    def do():
+        axis.components.append(Component(count, [], [[]]))
+        axis.sets.append([])
+        axis.open = True
+    return do
+
+
+def read_end(panel, fields):
+    axis = panel.axes.get(fields.word(("c", "r")))
+    if axis and not axis.open:
+        fields.faults.add(UNREAD)
+
+    def do():
+        axis.open = False
+    return do
+
+
+def read_spare(panel, fields):
+    axis = panel.axes.get(fields.word(("c", "r")))
+    track = fields.track()
+    if axis and len(axis.spares) >= MOST["spare"]:
+        fields.faults.add(CROWDED)
+    return lambda: axis.spares.append(track)
+
+
+def read_extra(panel, fields):
+    axis = panel.axes.get(fields.word(("c", "r")))
+    negative = fields.whole(*IMPLICIT_COUNTS)
+    positive = fields.whole(*IMPLICIT_COUNTS)
+
+    def do():
+        axis.negative, axis.positive = negative, positive
+    return do
+
+
+def read_item(panel, fields):
+    axis = panel.axes.get(fields.word(("c", "r")))
+    index = fields.whole(*ITEMS)
+    return lambda: axis.items.add(index)
+
+
+def read_place(panel, fields):
+    axis = fields.word(("c", "r"))
+    start = fields.end()
+    end = fields.end()
+    if len(panel.placements) >= MOST["placement"]:
+        fields.faults.add(CROWDED)
+    return lambda: panel.placements.append(Placement(axis, start, end))
+
+
+RECORDS = {
+    "axis": (6, read_axis), "area": (6, read_area), "name": (3, read_name), "track": (6, read_track),
+    "repeat": (3, read_repeat), "end": (2, read_end), "spare": (6, read_spare), "extra": (4, read_extra),
+    "item": (3, read_item), "place": (8, read_place),
+}
+
+
+def read_line(panel, text):
+    """Do what the line says and answer 0, or do nothing and answer the lowest number of its faults."""
+    fields = Fields(text.split(b"\t"))
+    word = fields.fields[0].decode("latin-1")
+    if word not in RECORDS:
+        return UNREAD
+    count, read = RECORDS[word]
+    if len(fields.fields) != count:
+        return UNREAD
+    do = read(panel, fields)
+    order = KIND_ORDER.get(word, THE_REST)
+    if order < panel.order:
+        fields.faults.add(LATE)
+    if fields.faults:
+        return min(fields.faults)
+    panel.order = order
+    do()
+    return 0
+
+
+def read_lines(sheet):
+    """The panel that the lines say, and the number of the line after the last."""
+    if len(sheet) > LONGEST_SHEET:
+        raise Refused(UNREAD, 0)
+    panel = Panel()
+    lines = sheet.split(b"\n")
+    for number, text in enumerate(lines[:-1], start=1):
+        fault = read_line(panel, text)
+        if fault:
+            raise Refused(fault, number)
+    if lines[-1]:
+        raise Refused(UNREAD, len(lines))
+    if any(axis.open for axis in panel.axes.values()):
+        raise Refused(UNREAD, len(lines))
+    return panel, len(lines)

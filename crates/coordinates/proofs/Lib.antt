@@ -1,0 +1,3 @@
+-- Laws of layer 1.
+pub mod Integers
+pub mod Lines
