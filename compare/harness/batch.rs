@@ -1,5 +1,5 @@
 //! The program: one sheet on standard input, or a batch of sheets with direct entries.
-use crate::compute::grid::panel::{answer, Entry, Wanted};
+use crate::compute::grid::panel::{answer, conversions, Entry, Wanted};
 use crate::geometry::AbsoluteAxis;
 use std::io::{BufRead, Read, Write};
 use std::panic::{catch_unwind, AssertUnwindSafe};
@@ -21,14 +21,14 @@ fn entry(line: &str) -> Entry {
     (axis, number, fields.next().unwrap().to_string())
 }
 
-/// The number after a word on a header line, `None` at the end of input.
-fn header(input: &mut impl BufRead, word: &str) -> Option<usize> {
+/// The word and the number of a header line, `None` at the end of input.
+fn header(input: &mut impl BufRead) -> Option<(String, usize)> {
     let mut line = String::new();
     if input.read_line(&mut line).unwrap() == 0 {
         return None;
     }
-    let rest = line.strip_prefix(word).expect("another header was due");
-    Some(rest.trim().parse().expect("a header ends in a number"))
+    let (word, number) = line.trim_end().split_once(' ').expect("a header is a word and a number");
+    Some((word.to_string(), number.parse().expect("a header ends in a number")))
 }
 
 fn read_entries(input: &mut impl BufRead, count: usize) -> Vec<Entry> {
@@ -36,15 +36,24 @@ fn read_entries(input: &mut impl BufRead, count: usize) -> Vec<Entry> {
     lines.map(|line| entry(&line.unwrap())).collect()
 }
 
-/// Blocks `sheet BYTES`, the sheet, `enter COUNT`, the entries; for each an `answer BYTES` and the answer.
+/// The rest of a block `sheet BYTES`: the sheet, `enter COUNT` and the entries.
+fn sheet_block(input: &mut impl BufRead, bytes: usize) -> String {
+    let mut sheet = vec![0; bytes];
+    input.read_exact(&mut sheet).unwrap();
+    let (_, count) = header(input).expect("the entries are due");
+    let entries = read_entries(input, count);
+    let sheet = String::from_utf8(sheet).unwrap();
+    answer_or_panic(&sheet, &entries, Wanted { names: true, counts: true })
+}
+
+/// For each block `sheet ..` or `lines EXPLICIT` an `answer BYTES` and the answer.
 fn run_batch(mut input: impl BufRead, mut output: impl Write) {
-    while let Some(bytes) = header(&mut input, "sheet ") {
-        let mut sheet = vec![0; bytes];
-        input.read_exact(&mut sheet).unwrap();
-        let count = header(&mut input, "enter ").expect("the entries are due");
-        let entries = read_entries(&mut input, count);
-        let sheet = String::from_utf8(sheet).unwrap();
-        let text = answer_or_panic(&sheet, &entries, Wanted { names: true, counts: true });
+    while let Some((word, number)) = header(&mut input) {
+        let text = match word.as_str() {
+            "sheet" => sheet_block(&mut input, number),
+            "lines" => conversions(number as u16),
+            _ => panic!("no such block"),
+        };
         write!(output, "answer {}\n{}", text.len(), text).unwrap();
         output.flush().unwrap();
     }

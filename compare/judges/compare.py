@@ -1,5 +1,6 @@
 """Holds the judges against each other on one sheet with its entry calls."""
 import os
+import re
 import subprocess
 
 import css
@@ -22,11 +23,19 @@ class Rust:
         """The answer as lines; the entries are those that the table accepts."""
         rows = "".join(f"{letter}\t{line}\t{name}\n" for letter, line, name in entries).encode()
         self.process.stdin.write(b"sheet %d\n%senter %d\n%s" % (len(sheet), sheet, len(entries), rows))
+        return self.read_answer()
+
+    def read_answer(self):
         self.process.stdin.flush()
         header = self.process.stdout.readline().split()
         if not header:
             raise CannotCompare("no comparison: the harness ended")
         return self.process.stdout.read(int(header[1])).decode().splitlines()
+
+    def lines(self, explicit):
+        """Every grid line as an origin-zero line, and every origin-zero line back, as lines of text."""
+        self.process.stdin.write(b"lines %d\n" % explicit)
+        return self.read_answer()
 
     def close(self):
         self.process.stdin.close()
@@ -55,6 +64,13 @@ def first_difference(name, left, right):
         if here[0] != here[1]:
             return f"{name}: model {here[0]!r}, other {here[1]!r}"
     return None
+
+
+def compare_lines(rust, explicit):
+    """Layer 1's conversions of every line; line 0, on which the Rust panics, is refused here."""
+    own = [f"to\t{line}\t{rules.origin_zero_line(line, explicit) if line else 'panic'}" for line in range(-32768, 32768)]
+    own += [f"back\t{line}\t{rules.grid_line(line, explicit)}" for line in range(-10000, 10001)]
+    return first_difference(f"Rust: lines with {explicit} tracks", own, rust.lines(explicit))
 
 
 def counts_lines(state):
@@ -189,11 +205,82 @@ def compare(sheet, calls, rust, program=None, expected=None):
     return result
 
 
+def recounted(sheet, calls, counts):
+    """The numbers of entry calls, counted anew from the sheet's text and the Rust's entry counts."""
+    used = {letter: sum(len(line.split(b"\t")[2]) for line in sheet.split(b"\n") if line.startswith(start))
+            for letter, start in (("c", b"name\tc"), ("r", b"name\tr"))}
+    numbers = []
+    for letter, line, name in calls:
+        if re.fullmatch(rb"[!-~]{1,32}", name) is None:
+            numbers.append(2)
+        elif line < 1 or line > 20000:
+            numbers.append(4)
+        elif counts[letter] == 4096 or used[letter] + len(name) > 32768:
+            numbers.append(8)
+        else:
+            numbers.append(0)
+            used[letter] += len(name)
+            counts[letter] += 1
+    return numbers
+
+
+def calls_difference(answer, sheet, lines):
+    """The model's numbers of the calls against the recount."""
+    if not answer.calls:
+        return None
+    accepted = [letter for letter, _, _ in answer.state.accepted]
+    counts = {line.split("\t")[1]: int(line.split("\t")[2]) for line in lines[-2:]}
+    before = {letter: counts[letter] - accepted.count(letter) for letter in counts}
+    again = recounted(sheet, answer.calls, before)
+    return first_difference("calls", list(map(str, answer.numbers)), list(map(str, again)))
+
+
 def compare_accepted(answer, rust, sheet):
     state = answer.state
     own = model.sheet_lines(state)
     full = own + model.name_lines(state) + counts_lines(state)
-    differences = [first_difference("Rust", full, rust.ask(sheet, state.accepted))]
+    lines = rust.ask(sheet, state.accepted)
+    differences = [first_difference("Rust", full, lines)]
+    if not differences[0]:
+        differences.append(calls_difference(answer, sheet, lines))
     css_found, demanded = css_differences(state, own)
     kind = "accepted, third demand's conditions hold" if demanded else "accepted"
     return Comparison(kind, differences + css_found)
+
+
+def without_rows(sheet, calls):
+    """The sheet without row names and row template, the calls without row entries."""
+    dropped = (b"name\tr", b"track\tr", b"repeat\tr", b"end\tr")
+    lines = [line for line in sheet.split(b"\n") if not line.startswith(dropped)]
+    return b"\n".join(lines), [call for call in calls if call[0] == "c"]
+
+
+def column_answers(answer):
+    """Every answer of a sheet and its calls that is about columns."""
+    own = model.sheet_lines(answer.state)
+    rows = next(place for place, line in enumerate(own) if line.startswith("size\tr"))
+    numbers = [number for call, number in zip(answer.calls, answer.numbers) if call[0] == "c"]
+    named = own[rows:] + model.name_lines(answer.state)
+    return [f"call {number}" for number in numbers] + own[:rows] + \
+        [line for line in named if line.startswith(("place\tc", "names\tc"))]
+
+
+def columns_alone(sheet, calls):
+    """Row names and row template reach no column answer."""
+    answer = model.Answer(sheet, calls)
+    if answer.refused:
+        return None
+    other = model.Answer(*without_rows(sheet, calls))
+    if other.refused:
+        return f"columns alone: refused {other.refused.number} without the rows"
+    return first_difference("columns alone", column_answers(answer), column_answers(other))
+
+
+def any_order(sheet, calls):
+    """Under the third demand's conditions the order of entries reaches no placement."""
+    answer = model.Answer(sheet, calls)
+    if answer.refused or demand_lines(answer.state) is None:
+        return None
+    entries = [(letter, line, name.encode()) for letter, line, name in answer.state.accepted]
+    other = model.Answer(sheet, entries[::-1])
+    return first_difference("any order", model.placement_lines(answer.state), model.placement_lines(other.state))

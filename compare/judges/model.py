@@ -106,6 +106,7 @@ class Answer:
         self.refused = None
         self.state = None
         self.numbers = []
+        self.calls = calls
         try:
             self.state = read_sheet(sheet)
         except reader.Refused as refused:

@@ -11,6 +11,9 @@ use mir.Syntax.{w16, w32}
 use mir.Val.{SFits, toZ, ofZ}
 use mir.Facts.{toZ-ofZ, toZ-pos}
 use Rattle.coordinates.specs.Lines.{held}
+use Rattle.coordinates.specs.Signed.{sixteenBits, integerOf, Split}
+use Rattle.coordinates.specs.declared.signed.Signed.{Signed}
+use Rattle.coordinates.specs.declared.signed.Signed.the-variants.{NonNegative, Negative}
 
 -- a difference of counts, by which is larger
 pub sub-le : (a k : ℕ) → k ≤ a → subℕ a k ≡ pos (a - k)
@@ -49,6 +52,10 @@ pub undo : (n : ℕ) → negsuc 0 -ℤ negsuc n ≡ pos n
 undo n = sub-le (suc n) 1 (omega arith) ∙ ap pos (omega arith)
 
 -- what a line is held to
+pub sixteen-held : (z : ℤ) → sixteenBits (held z) ≡ held z
+sixteen-held (pos n) = ap pos (omega arith)
+sixteen-held (negsuc n) = ap negsuc (omega arith)
+
 pub held-at : (n : ℕ) → n ≤ 10000 → pos n ≡ held (pos n)
 held-at n h = ap pos (omega arith)
 
@@ -68,14 +75,26 @@ fits-pos n h = record { sfits = h }
 pub fits-neg : (n : ℕ) → n < 32768 → SFits w16 (negsuc n)
 fits-neg n h = record { sfits = h }
 
-pub less-count : (n : ℕ) → n < 32768 → negsuc 0 -ℤ toZ w16 n ≡ negsuc n
-less-count n h = rw (toZ-pos w16 {n = n} (omega arith)) (less n)
+pub less-fits : (n : ℕ) → n < 32768 → SFits w16 (negsuc 0 -ℤ pos n)
+less-fits n h = rw (less n) (fits-neg n h)
 
-pub less-fits : (n : ℕ) → n < 32768 → SFits w16 (negsuc 0 -ℤ toZ w16 n)
-less-fits n h = rw (less-count n h) (fits-neg n h)
+pub less-back : (n : ℕ) → n < 32768 → toZ w16 (ofZ w16 (negsuc 0 -ℤ pos n)) ≡ negsuc n
+less-back n h = toZ-ofZ (less-fits n h) ∙ less n
 
-pub less-back : (n : ℕ) → n < 32768 → toZ w16 (ofZ w16 (negsuc 0 -ℤ toZ w16 n)) ≡ negsuc n
-less-back n h = toZ-ofZ (less-fits n h) ∙ less-count n h
+pub held-fits : (z : ℤ) → SFits w16 (held z)
+held-fits (pos n) = fits-pos (min n 10000) (omega arith)
+held-fits (negsuc n) = fits-neg (min n 9999) (omega arith)
+
+pub sixteen-fits : (z : ℤ) → SFits w16 (sixteenBits z)
+sixteen-fits (pos n) = fits-pos (min n 32767) (omega arith)
+sixteen-fits (negsuc n) = fits-neg (min n 32767) (omega arith)
+
+pub widened : (z : ℤ) → SFits w16 z → SFits w32 z
+widened (pos n) f = record { sfits = omega (arith, f .sfits) }
+widened (negsuc n) f = record { sfits = omega (arith, f .sfits) }
+
+pub widened-back : (z : ℤ) → SFits w16 z → toZ w32 (ofZ w32 (toZ w16 (ofZ w16 z))) ≡ z
+widened-back z f = rw (toZ-ofZ {w = w16} {z = z} f) (toZ-ofZ (widened z f))
 
 -- a number of 32 bits whose sign was tested
 pub fits-pos-32 : (n : ℕ) → n < 2147483648 → SFits w32 (pos n)
@@ -95,3 +114,8 @@ module _ (z : ℤ) (fits : SFits w32 z) where
       go : (z : ℤ) → SFits w32 z → leZ (pos 0) z ≡ false → (n : ℕ) × (z ≡ negsuc n) × (n < 2147483648)
       go (pos n) f t = let e : _≡_ {A = ℕ} 0 1 = cc (leb·zero n) in absurd (omega arith)
       go (negsuc n) f t = (n, refl, f .sfits)
+
+-- a number of 16 bits, split
+pub split-small : (r : Signed) (z : ℤ) → SFits w16 z → integerOf r ≡ z → Split z r
+split-small (NonNegative n) z f e = record { is = e; small = (rw (← e) at f) .sfits }
+split-small (Negative k) z f e = record { is = e; small = (rw (← e) at f) .sfits }

@@ -1,3 +1,4 @@
 -- Laws of layer 1.
 pub mod Integers
 pub mod Lines
+pub mod Conversions

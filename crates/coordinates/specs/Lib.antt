@@ -2,3 +2,4 @@
 pub mod Refusals
 pub mod Lines
 pub mod Signed
+pub mod Answers

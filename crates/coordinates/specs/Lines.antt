@@ -2,6 +2,8 @@
 -- at the end edge, and has no line 0; an origin-zero line has 0 at the first explicit line. n is the number of explicit tracks.
 use mathlib.Core.Path.{_≡_}
 use Prim.Native.Nat.{ℕ, zero, suc, _+_, _≤_, min}
+use mathlib.Core.Bool.{Bool}
+use lib.Dec.{ltb}
 use lib.IntN.{ℤ, pos, negsuc, _+ℤ_, _-ℤ_}
 
 -- held within -10,000..10,000 (`negsuc l` is -(l + 1))
@@ -47,3 +49,8 @@ SameLine n (pos (suc g)) (negsuc h) = g + h ≡ n
 SameLine n (negsuc g) (pos zero) = ⊥
 SameLine n (negsuc g) (pos (suc h)) = h + g ≡ n
 SameLine n (negsuc g) (negsuc h) = g ≡ h
+
+-- outside -10,000..10,000
+abbrev pub outside : ℤ → Bool
+outside (pos l) = ltb 10000 l
+outside (negsuc l) = ltb 9999 l

@@ -1,5 +1,6 @@
 -- A number that is split by its sign.
-use Prim.Native.Nat.{ℕ, _<_}
+use mathlib.Core.Path.{_≡_}
+use Prim.Native.Nat.{ℕ, _<_, min}
 use lib.IntN.{ℤ, pos, negsuc}
 use Rattle.coordinates.specs.declared.signed.Signed.{Signed}
 use Rattle.coordinates.specs.declared.signed.Signed.the-variants.{NonNegative, Negative}
@@ -9,7 +10,16 @@ abbrev pub integerOf : Signed → ℤ
 integerOf (NonNegative n) = pos n
 integerOf (Negative k) = negsuc k
 
--- one of 16 bits
+-- the nearest number of 16 bits
+abbrev pub sixteenBits : ℤ → ℤ
+sixteenBits (pos n) = pos (min n 32767)
+sixteenBits (negsuc k) = negsuc (min k 32767)
+
+-- a number of 16 bits by its sign
 abbrev pub Small : Signed → Type 0
 Small (NonNegative n) = n < 32768
 Small (Negative k) = k < 32768
+
+pub record Split (value : ℤ) (r : Signed) : Type 0 where
+  pub is : integerOf r ≡ value
+  pub small : Small r

@@ -1,9 +1,9 @@
 // Whole numbers by their sign, so that all arithmetic is on unsigned counts.
 ghost use mathlib.Core.Path.{_≡_};
-ghost use Prim.Native.Nat.{_≤_, _<_};
+ghost use Prim.Native.Nat.{_<_, min};
 ghost use lib.IntN.{pos, _+ℤ_, _-ℤ_};
 ghost use Rattle.coordinates.specs.Lines.{held};
-ghost use Rattle.coordinates.specs.Signed.{integerOf, Small};
+ghost use Rattle.coordinates.specs.Signed.{integerOf, sixteenBits, Split};
 
 // `NonNegative(n)` is n, and `Negative(k)` is -(k + 1).
 pub enum Signed {
@@ -22,23 +22,44 @@ pub fn split(value: i32) -> Signed
     Signed::Negative(before as u32)
 }
 
-// The number of 16 bits that a sign and a count stand for.
-fn joined(value: Signed) -> i16
-    requires { ⌜ Small value ⌝ }
-    ensures { λ r. ⌜ r ≡ integerOf value ⌝ }
+// A number of 16 bits by its sign.
+pub fn split_16_bits(value: i16) -> Signed
+    ensures { λ r. ⌜ Split value r ⌝ }
+{
+    split(value as i32)
+}
+
+// A count as a number of 16 bits.
+fn count_of_16_bits(n: u32) -> i16
+    requires { ⌜ n < 32768 ⌝ }
+    ensures { λ r. ⌜ r ≡ pos n ⌝ }
+{
+    n as i16
+}
+
+// The smaller of a count and the largest number of 16 bits.
+fn at_most_16_bits(n: u32) -> u32
+    ensures { λ r. ⌜ r ≡ min n 32767 ⌝ }
+{
+    if n < 32767 { n } else { 32767 }
+}
+
+// The number of 16 bits, or the nearest there is.
+pub fn joined(value: Signed) -> i16
+    ensures { λ r. ⌜ r ≡ sixteenBits (integerOf value) ⌝ }
 {
     match value {
-        Signed::NonNegative(n) => n as i16,
-        Signed::Negative(k) => -1 - (k as i16),
+        Signed::NonNegative(n) => count_of_16_bits(at_most_16_bits(n)),
+        Signed::Negative(k) => -1 - count_of_16_bits(at_most_16_bits(k)),
     }
 }
 
 // n more.
-fn plus(value: Signed, n: u32) -> Signed
-    requires { ⌜ (n ≤ 100000) × Small value ⌝ }
-    ensures { λ r. ⌜ integerOf r ≡ integerOf value +ℤ pos n ⌝ }
+pub fn plus(value: i16, n: u16) -> Signed
+    ensures { λ r. ⌜ integerOf r ≡ value +ℤ pos n ⌝ }
 {
-    match value {
+    let n = n as u32;
+    match split_16_bits(value) {
         Signed::NonNegative(m) => Signed::NonNegative(m + n),
         Signed::Negative(k) => {
             if n <= k {
@@ -50,11 +71,11 @@ fn plus(value: Signed, n: u32) -> Signed
 }
 
 // n less.
-fn minus(value: Signed, n: u32) -> Signed
-    requires { ⌜ (n ≤ 100000) × Small value ⌝ }
-    ensures { λ r. ⌜ integerOf r ≡ integerOf value -ℤ pos n ⌝ }
+pub fn minus(value: i16, n: u16) -> Signed
+    ensures { λ r. ⌜ integerOf r ≡ value -ℤ pos n ⌝ }
 {
-    match value {
+    let n = n as u32;
+    match split_16_bits(value) {
         Signed::NonNegative(m) => {
             if n <= m {
                 return Signed::NonNegative(m - n);
@@ -66,7 +87,7 @@ fn minus(value: Signed, n: u32) -> Signed
 }
 
 // Held within -10,000..10,000.
-fn hold(value: Signed) -> Signed
+pub fn hold(value: Signed) -> Signed
     ensures { λ r. ⌜ integerOf r ≡ held (integerOf value) ⌝ }
 {
     match value {

@@ -1,6 +1,6 @@
 //! Drives the unchanged functions on one sheet and prints document 01's output.
 use super::explicit_grid::{compute_explicit_grid_size_in_axis, initialize_grid_tracks, AutoRepeatStrategy};
-use super::types::{GridTrack, GridTrackKind, NamedLineResolver, TrackCounts};
+use super::types::{GridLine, GridTrack, GridTrackKind, NamedLineResolver, OriginZeroLine, TrackCounts};
 use crate::geometry::{AbsoluteAxis, Line};
 use crate::sheet::{self, Input};
 use crate::style::{CompactLength, GridAreaAxis, NonNamedGridPlacement};
@@ -140,6 +140,23 @@ pub(crate) fn answer(text: &str, entries: &[Entry], wanted: Wanted) -> String {
         for axis in AXES {
             writeln!(out, "entries\t{}\t{}", letter(axis), resolver.entry_count(area_axis(axis))).unwrap();
         }
+    }
+    out
+}
+
+/// Every grid line as an origin-zero line (`panic` where the conversion panics), and every
+/// origin-zero line back.
+pub(crate) fn conversions(explicit: u16) -> String {
+    let mut out = String::new();
+    for line in i16::MIN..=i16::MAX {
+        match std::panic::catch_unwind(|| GridLine::from(line).into_origin_zero_line(explicit)) {
+            Ok(found) => writeln!(out, "to\t{line}\t{}", found.0),
+            Err(_) => writeln!(out, "to\t{line}\tpanic"),
+        }
+        .unwrap();
+    }
+    for line in -10_000..=10_000 {
+        writeln!(out, "back\t{line}\t{}", OriginZeroLine(line).into_grid_line(explicit).as_i16()).unwrap();
     }
     out
 }

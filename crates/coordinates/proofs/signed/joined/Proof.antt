@@ -1,49 +1,63 @@
+use mathlib.Core.Path.{_∙_, ap}
 use Prim.Native.Nat.{_<_}
-use mir.Syntax.{w16}
-use mir.Facts.{toZ-pos}
+use native.Mathlib.Omega.{arith}
+use lib.IntN.{pos, negsuc}
+use mir.Facts.{toZ-ofZ}
 use Rattle.coordinates.proofs.Integers.{fits-pos, less-fits, less-back}
 use borrow.Author.Needs.{needs}
 use Rattle.coordinates.proofs.signed.joined.Statement.{statement}
 use Rattle.coordinates.proofs.signed.joined.Tie as tie
 use Rattle.coordinates.proofs.signed.joined.Reads as reads
 use Rattle.coordinates.proofs.signed.joined.Lts as lts
+use Rattle.coordinates.proofs.signed.at_most_16_bits.Reads as at-most-16-bits-reads
+use Rattle.coordinates.proofs.signed.count_of_16_bits.Reads as count-of-16-bits-reads
 
--- src/signed.rt:31:29
+-- src/signed.rt:45:29
 enum-known-value : tie.Need-enum-known-value
 enum-known-value c = search needs
 
--- src/signed.rt:31:35
-cast-result : tie.Need-cast-result
-cast-result c = let h : c .before .value .given .0 .0 < 32768 = rw (c .before .value .given .1) at (c .before .before .before .pre) in fits-pos (c .before .value .given .0 .0) h
+-- src/signed.rt:45:52
+at-most-16-bits-requires : tie.Need-at-most-16-bits-requires
+at-most-16-bits-requires c κs = search needs
 
--- src/signed.rt:32:26
+-- src/signed.rt:45:35
+count-of-16-bits-requires : tie.Need-count-of-16-bits-requires
+count-of-16-bits-requires c κs = search needs
+
+-- src/signed.rt:46:26
 enum-known-value-2 : tie.Need-enum-known-value-2
 enum-known-value-2 c = search needs
 
--- src/signed.rt:32:38
-cast-result-2 : tie.Need-cast-result-2
-cast-result-2 c = let h : c .before .value2 .given .0 .0 < 32768 = rw (c .before .value2 .given .1) at (c .before .before .before .pre) in fits-pos (c .before .value2 .given .0 .0) h
+-- src/signed.rt:46:54
+at-most-16-bits-requires-2 : tie.Need-at-most-16-bits-requires-2
+at-most-16-bits-requires-2 c κs = search needs
 
--- src/signed.rt:32:32
+-- src/signed.rt:46:37
+count-of-16-bits-requires-2 : tie.Need-count-of-16-bits-requires-2
+count-of-16-bits-requires-2 c κs = search needs
+
+-- src/signed.rt:46:32
 sub-result : tie.Need-sub-result
-sub-result c = let h : c .before .value2 .given .0 .0 < 32768 = rw (c .before .value2 .given .1) at (c .before .before .before .pre) in less-fits (c .before .value2 .given .0 .0) h
+sub-result c = let k = c .before .at-most-16-bits2 .result in let h : k < 32768 = omega (arith, c .before .at-most-16-bits2 .ensures) in rw (c .count-of-16-bits2 .ensures, toZ-ofZ (fits-pos k h)) (less-fits k h)
 
--- src/signed.rt:26:1
+-- src/signed.rt:41:1
 returns : tie.Need-returns
-returns c = let h : c .before .value .given .0 .0 < 32768 = rw (c .before .value .given .1) at (c .before .before .before .pre) in rw (c .before .value .given .1) (toZ-pos w16 h)
+returns c = let n = c .before .at-most-16-bits .result in let h : n < 32768 = omega (arith, c .before .at-most-16-bits .ensures) in rw (c .count-of-16-bits .ensures, toZ-ofZ (fits-pos n h), c .before .before .before .value .given .1) (ap pos (c .before .at-most-16-bits .ensures))
 
--- src/signed.rt:26:1
+-- src/signed.rt:41:1
 returns-2 : tie.Need-returns-2
-returns-2 c = let h : c .before .value2 .given .0 .0 < 32768 = rw (c .before .value2 .given .1) at (c .before .before .before .pre) in rw (c .before .value2 .given .1) (less-back (c .before .value2 .given .0 .0) h)
+returns-2 c = let k = c .before .at-most-16-bits2 .result in let h : k < 32768 = omega (arith, c .before .at-most-16-bits2 .ensures) in rw (c .count-of-16-bits2 .ensures, toZ-ofZ (fits-pos k h), less-back k h, c .before .before .before .value2 .given .1) (ap negsuc (c .before .at-most-16-bits2 .ensures))
 
 pub joined-spec : {M : Type 1} → statement M
 joined-spec =
     tie.close
     (tie.spec
     enum-known-value
-    cast-result
+    at-most-16-bits-requires
+    count-of-16-bits-requires
     enum-known-value-2
-    cast-result-2
+    at-most-16-bits-requires-2
+    count-of-16-bits-requires-2
     sub-result
     returns
     returns-2)

@@ -1,53 +1,62 @@
-use Prim.Native.Nat.{_<_}
+use mathlib.Core.Path.{_≡_, _∙_, refl}
 use native.Mathlib.Omega.{arith}
+use mir.Facts.{toZ-ofZ}
+use Rattle.coordinates.specs.Signed.{integerOf, Small}
+use Rattle.coordinates.specs.declared.signed.Signed.the-variants.{NonNegative, Negative}
 use Rattle.coordinates.proofs.Integers.{plus-before, plus-past}
 use borrow.Author.Needs.{needs}
 use Rattle.coordinates.proofs.signed.plus.Statement.{statement}
 use Rattle.coordinates.proofs.signed.plus.Tie as tie
 use Rattle.coordinates.proofs.signed.plus.Reads as reads
 use Rattle.coordinates.proofs.signed.plus.Lts as lts
+use Rattle.coordinates.proofs.signed.split_16_bits.Reads as split-16-bits-reads
 
--- src/signed.rt:42:29
-enum-known-value : tie.Need-enum-known-value
-enum-known-value c = search needs
+-- src/signed.rt:62:11
+split-16-bits-requires : tie.Need-split-16-bits-requires
+split-16-bits-requires c κs = search needs
 
--- src/signed.rt:42:55
-add-t6 : tie.Need-add-t6
-add-t6 c = let h : c .before .value .given .0 .0 < 32768 = rw (c .before .value .given .1) at (c .before .before .before .pre .1) in omega arith
+-- src/signed.rt:63:29
+enum-known-m : tie.Need-enum-known-m
+enum-known-m c = search needs
 
--- src/signed.rt:43:26
-enum-known-value-2 : tie.Need-enum-known-value-2
-enum-known-value-2 c = search needs
+-- src/signed.rt:63:55
+add-t8 : tie.Need-add-t8
+add-t8 c = let h : Small (NonNegative (c .before .m .given .0 .0)) = rw (c .before .m .given .1) at (c .before .before .before .split-16-bits .ensures .small) in omega arith
 
--- src/signed.rt:45:17
+-- src/signed.rt:64:26
+enum-known-k : tie.Need-enum-known-k
+enum-known-k c = search needs
+
+-- src/signed.rt:66:17
 returns : tie.Need-returns
-returns c = rw (c .before .before .value2 .given .1) (plus-before (c .before .before .value2 .given .0 .0) (c .before .before .before .before .args .n) (c .if1 .taken))
+returns c = let e : integerOf (Negative (c .before .before .k .given .0 .0)) ≡ c .before .before .before .before .before .args .value = (rw (c .before .before .k .given .1) at (c .before .before .before .before .split-16-bits .ensures .is)) ∙ toZ-ofZ (c .before .before .before .before .before .fits .value) in rw (← e) (plus-before (c .before .before .k .given .0 .0) (c .before .before .before .before .before .args .n) (c .if1 .taken))
 
--- src/signed.rt:47:33
-sub-t9 : tie.Need-sub-t9
-sub-t9 c = search needs
+-- src/signed.rt:68:33
+sub-t11 : tie.Need-sub-t11
+sub-t11 c = search needs
 
--- src/signed.rt:47:33
-sub-t10 : tie.Need-sub-t10
-sub-t10 c = search needs
+-- src/signed.rt:68:33
+sub-t12 : tie.Need-sub-t12
+sub-t12 c = search needs
 
--- src/signed.rt:37:1
+-- src/signed.rt:58:1
 returns-2 : tie.Need-returns-2
-returns-2 c = rw (c .before .value .given .1)
+returns-2 c = let e : integerOf (NonNegative (c .before .m .given .0 .0)) ≡ c .before .before .before .before .args .value = (rw (c .before .m .given .1) at (c .before .before .before .split-16-bits .ensures .is)) ∙ toZ-ofZ (c .before .before .before .before .fits .value) in rw (← e) refl
 
--- src/signed.rt:37:1
+-- src/signed.rt:58:1
 returns-3 : tie.Need-returns-3
-returns-3 c = rw (c .before .before .value2 .given .1) (plus-past (c .before .before .value2 .given .0 .0) (c .before .before .before .before .args .n) (c .if1 .left))
+returns-3 c = let e : integerOf (Negative (c .before .before .k .given .0 .0)) ≡ c .before .before .before .before .before .args .value = (rw (c .before .before .k .given .1) at (c .before .before .before .before .split-16-bits .ensures .is)) ∙ toZ-ofZ (c .before .before .before .before .before .fits .value) in rw (← e) (plus-past (c .before .before .k .given .0 .0) (c .before .before .before .before .before .args .n) (c .if1 .left))
 
 pub plus-spec : {M : Type 1} → statement M
 plus-spec =
     tie.close
     (tie.spec
-    enum-known-value
-    add-t6
-    enum-known-value-2
+    split-16-bits-requires
+    enum-known-m
+    add-t8
+    enum-known-k
     returns
-    sub-t9
-    sub-t10
+    sub-t11
+    sub-t12
     returns-2
     returns-3)

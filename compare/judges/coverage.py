@@ -1,0 +1,206 @@
+"""Which branches of the Rust functions the recorded lists reach, by a measuring copy of them.
+
+The measuring copy is no judge: it is the unchanged text with a counter put at the start of each
+branch. It is built beside the harness and used for nothing else."""
+import os
+import re
+import sys
+
+import build
+import model
+import reader
+import rules
+from compare import MOST_ENTRIES_ASKED, Rust
+
+# Files with every function measured, or (from, to): the functions between these lines of text.
+MEASURED = {
+    "compute/grid/explicit_grid.rs": None,
+    "compute/grid/types/named.rs": ("fn split_area_edge_name", "/// Move the row and column line-name maps"),
+    "compute/grid/types/coordinates.rs": ("pub(crate) fn into_origin_zero_line", "/// Converts a grid line in OriginZero"),
+    "style/grid.rs": ("fn definite_value", None),
+}
+BLOCK = re.compile(r"(\b(if|else|for|while)\b|=> \{|\| \{|^\)|\bfn\b).*\{$")
+MATCH_OR_LITERAL = re.compile(r"\bmatch\b.*\{$|\b[A-Z]\w*(::<\w+>)? \{$|^(impl|pub struct|struct|enum|trait|pub trait)\b")
+ARM = re.compile(r"^(\s*)(.*?) => ([^{].*),$")
+INLINE = re.compile(r"\bif (.+?) \{ (.+?) \} else \{ (.+?) \}")
+
+# Branches that no panel can reach, with the reason.
+UNREACHABLE = {
+    "let Some(template) = template else {": "`Style` always has a template",
+    "_ => unreachable!(),": "named lines are resolved before this match",
+    "_ if self.0.is_plain_calc()": "calc is left out by document 01",
+}
+
+MEASURE = """
+use std::cell::RefCell;
+
+thread_local! {
+    static SEEN: RefCell<(Vec<bool>, Vec<usize>)> = const { RefCell::new((Vec::new(), Vec::new())) };
+}
+
+pub(crate) fn reached(number: usize) {
+    SEEN.with(|seen| {
+        let (known, new) = &mut *seen.borrow_mut();
+        if known.len() <= number {
+            known.resize(number + 1, false);
+        }
+        if !known[number] {
+            known[number] = true;
+            new.push(number);
+        }
+    })
+}
+
+/// The answer with a last line of the branches that it reached first.
+pub(crate) fn with_new(text: String) -> String {
+    let new = SEEN.with(|seen| std::mem::take(&mut seen.borrow_mut().1));
+    let numbers: Vec<String> = new.iter().map(usize::to_string).collect();
+    text + "reached\\t" + &numbers.join("\\t") + "\\n"
+}
+"""
+
+
+class Measuring:
+    """Puts the counters in; `branches` lists (path, line number, text) by counter."""
+
+    def __init__(self):
+        self.branches = []
+
+    def counter(self, path, number, text):
+        self.branches.append((path, number, text.strip()))
+        return f"crate::measure::reached({len(self.branches) - 1});"
+
+    def line(self, path, number, text):
+        """One line with its counters."""
+        stripped = text.strip()
+        if stripped.startswith(("//", "#[")):
+            return text
+        if INLINE.search(text):
+            parts = INLINE.search(text)
+            counters = [self.counter(path, number, f"{way} {parts[1]}: {stripped}") for way in ("if", "unless")]
+            return INLINE.sub(lambda found: f"if {found[1]} {{ {counters[0]} {found[2]} }} else {{ {counters[1]} {found[3]} }}", text)
+        if BLOCK.search(stripped) and not MATCH_OR_LITERAL.search(stripped):
+            return text + " " + self.counter(path, number, text)
+        arm = ARM.match(text)
+        if arm and balanced(arm[3]):
+            return f"{arm[1]}{arm[2]} => {{ {self.counter(path, number, text)} {arm[3]} }},"
+        return text
+
+    def change(self, files):
+        """The files of the measuring copy."""
+        files = dict(files)
+        for path, bounds in MEASURED.items():
+            lines = files[path].decode().split("\n")
+            wanted = chosen_lines(lines, bounds)
+            files[path] = "\n".join(self.line(path, number, text) if number in wanted else text
+                                    for number, text in enumerate(lines, start=1)).encode()
+        files["measure.rs"] = MEASURE.encode()
+        files["main.rs"] = files["main.rs"].replace(b"mod batch;", b"mod batch;\nmod measure;")
+        files["batch.rs"] = files["batch.rs"].replace(b"        write!(output", b"        let text = crate::measure::with_new(text);\n        write!(output")
+        return files
+
+
+def balanced(text):
+    return all(text.count(left) == text.count(right) for left, right in ("()", "{}", "[]"))
+
+
+def chosen_lines(lines, bounds):
+    """The numbers of the lines inside the bounds; without an end, of each function that starts so."""
+    if bounds is None:
+        return set(range(1, len(lines) + 1))
+    start, end = bounds
+    if end:
+        first = next(number for number, text in enumerate(lines, start=1) if start in text)
+        last = next(number for number, text in enumerate(lines, start=1) if end in text)
+        return set(range(first, last))
+    wanted = set()
+    for first in [number for number, text in enumerate(lines, start=1) if start in text]:
+        last = next(number for number in range(first, len(lines)) if lines[number].rstrip() == "    }")
+        wanted |= set(range(first, last + 2))
+    return wanted
+
+
+def blocks(data):
+    """The (name, sheet, calls) of a recorded file."""
+    at = 0
+
+    def header():
+        nonlocal at
+        end = data.index(b"\n", at)
+        line, at = data[at:end], end + 1
+        return line.split(b" ", 1)
+
+    while at < len(data):
+        name = header()[1].decode()
+        size = int(header()[1])
+        sheet, at = data[at:at + size], at + size
+        calls = []
+        for _ in range(int(header()[1])):
+            end = data.index(b"\n", at)
+            letter, line, text = data[at:end].split(b"\t", 2)
+            calls.append((letter.decode(), int(line), text))
+            at = end + 1
+        at += int(header()[1])
+        yield name, sheet, calls
+
+
+def entries_asked(sheet, calls):
+    """The accepted entries of a sheet that the Rust can be asked, None for the others."""
+    answer = model.Answer(sheet, calls)
+    if not answer.refused:
+        return answer.state.accepted
+    panel = getattr(answer.refused, "panel", None)
+    if panel and max(rules.entry_count(axis) for axis in panel.axes.values()) <= MOST_ENTRIES_ASKED:
+        return []
+    return None
+
+
+def first_cases(rust):
+    """For each branch reached, the recorded case that reaches it first."""
+    found = {}
+    for file in ("cases.txt", "entries.txt", "accepted.txt", "large.txt", "refused.txt"):
+        data = build.read_bytes(os.path.join(build.COMPARE, "recorded", file))
+        for name, sheet, calls in blocks(data):
+            entries = entries_asked(sheet, calls)
+            if entries is not None:
+                take_new(found, rust.ask(sheet, entries)[-1], f"{file}: {name}")
+    take_new(found, rust.lines(3)[-1], "lines.txt")
+    return found
+
+
+def take_new(found, line, name):
+    for number in line.split("\t")[1:]:
+        if number:
+            found[int(number)] = name
+
+
+def reason(text):
+    return next((why for start, why in UNREACHABLE.items() if start in text), None)
+
+
+def main():
+    measuring = Measuring()
+    path = build.build(name="measure", change=measuring.change)
+    rust = Rust(path)
+    found = first_cases(rust)
+    rust.close()
+    missing = 0
+    print("| Branch | Text | First reached by |\n|---|---|---|")
+    for number, (file, line, text) in enumerate(measuring.branches):
+        by = found.get(number)
+        if by is None:
+            why = reason(text)
+            missing += why is None
+            by = f"unreachable: {why}" if why else "NOT REACHED"
+        text = text.replace("|", "\\|")
+        print(f"| {file}:{line} | `{text}` | {by} |")
+    print(f"\n{len(measuring.branches)} branches, {len(found)} reached, {missing} missed")
+    return 1 if missing else 0
+
+
+if __name__ == "__main__":
+    try:
+        sys.exit(main())
+    except build.CannotCompare as reason_text:
+        print(reason_text, file=sys.stderr)
+        sys.exit(2)

@@ -1,0 +1,397 @@
+"""Makes sheets and lists of entry calls, the same ones for the same seed and number."""
+import random
+
+import binary32
+import damage
+import ties
+
+BASES = ["a", "b", "x", "y", "-", "start", "a-", "A", "aa", "~", "!", "a-start-", "n" * 26, "m" * 32]
+ENDINGS = ["", "", "", "-start", "-end", "-start", "-end", "-start-start", "-start-end", "-end-start", "-end-end",
+           "-Start", "start", "-starts"]
+WHOLE = [0, 1, 2, 5, 10, 20, 50, 100, 100, 100, 150, 300, 1000, 65535]
+LENGTH_BITS = [0, 1, 2, 0x007fffff, 0x00800000, 0x3f800000, 0x3dcccccd, 0x477fff00, 0x477ffeff, 0x42c80000]
+FRACTIONS = [0.0, 0.25, 0.5, 1.0, 0.1, 0.333, 10.0, 9.999999, 1e-40]
+
+
+def bits(value):
+    return f"{binary32.to_bits(value):08x}"
+
+
+class Axis:
+    """What the maker chose for one axis, as lines; `inside` are those of its template."""
+
+    def __init__(self):
+        self.record = []
+        self.inside = []
+        self.loose = []
+
+
+class Maker:
+    def __init__(self, seed, number):
+        self.random = random.Random(seed * 1000003 + number)
+        self.names = self.pick_names()
+        self.whole = self.chance(0.6)
+        self.extreme = self.chance(0.15)
+
+    # Small choices.
+
+    def chance(self, share):
+        return self.random.random() < share
+
+    def pick(self, values):
+        return self.random.choice(values)
+
+    def below(self, high):
+        """A number below `high`, small ones more often."""
+        return min(self.random.randrange(high), self.random.randrange(high))
+
+    def pick_name(self):
+        return (self.pick(BASES) + self.pick(ENDINGS))[:32]
+
+    def pick_names(self):
+        """The few names of a sheet, some of them edges of others."""
+        names = [self.pick_name() for _ in range(self.random.randint(1, 4))]
+        if self.chance(0.6):
+            names.append((self.pick(names) + self.pick(["-start", "-end"]))[-32:])
+        return names
+
+    # Sizes.
+
+    def length(self):
+        if self.whole:
+            return bits(float(self.pick(WHOLE)))
+        if self.chance(0.3):
+            return f"{self.pick(LENGTH_BITS):08x}"
+        return bits(binary32.rounded(self.random.uniform(0, self.pick([1, 10, 200, 65535]))))
+
+    def fraction(self):
+        if self.whole or self.chance(0.5):
+            return bits(binary32.rounded(self.pick(FRACTIONS)))
+        return bits(binary32.rounded(self.random.uniform(0, self.pick([0.1, 1, 10]))))
+
+    def fixed_size(self):
+        return ("len\t" + self.length()) if self.chance(0.75) else ("pct\t" + self.fraction())
+
+    def keyword(self):
+        return self.pick(["auto", "min", "max"]) + "\t00000000"
+
+    def free_maximum(self):
+        """A maximum of no fixed kind."""
+        kind = self.pick(["fr", "fitl", "fitp", "keyword", "keyword"])
+        if kind == "keyword":
+            return self.keyword()
+        return kind + "\t" + (self.fraction() if kind == "fitp" else self.length())
+
+    def track(self, fixed):
+        """Sizes of a track; `fixed` asks for a fixed kind in it."""
+        way = self.random.randrange(4)
+        if way == 0:
+            return self.fixed_size() + "\t" + self.free_maximum()
+        if way == 1:
+            return self.keyword() + "\t" + self.fixed_size()
+        if not fixed and way == 2:
+            return self.keyword() + "\t" + self.free_maximum()
+        if self.chance(0.6):
+            size = self.fixed_size()
+            return size + "\t" + size
+        return self.fixed_size() + "\t" + self.fixed_size()
+
+    # Templates.
+
+    def name_lines(self, letter, share):
+        lines = []
+        while self.chance(share) and len(lines) < 4:
+            lines.append(f"name\t{letter}\t{self.pick(self.names)}")
+        return lines
+
+    def repeat_lines(self, letter, count, tracks, fixed, share):
+        lines = [f"repeat\t{letter}\t{count}"]
+        for _ in range(tracks):
+            lines += self.name_lines(letter, share)
+            lines.append(f"track\t{letter}\t{self.track(fixed)}")
+        return lines + self.name_lines(letter, share) + [f"end\t{letter}"]
+
+    def template(self, letter):
+        """The lines of a template, most of them valid."""
+        automatic = self.pick([0, 0, 1, 1, 1, 1, 2]) if self.chance(0.8) else 0
+        fixed = automatic > 0 and self.chance(0.85)
+        share = self.pick([0.0, 0.2, 0.4, 0.6])
+        kinds = [self.pick(["fill", "fit", "fit"]) for _ in range(automatic)]
+        kinds += [self.pick(["track", "track", "repeat"]) for _ in range(self.below(6))]
+        self.random.shuffle(kinds)
+        lines = []
+        for kind in kinds:
+            lines += self.name_lines(letter, share)
+            if kind == "track":
+                lines.append(f"track\t{letter}\t{self.track(fixed)}")
+            else:
+                tracks = self.pick([1, 1, 1, 2, 2, 3, 5]) if self.chance(0.96) else 0
+                count = self.pick([0, 1, 1, 2, 2, 3, 4, 7]) if kind == "repeat" else kind
+                lines += self.repeat_lines(letter, count, tracks, fixed, share)
+        return lines + self.name_lines(letter, share)
+
+    def axis_record(self, letter):
+        if self.chance(0.15):
+            return []
+        inner = "-" if self.chance(0.15) else self.length()
+        gap = self.fixed_size() if self.chance(0.5) else "len\t00000000"
+        return [f"axis\t{letter}\t{inner}\t{self.pick(['max', 'max', 'min'])}\t{gap}"]
+
+    def loose_lines(self, letter):
+        """Spares, implicit counts and items of an axis."""
+        lines = [f"spare\t{letter}\t{self.track(False)}" for _ in range(self.below(5))]
+        if self.chance(0.6):
+            lines.append(f"extra\t{letter}\t{self.below(8)}\t{self.below(8)}")
+            if self.chance(0.1):
+                lines.append(f"extra\t{letter}\t{self.below(3)}\t{self.below(3)}")
+        items = self.random.randrange(8)
+        lines += [f"item\t{letter}\t{self.below(14)}" for _ in range(items)]
+        if self.chance(0.05):
+            lines.append(f"item\t{letter}\t{self.pick([29999, 10000, 9999, 20000])}")
+        self.random.shuffle(lines)
+        return lines
+
+    # Areas, placements, entries.
+
+    def area_names(self):
+        names = {self.pick(self.names) for _ in range(2)} | {self.pick(BASES)}
+        bases = {name[:-len(end)] for name in self.names for end in ("-start", "-end") if name.endswith(end)}
+        chosen = sorted(names | bases)
+        self.random.shuffle(chosen)
+        return [name for name in chosen if name][:self.below(4)]
+
+    def edges(self):
+        start = self.random.randint(1, 5)
+        end = start + self.random.randint(1, 4)
+        if self.chance(0.004):
+            end = self.pick([10001, 10000, 9999, 3000])
+        return f"{start}\t{end}"
+
+    def area_lines(self):
+        return [f"area\t{name}\t{self.edges()}\t{self.edges()}" for name in self.area_names()]
+
+    def index(self):
+        if self.extreme and self.chance(0.4):
+            return self.pick([32767, -32768, -32767, 10000, 10001, -10000, -10001, 9999, 20001, 20000, -20001, 4097])
+        return self.pick([0, 0, 1, 1, 2, 3, -1, -1, -2, -3]) if self.chance(0.7) else self.random.randint(-12, 12)
+
+    def span(self):
+        if self.extreme and self.chance(0.4):
+            return self.pick([65535, 65534, 32768, 10000, 10001, 20000, 20001])
+        return self.pick([0, 1, 1, 2, 3]) if self.chance(0.8) else self.random.randint(0, 12)
+
+    def used_name(self):
+        if self.chance(0.9):
+            return self.pick(self.names)
+        return (self.pick(self.names) + self.pick(["-start", "-end", "z"]))[-32:]
+
+    def end(self):
+        kind = self.pick(["auto", "line", "line", "named", "named", "named", "span", "nspan", "nspan"])
+        if kind == "auto":
+            return "auto\t-\t0"
+        if kind == "line":
+            return f"line\t-\t{self.index()}"
+        if kind == "named":
+            return f"named\t{self.used_name()}\t{self.index()}"
+        if kind == "span":
+            return f"span\t-\t{self.span()}"
+        return f"nspan\t{self.used_name()}\t{self.span()}"
+
+    def placement_lines(self):
+        return [f"place\t{self.pick('ccr')}\t{self.end()}\t{self.end()}" for _ in range(self.random.randrange(8))]
+
+    def entered_line(self):
+        if self.extreme and self.chance(0.3):
+            return self.pick([20000, 19999, 10000, 10001, 10002, 9999])
+        return self.random.randint(1, self.pick([3, 6, 15]))
+
+    def call(self):
+        letter = self.pick("ccr")
+        if self.chance(0.06):
+            return damage.refused_call(self.random, letter)
+        return letter, self.entered_line(), self.used_name().encode()
+
+    def calls(self):
+        return [self.call() for _ in range(self.pick([0, 0, 0, 1, 2, 3, 6]))]
+
+    # Whole sheets.
+
+    def mixed(self, *runs):
+        """The runs of lines woven together, each in its own order."""
+        runs = [list(run) for run in runs if run]
+        lines = []
+        while runs:
+            run = self.pick(runs)
+            lines.append(run.pop(0))
+            runs = [run for run in runs if run]
+        return lines
+
+    def sheet_lines(self):
+        records = [line for letter in self.pick(["cr", "rc"]) for line in self.axis_record(letter)]
+        both = self.chance(0.5)
+        runs = [self.template("c"), self.template("r") if both else [], self.loose_lines("c"),
+                self.loose_lines("r") if self.chance(0.3) else [], self.placement_lines()]
+        return records + self.area_lines() + self.mixed(*runs)
+
+    def general(self):
+        return self.sheet_lines(), self.calls(), None
+
+    def tie(self):
+        """A template whose repetitions depend on each rounding, found by search."""
+        letter = self.pick("cr")
+        lines = ties.lines(self.random, letter)
+        if self.chance(0.3):
+            lines += self.placement_lines()
+        return lines, [], None
+
+    def large_template(self, letter):
+        """Counts around 10,000 before, in and after an automatic repeat."""
+        before = self.pick([0, 1, 9990, 9997, 9998, 9999, 10000, 10001, 65535])
+        size = "len\t00000000\tlen\t00000000"
+        lines = []
+        if before:
+            inside = self.pick([1, 1, 1, 2, 3])
+            lines += [f"repeat\t{letter}\t{before // inside}"]
+            lines += self.name_lines(letter, 0.03) + [f"track\t{letter}\t{size}"] * inside + [f"end\t{letter}"]
+            lines += [f"track\t{letter}\t{size}"] * (before % inside)
+        if self.chance(0.7):
+            tracks = self.pick([1, 1, 2, 3, 7, 32])
+            lines += [f"repeat\t{letter}\t{self.pick(['fill', 'fit'])}"]
+            lines += [f"track\t{letter}\t{self.pick([size, size, 'auto' + chr(9) + '00000000' + chr(9) + 'len' + chr(9) + '3f800000'])}"] * tracks
+            lines += self.name_lines(letter, 0.1) + [f"end\t{letter}"]
+        lines += self.name_lines(letter, 0.5)
+        if self.chance(0.3):
+            lines += [f"track\t{letter}\t{size}"] + self.name_lines(letter, 0.5)
+        if self.chance(0.3):
+            count = self.pick([0, 1, 2, 3, 9999, 10001, 65535])
+            lines += [f"repeat\t{letter}\t{count}"] + self.name_lines(letter, 0.02)
+            lines += [f"track\t{letter}\t{size}"] * self.pick([0, 1, 1, 32]) + [f"end\t{letter}"] + self.name_lines(letter, 0.5)
+        return lines
+
+    def large(self):
+        self.extreme = True
+        inner = self.pick(["-", "41200000", "00000000", "477fff00", "461c4000", "46241000"])
+        gap = self.pick(["len\t00000000", "len\t00000000", "len\t3f800000", "pct\t3f800000"])
+        lines = [f"axis\tc\t{inner}\t{self.pick(['max', 'min'])}\t{gap}"]
+        if self.chance(0.2):
+            lines.append(f"area\t{self.pick(self.names)}\t1\t2\t{self.pick([1, 9000])}\t{self.pick([10001, 10000, 9999])}")
+        loose = [f"extra\tc\t{self.pick([0, 1, 3])}\t{self.pick([0, 1, 3])}"]
+        if self.chance(0.05):
+            loose = ["extra\tc\t10000\t10000", "extra\tr\t10000\t10000"]
+        loose += [f"item\tc\t{self.pick([0, 1, 9998, 9999, 10000, 10002, 29999])}" for _ in range(2)]
+        return lines + self.mixed(self.large_template("c"), loose, self.placement_lines()), self.calls(), None
+
+    def over(self):
+        """An automatic repeat before more than 10,000 tracks, gaps in all of them."""
+        size = "len\t00000000\tlen\t" + self.pick(["00000000", "3f800000", "3dcccccd"])
+        gap = bits(binary32.rounded(self.pick([1.0, 0.5, 0.1, 2.0, self.random.uniform(0, 3)])))
+        inner = bits(binary32.rounded(self.random.uniform(9000, 40000)))
+        after = self.pick([9990, 9999, 10000, 10001, 12000, 20000, 65535])
+        lines = [f"axis\tc\t{inner}\t{self.pick(['max', 'min'])}\tlen\t{gap}", f"repeat\tc\t{self.pick(['fill', 'fit'])}"]
+        lines += [f"track\tc\t{size}"] * self.pick([1, 2, 3]) + self.name_lines("c", 0.1) + ["end\tc"]
+        lines += [f"repeat\tc\t{after}", "track\tc\tlen\t00000000\tauto\t00000000", "end\tc"]
+        return lines + self.name_lines("c", 0.5), [], None
+
+    def far(self):
+        """Names and placements around the furthest lines of a grid of some 10,000 tracks."""
+        letter = self.pick("cr")
+        end = self.pick([10001, 10001, 10000, 9999])
+        edges = f"{self.pick([1, 9998])}\t{end}"
+        both = ["1\t2", edges] if letter == "c" else [edges, "1\t2"]
+        lines = [f"area\t{self.pick(self.names)}\t" + "\t".join(both)]
+        far = [10000, 10001, 10002, 9999, 9998, 20000, 32767, -1, -2, -10000, -10001, -10002, -20002, -32768, 1, 2]
+        for _ in range(6):
+            line = f"line\t-\t{self.pick(far)}"
+            name = self.pick(self.names + [lines[0].split("\t")[1] + "-end"])[-32:]
+            span = f"nspan\t{name}\t{self.pick([0, 1, 2, 10000, 65535])}"
+            named = f"named\t{name}\t{self.pick([0, 1, 2, -1, -2, 10001, -10001])}"
+            pair = self.pick([(line, span), (span, line), (named, span), (span, named)])
+            lines.append(f"place\t{letter}\t{pair[0]}\t{pair[1]}")
+        calls = [(letter, self.pick([1, 2, 9999, 10000, 10001, 10002, 20000]), self.pick(self.names).encode())
+                 for _ in range(self.below(5))]
+        return lines, calls, None
+
+    def writing_out(self):
+        """Names of repeats that are written out often: counts around 4,096 entries and line 10,000."""
+        size = "len\t00000000\tlen\t00000000"
+        letter = self.pick("cr")
+        tracks = self.pick([0, 1, 2, 3, 10, 32])
+        count = self.pick([4095, 4096, 4097, 2048, 2049, 1365, 1366, 312, 313, 314, 65535, 4090])
+        names = self.pick([0, 1, 1, 1, 2, 3])
+        lines = [f"repeat\t{letter}\t{count}"] + [f"name\t{letter}\t{self.pick(self.names)}" for _ in range(names)]
+        lines += [f"track\t{letter}\t{size}"] * tracks + [f"end\t{letter}"]
+        lines += self.name_lines(letter, 0.5)
+        if self.chance(0.5):
+            lines += [f"repeat\t{letter}\t{self.pick([0, 2, 3])}"] + self.name_lines(letter, 0.6)
+            lines += [f"track\t{letter}\t{size}"] * self.pick([0, 1]) + [f"end\t{letter}"] + self.name_lines(letter, 0.5)
+        calls = self.calls()
+        if self.chance(0.5):
+            calls += [(letter, self.entered_line(), self.pick(self.names).encode()) for _ in range(8)]
+        return lines + self.placement_lines(), calls, None
+
+    def full(self):
+        """Each limit met exactly."""
+        letter = self.pick("cr")
+        way = self.random.randrange(6)
+        track = lambda: self.track(True)
+        if way == 0:
+            lines = [f"track\t{letter}\t{track()}" for _ in range(64)]
+        elif way == 1:
+            lines = self.repeat_lines(letter, self.pick(["fill", "fit", "2"]), 32, True, 0.2)
+        elif way == 2:
+            lines = [f"spare\t{letter}\t{track()}" for _ in range(64)] + [f"extra\t{letter}\t{self.below(200)}\t{self.below(200)}"]
+        elif way == 3:
+            lines = [f"area\t{number}\t{self.edges()}\t{self.edges()}" for number in range(64)]
+        elif way == 4:
+            lines = self.template(letter) + [f"place\t{letter}\t{self.end()}\t{self.end()}" for _ in range(256)]
+        else:
+            lines = [line for number in range(64) for line in self.repeat_lines(letter, self.below(3), 1, True, 0.3)]
+        return lines, self.calls(), None
+
+    def store(self):
+        """Entry calls that fill the store or the entries of an axis."""
+        lines = self.sheet_lines()
+        letter = self.pick("cr")
+        if self.chance(0.5):
+            calls = [(letter, self.entered_line(), b"m" * 32) for _ in range(1030)]
+        else:
+            lines = [f"repeat\t{letter}\t4090", f"name\t{letter}\t{self.pick(self.names)}", f"end\t{letter}"]
+            calls = [(letter, self.entered_line(), self.pick(self.names).encode()) for _ in range(12)]
+        calls += [self.call() for _ in range(5)]
+        return lines, calls, None
+
+    def long(self):
+        """A sheet of just the longest length, or one byte more."""
+        lines = self.sheet_lines()
+        room = 32768 - sum(len(line) + 1 for line in lines)
+        count, rest = divmod(room, 9)
+        lines += ["item\tr\t0"] * (count - 1) if count else []
+        last = {0: "item\tr\t0", 1: "item\tr\t10", 2: "item\tr\t100", 3: "item\tr\t1000", 4: "item\tr\t10000"}.get(rest)
+        if last is None:
+            lines = lines[:-1] + ["item\tr\t10000"]
+            last = {5: "item\tr\t10", 6: "item\tr\t100", 7: "item\tr\t1000", 8: "item\tr\t10000"}[rest]
+        lines.append(last)
+        if self.chance(0.5):
+            return lines, [], None
+        return lines[:-1] + [last + "0"], [], (1, 0)
+
+    def damaged(self):
+        lines = self.sheet_lines() if self.chance(0.9) else self.full()[0]
+        return damage.damaged(self.random, lines)
+
+    def spoiled(self):
+        """Bytes changed at random: mostly refused, now and then another sheet."""
+        return damage.spoiled(self.random, self.sheet_lines()), self.calls(), None
+
+
+WEIGHTS = {"general": 600, "tie": 100, "large": 8, "over": 5, "far": 5, "writing_out": 12, "full": 12, "store": 2, "long": 3,
+           "damaged": 220, "spoiled": 60}
+
+
+def make(seed, number, only=None):
+    """A sheet as bytes, the entry calls, the refusal (number, line) it was made for, and its family."""
+    maker = Maker(seed, number)
+    family = only or maker.random.choices(list(WEIGHTS), list(WEIGHTS.values()))[0]
+    lines, calls, expected = getattr(maker, family)()
+    sheet = lines if isinstance(lines, bytes) else damage.sheet_of(lines)
+    return sheet, calls, expected, family

@@ -1,0 +1,262 @@
+"""Remakes the recorded lists: sheets and entry calls with the answers of the judges."""
+import argparse
+import os
+import random
+import sys
+
+import build
+import damage
+import edges
+import maker
+import model
+import reader
+import rules
+from compare import Rust, compare, compare_lines
+
+SEED = 1
+RECORDED = os.path.join(build.COMPARE, "recorded")
+DEFAULT_CASES = os.path.join(build.REPOSITORY, "..", "shared", "cases")
+# Sheets of each family in accepted.txt, and the longest block that is kept.
+ACCEPTED = {"general": 1300, "tie": 200, "full": 40, "writing_out": 60, "spoiled": 40}
+LONGEST_BLOCK = 3500
+CUT = {"large": 60, "far": 40, "over": 12, "writing_out": 20, "full": 4}
+REFUSED_FOR_EACH = 4
+ENTRY_LISTS = 150
+STORE_LISTS = 4
+
+
+class Case:
+    """A sheet and calls that the judges agree on, with the answer."""
+
+    def __init__(self, name, sheet, calls, rust, expected=None):
+        result = compare(sheet, calls, rust, None, expected)
+        if result.differences:
+            raise build.CannotCompare(f"not recorded: the judges differ on {name}: {result.differences[0]}")
+        self.name = name
+        self.sheet = sheet
+        self.calls = calls
+        self.answer = model.Answer(sheet, calls)
+        self.refused = self.answer.refused
+        self.lines = self.answer_lines(rust)
+
+    def answer_lines(self, rust):
+        """The Rust's lines where it speaks; the model's for refusals and the numbers of calls."""
+        if self.refused:
+            return self.answer.sheet_answer()
+        lines = rust.ask(self.sheet, self.answer.state.accepted)[:-2]
+        return [model.entry_line(number) for number in self.answer.numbers] + lines
+
+    def block(self, cut=False):
+        lines = cut_lines(self.lines) if cut else self.lines
+        expected = model.text_of(lines).encode()
+        calls = b"".join(call_line(call) for call in self.calls)
+        return (f"case {self.name}\nsheet {len(self.sheet)}\n".encode() + self.sheet
+                + f"enter {len(self.calls)}\n".encode() + calls
+                + f"{'cut' if cut else 'expect'} {len(expected)}\n".encode() + expected)
+
+
+def call_line(call):
+    letter, line, name = call
+    return f"{letter}\t{line}\t".encode() + name + b"\n"
+
+
+def cut_lines(lines):
+    """The lines without records and without empty name lists."""
+    return [line for line in lines
+            if not line[0].isdigit() and not (line.startswith("names") and line.count("\t") == 2)]
+
+
+def write(name, blocks):
+    with open(os.path.join(RECORDED, name), "wb") as file:
+        file.write(b"".join(blocks))
+    print(f"{name}: {len(blocks)} blocks, {sum(map(len, blocks))} bytes")
+
+
+def made_cases(family, rust, seed=SEED):
+    """Cases of a family without end."""
+    number = 0
+    while True:
+        sheet, calls, expected, _ = maker.make(seed, number, family)
+        yield Case(f"{family} {number}", sheet, calls, rust, expected)
+        number += 1
+
+
+def taken(cases, count, wanted):
+    """The first cases that are wanted."""
+    found = []
+    for case in cases:
+        if wanted(case):
+            found.append(case)
+        if len(found) == count:
+            return found
+
+
+# The lists.
+
+def paper_case(folder, name, rust):
+    """A case of the papers; the Rust's answer has to be the one that lies beside it."""
+    sheet = build.read_bytes(os.path.join(folder, name + ".in"))
+    path = os.path.join(folder, name + ".enter")
+    rows = build.read_bytes(path).split(b"\n")[:-1] if os.path.exists(path) else []
+    calls = [(letter.decode(), int(line), text) for letter, line, text in (row.split(b"\t") for row in rows)]
+    case = Case(name, sheet, calls, rust)
+    given = build.read_bytes(os.path.join(folder, name + ".out")).decode().splitlines()
+    given = [line for line in given if not line.startswith("enter")]
+    own = rust.ask(sheet, [(letter, line, text.decode()) for letter, line, text in calls])[:-2]
+    if not any(line[0].isdigit() for line in given):
+        own = cut_lines(own)
+    if not any(line.startswith("names") for line in given):
+        own = [line for line in own if not line.startswith("names")]
+    if own != given:
+        raise build.CannotCompare(f"not recorded: the Rust answers case {name} otherwise than the papers say")
+    return case
+
+
+def edge_case(name, rust):
+    lines, held = edges.SHEETS[name]
+    case = Case(name, damage.sheet_of(lines), [], rust)
+    if any(line not in case.lines for line in held):
+        raise build.CannotCompare(f"not recorded: {name} is answered otherwise than document 01 says")
+    return case
+
+
+def write_cases(folder, rust):
+    if not os.path.isdir(folder):
+        raise build.CannotCompare(f"not recorded: the papers' cases are not in {folder}")
+    names = sorted(name[:-3] for name in os.listdir(folder) if name.endswith(".in"))
+    cases = [paper_case(folder, name, rust) for name in names] + [edge_case(name, rust) for name in edges.SHEETS]
+    write("cases.txt", [case.block(cut=len(case.lines) > 3000) for case in cases])
+
+
+def write_accepted(rust):
+    small = lambda case: not case.refused and len(case.block()) <= LONGEST_BLOCK
+    cases = [case for family, count in ACCEPTED.items() for case in taken(made_cases(family, rust), count, small)]
+    middle = lambda case: not case.refused and 20000 <= len(case.block()) <= 60000
+    cases += taken(made_cases("general", rust, SEED + 1), 6, middle)
+    write("accepted.txt", [case.block() for case in cases])
+
+
+def write_cut(rust):
+    """Grids of some 10,000 tracks, their records left out."""
+    large = lambda case: len(case.lines) > 3000 or case.refused
+    cases = [case for family, count in CUT.items() for case in taken(made_cases(family, rust), count, large)]
+    write("large.txt", [case.block(cut=True) for case in cases])
+
+
+def refusal_key(case):
+    """What a refusal is about: its number, and the record and fields at its line."""
+    lines = case.sheet.split(b"\n")
+    line = lines[case.refused.line - 1] if 1 <= case.refused.line <= len(lines) else b""
+    fields = line.split(b"\t")
+    word = fields[0] if fields[0].decode("latin-1") in reader.RECORDS else b"?"
+    kinds = tuple(fields[place] for place in (2, 4, 5) if place < len(fields)) if word in (b"place", b"track", b"axis") else ()
+    return case.refused.number, word, len(fields), kinds if case.refused.number in (3, 4) else ()
+
+
+def write_refused(rust):
+    """A few refused sheets for each number, record and kind."""
+    seen = {}
+    cases = []
+    for family, tries in (("damaged", 9000), ("spoiled", 1500), ("writing_out", 60), ("large", 40), ("long", 8)):
+        made = made_cases(family, rust)
+        for case in (next(made) for _ in range(tries)):
+            if not case.refused or (len(case.sheet) > 6000 and family != "long"):
+                continue
+            key = (family == "long", refusal_key(case))
+            seen[key] = seen.get(key, 0) + 1
+            if seen[key] <= REFUSED_FOR_EACH:
+                cases.append(case)
+    write("refused.txt", [case.block() for case in cases])
+
+
+def write_entries(rust):
+    """Lists of entry calls, refused ones among them, and lists that fill the store."""
+    mixed = lambda case: not case.refused and len(case.calls) >= 3 and len(case.block()) <= LONGEST_BLOCK
+    refused = lambda case: mixed(case) and any(case.answer.numbers)
+    cases = taken(made_cases("general", rust, SEED + 2), ENTRY_LISTS, refused)
+    cases += taken(made_cases("general", rust, SEED + 3), ENTRY_LISTS, mixed)
+    filling = lambda case: not case.refused and reader.CROWDED in case.answer.numbers and len(case.lines) < 3000
+    cases += taken(made_cases("store", rust), STORE_LISTS, filling)
+    cases += taken(made_cases("writing_out", rust, SEED + 4), STORE_LISTS, filling)
+    write("entries.txt", [case.block() for case in cases])
+
+
+def short_block(name, sheet, stores, calls):
+    """A sheet call and entry calls, each with the lengths of the two stores that are lent."""
+    head = f"case {name}\nstores {stores[0]} {stores[1]}\nsheet {len(sheet)}\n".encode() + sheet
+    rows = b"".join(f"{lent[0]}\t{lent[1]}\t".encode() + call_line(call) for lent, call in calls)
+    lines = []
+    try:
+        state = model.read_sheet(sheet, stores)
+        numbers = [model.enter(state, *call, lent) for lent, call in calls]
+        lines = [model.entry_line(number) for number in numbers] + model.sheet_lines(state) + model.name_lines(state)
+    except reader.Refused as refused:
+        lines = [model.refusal_line(refused.number, refused.line)]
+    expected = model.text_of(lines).encode()
+    return head + f"enter {len(calls)}\n".encode() + rows + f"expect {len(expected)}\n".encode() + expected
+
+
+def write_short():
+    """Stores that are short: refusal 10, after every other number."""
+    full, less = model.STORE_BYTES, model.STORE_BYTES - 1
+    good = b"name\tc\tx\nplace\tc\tnamed\tx\t1\tauto\t-\t0\n"
+    blocks = []
+    for number, stores in enumerate([(full, full), (less, full), (full, less), (0, 0), (full + 1, full + 9)]):
+        for what, sheet in (("good", good), ("bad", good + b"\n"), ("over", b"repeat\tc\t10001\ntrack" + b"\tc" + b"\tauto\t00000000" * 2 + b"\nend\tc\n")):
+            blocks.append(short_block(f"short {what} {number}", sheet, stores, []))
+    lent = [(full, full), (less, full), (full, less), (1, 1)]
+    calls = [(letter, line, name) for letter in "cr" for line, name in ((1, b"x"), (0, b"x"), (1, b""), (20000, b"y"))]
+    blocks.append(short_block("short calls", good, (full, full), [(stores, call) for call in calls for stores in lent]))
+    many = [((full, full), ("c", 2, b"m" * 32))] * 1024 + [((less, full), ("c", 2, b"m")), ((full, less), ("c", 2, b"m" * 31))]
+    blocks.append(short_block("short and crowded", good, (full, full), many))
+    write("short.txt", blocks)
+
+
+def line_row(explicit, line):
+    """explicit count, grid line, refusal number, origin-zero line, back."""
+    number = reader.COUNT if explicit > rules.FURTHEST else reader.ZERO_LINE if line == 0 else 0
+    if number:
+        return f"{explicit}\t{line}\t{number}\t0\t0\n".encode()
+    found = rules.origin_zero_line(line, explicit)
+    return f"{explicit}\t{line}\t0\t{found}\t{rules.grid_line(found, explicit)}\n".encode()
+
+
+def write_lines(rust):
+    """Conversions of grid lines, each explicit count first compared in full with the Rust."""
+    chance = random.Random(SEED)
+    near = [-32768, -32767, -20002, -20001, -10003, -10002, -10001, -10000, -5, -4, -3, -1, 0, 1, 2, 4, 9999, 10000, 10001, 10002, 32766, 32767]
+    rows = [line_row(explicit, line) for explicit, line, _, _ in edges.LINES.values()]
+    for explicit, line, found, back in edges.LINES.values():
+        if line_row(explicit, line) != f"{explicit}\t{line}\t0\t{found}\t{back}\n".encode():
+            raise build.CannotCompare("not recorded: an edge of layer 1 is answered otherwise than document 01 says")
+    for explicit in [0, 1, 2, 3, 4999, 9998, 9999, 10000] + [chance.randrange(10001) for _ in range(4)]:
+        if compare_lines(rust, explicit):
+            raise build.CannotCompare("not recorded: the judges differ on the conversion of lines")
+        rows += [line_row(explicit, line) for line in near + [chance.randint(-32768, 32767) for _ in range(60)]]
+    rows += [line_row(explicit, line) for explicit in (10001, 32767, 65535) for line in near]
+    write("lines.txt", rows)
+
+
+def main():
+    parser = argparse.ArgumentParser(prog="compare/record", description="Remake the recorded lists.")
+    parser.add_argument("--rust", help="folder of the unchanged Rust files")
+    parser.add_argument("--cases", default=DEFAULT_CASES, help="folder of the papers' cases")
+    options = parser.parse_args()
+    rust = Rust(build.build(options.rust))
+    os.makedirs(RECORDED, exist_ok=True)
+    write_cases(options.cases, rust)
+    write_lines(rust)
+    write_short()
+    write_entries(rust)
+    write_accepted(rust)
+    write_refused(rust)
+    write_cut(rust)
+    rust.close()
+
+
+if __name__ == "__main__":
+    try:
+        main()
+    except build.CannotCompare as reason:
+        print(reason, file=sys.stderr)
+        sys.exit(2)

@@ -1,0 +1,277 @@
+"""Wrong readings of document 01, each put into the model in place of one small function."""
+import contextlib
+import math
+from unittest import mock
+
+import binary32
+import model
+import reader
+import rules
+from rules import FURTHEST, Names
+
+
+def spares_from_the_start(axis):
+    return rules.spare_sizes(axis, axis.negative)
+
+
+def lines_not_merged(self, name):
+    return [line - 1 for line in sorted(self.entered.get(name, []) + self.drawn_edge(name))]
+
+
+def lines_without_drawn_edge(self, name):
+    return [line - 1 for line in sorted(set(self.entered.get(name, [])))]
+
+
+def used_backwards(components, inner):
+    return right_used_outside(list(reversed(components)), inner)
+
+
+def used_by_adding(components, inner):
+    """Every track added on its own instead of sum times count."""
+    outside = [component for component in components if not component.automatic()]
+    return binary32.total(rules.measure(track, inner) for component in outside
+                          for _ in range(min(rules.times(component, 0), 2000)) for track in component.tracks)
+
+
+def first_with_gaps_first(axis, repeat):
+    gaps = min(rules.tracks_outside(axis.components), FURTHEST) + len(repeat.tracks) - 1
+    used = binary32.add(rules.used_outside(axis.components, axis.inner), binary32.multiply(float(gaps), rules.gap_size(axis)))
+    return binary32.add(used, rules.sum_of(repeat, axis.inner))
+
+
+def first_with_all_gaps(axis, repeat):
+    gaps = rules.tracks_outside(axis.components) + len(repeat.tracks) - 1
+    tracks = binary32.add(rules.used_outside(axis.components, axis.inner), rules.sum_of(repeat, axis.inner))
+    return binary32.add(tracks, binary32.multiply(float(gaps), rules.gap_size(axis)))
+
+
+def always_floor(value, rule):
+    return right_whole_part(value, "max")
+
+
+def zero_over_zero_is_largest(leftover, further):
+    return math.inf if further == 0.0 else binary32.divide(leftover, further)
+
+
+def minimum_ignored(track, inner):
+    maximum = rules.definite(track.maximum, inner)
+    return rules.definite(track.minimum, inner) if maximum is None else maximum
+
+
+def limit_is_definite(size, inner):
+    return size.value() if size.kind == "fitl" else right_definite(size, inner)
+
+
+def floor_of_limit(before, tracks):
+    return max(1, (FURTHEST - before) // tracks)
+
+
+def no_shift(line, component, written):
+    return line + written * len(component.tracks)
+
+
+def tested_before(line, component, count):
+    tracks = len(component.tracks)
+    if line > FURTHEST:
+        return 0
+    return count if tracks == 0 else min(count, (FURTHEST - line) // tracks)
+
+
+def last_unheld(self, last):
+    return last
+
+
+def span_from_unheld(self, name, number, line, which):
+    line = line - 1 if line > 0 else line + self.explicit + 1
+    if which == 1:
+        reached = self.forward(name, line + 1, max(number, 1))
+    else:
+        reached = self.backward(name, line - 1, max(number, 1))
+    return "line", rules.grid_line(reached, self.explicit)
+
+
+def suffixed_has_no_area(self, name, index, end):
+    if index == 0 and name.endswith(rules.SUFFIXES):
+        index = 1
+    return right_named_line(self, name, index, end)
+
+
+def other_end_of_area(self, name, index, end):
+    return right_named_line(self, name, index, 0)
+
+
+def highest_edge(self, area, end):
+    return max(self.lines(area + rules.SUFFIXES[end]), default=None)
+
+
+def missing_after_last_name(self, name, first, index):
+    lines = [line for line in self.lines(name) if line >= max(first, 0)]
+    if index <= len(lines):
+        return rules.held(lines[index - 1])
+    last = max([max(first, 0) - 1, self.explicit] + lines)
+    return rules.held(last + index - len(lines))
+
+
+def names_of_invalid_dropped(axis):
+    return [] if rules.counts_as_none(axis.components) else right_written_entries(axis)
+
+
+def repeated_names_kept(entries, explicit):
+    lists = [[] for _ in range(explicit + 1)] if entries else []
+    for line, name in entries:
+        if line <= explicit + 1:
+            lists[line - 1].append(name)
+    return lists
+
+
+def no_lists_where_all_empty(entries, explicit):
+    lists = right_line_names(entries, explicit)
+    return lists if any(lists) else []
+
+
+def first_entry_only(self, entries, areas, letter, explicit):
+    right_names(self, entries[:1], areas, letter, explicit)
+
+
+def columns_only(self, entries, areas, letter, explicit):
+    right_names(self, entries if letter == "c" else [], areas, letter, explicit)
+
+
+def areas_after_positive(axis, explicit):
+    """The spares of the positive run given to implicit tracks first."""
+    template = rules.written_out(axis)[:explicit]
+    made = explicit - len(template)
+    sizes = rules.spare_sizes(axis, made + axis.positive)
+    sizes = sizes[axis.positive:] + sizes[:axis.positive]
+    plain = lambda tracks: [(track, False) for track in tracks]
+    return plain(rules.negative_sizes(axis)) + template + plain(sizes)
+
+
+def last_gutter_stays(tracks, collapsed):
+    gutters = [True] + collapsed[:]
+    gutters[-1] = True
+    return gutters
+
+
+def item_from_explicit(axis, place):
+    return place - axis.negative in axis.items
+
+
+def invalid_writes_nothing(axis):
+    return [] if rules.counts_as_none(axis.components) else right_written_out(axis)
+
+
+def span_zero_is_zero(self, name, number, line, which):
+    if number == 0:
+        return "line", line
+    return right_span_from(self, name, number, line, which)
+
+
+# What the wrong functions lean on, before any is put in place.
+right_used_outside = rules.used_outside
+right_whole_part = rules.whole_part
+right_definite = rules.definite
+right_named_line = Names.named_line
+right_span_from = Names.span_from
+right_written_entries = rules.written_entries
+right_line_names = rules.line_names
+right_written_out = rules.written_out
+right_names = Names.__init__
+
+# Each wrong reading: where it is put, and what.
+FOUND_BY_THE_RUST = {
+    "negative spares aligned from the start": (rules, "negative_sizes", spares_from_the_start),
+    "a line counted twice where area and entry share it": (Names, "lines", lines_not_merged),
+    "the drawn edge left out of a name's lines": (Names, "lines", lines_without_drawn_edge),
+    "the sum taken in the other order": (rules, "used_outside", used_backwards),
+    "a counted repeat added track by track": (rules, "used_outside", used_by_adding),
+    "the gaps added before the repetition": (rules, "first_used", first_with_gaps_first),
+    "the gaps of tracks past 10,000 counted": (rules, "first_used", first_with_all_gaps),
+    "doubles instead of f32": (binary32, "rounded", float),
+    "floor also for rule min": (rules, "whole_part", always_floor),
+    "0 over 0 the largest count": (rules, "quotient", zero_over_zero_is_largest),
+    "the maximum not raised to the minimum": (rules, "measure", minimum_ignored),
+    "a fit-content limit taken as definite": (rules, "definite", limit_is_definite),
+    "the most repetitions by floor": (rules, "most_repetitions", floor_of_limit),
+    "no shift after a repeat written no times": (rules, "line_after_repeat", no_shift),
+    "the stop tested before a repetition": (rules, "times_written", tested_before),
+    "counting back sees names past the end": (Names, "last_looked_at", last_unheld),
+    "a line not held before a span": (Names, "span_from", span_from_unheld),
+    "a span of 0 stays where it is": (Names, "span_from", span_zero_is_zero),
+    "index 0 of a suffixed name is index 1": (Names, "named_line", suffixed_has_no_area),
+    "index 0 takes the start edge at both ends": (Names, "named_line", other_end_of_area),
+    "the highest line of an edge wins": (Names, "area_edge", highest_edge),
+    "missing lines counted after the last name": (Names, "forward", missing_after_last_name),
+    "names of an invalid template dropped": (rules, "written_entries", names_of_invalid_dropped),
+    "names kept from the first entry only": (Names, "__init__", first_entry_only),
+    "names kept from the columns only": (Names, "__init__", columns_only),
+    "a name listed twice on a line": (rules, "line_names", repeated_names_kept),
+    "no lists where every list is empty": (rules, "line_names", no_lists_where_all_empty),
+    "tracks of areas after the positive ones": (rules, "all_tracks", areas_after_positive),
+    "the gutter before trailing collapsed tracks stays": (rules, "collapsed_gutters", last_gutter_stays),
+    "items counted from the first explicit track": (rules, "holds_item", item_from_explicit),
+    "an invalid template's singles left out": (rules, "written_out", invalid_writes_nothing),
+}
+
+
+def without_fault(number):
+    """A reader that never sees a fault."""
+    class Blind(set):
+        def add(self, found):
+            if found != number:
+                super().add(found)
+
+    def made(self, fields):
+        right_fields(self, fields)
+        self.faults = Blind()
+    return made
+
+
+def highest_first(panel, text):
+    with mock.patch("builtins.min", max):
+        return right_read_line(panel, text)
+
+
+def end_without_feed(sheet):
+    return right_read_lines(sheet if sheet.endswith(b"\n") or not sheet else sheet + b"\n")
+
+
+def line_before_name(state, letter, line, name, stores=model.FULL_STORES):
+    if not model.ENTERED_LINES[0] <= line <= model.ENTERED_LINES[1]:
+        return reader.COUNT
+    return right_enter(state, letter, line, name, stores)
+
+
+def store_by_entries(self, panel):
+    """The store counted by written-out entries instead of `name` records."""
+    right_state(self, panel)
+    self.used = {letter: sum(len(name) for _, name in self.entries[letter]) for letter in model.LETTERS}
+
+
+right_enter = model.enter
+right_state = model.State.__init__
+right_fields = reader.Fields.__init__
+right_read_line = reader.read_line
+right_read_lines = reader.read_lines
+
+# Readings of the sheet, of which the Rust says nothing: found by what a damage was made for.
+FOUND_BY_DAMAGE = {
+    "the highest number of a line first": (reader, "read_line", highest_first),
+    "a last line without a line feed read": (reader, "read_lines", end_without_feed),
+    **{f"refusal {number} never given at a line": (reader.Fields, "__init__", without_fault(number))
+       for number in range(1, 9)},
+}
+
+
+# Readings of the entry call, found by the recount.
+FOUND_BY_RECOUNT = {
+    "an entered line tested before the name": (model, "enter", line_before_name),
+    "the store filled by written-out entries": (model.State, "__init__", store_by_entries),
+}
+
+
+@contextlib.contextmanager
+def put_in_place(reading):
+    where, name, function = reading
+    with mock.patch.object(where, name, function):
+        yield
