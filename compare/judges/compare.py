@@ -30,7 +30,7 @@ class Rust:
         header = self.process.stdout.readline().split()
         if not header:
             raise CannotCompare("no comparison: the harness ended")
-        return self.process.stdout.read(int(header[1])).decode().splitlines()
+        return self.process.stdout.read(int(header[1])).decode().split("\n")[:-1]
 
     def lines(self, explicit):
         """Every grid line as an origin-zero line, and every origin-zero line back, as lines of text."""
@@ -51,8 +51,10 @@ class Program:
         self.path = path
 
     def ask(self, sheet):
+        """What it prints, cut at line feeds, and how it ended where that is not well."""
         done = subprocess.run([self.path], input=sheet, stdout=subprocess.PIPE)
-        return done.stdout.decode("latin-1").splitlines()
+        ended = [f"(ended with status {done.returncode})"] if done.returncode else []
+        return done.stdout.decode("latin-1").split("\n") + ended
 
 
 def first_difference(name, left, right):
@@ -176,16 +178,24 @@ def css_differences(state, lines):
     """Every comparison with CSS's counting that applies, and whether the third demand's does."""
     differences = [css_repetitions(state.panel.axes[letter]) for letter in model.LETTERS]
     differences += [css_any_placement(state, letter) for letter in model.LETTERS]
+    records = records_by_axis(lines)
+    differences += [None if css.gutters_fall_into_one(records[letter]) else f"CSS: gutters of {letter}"
+                    for letter in model.LETTERS]
     demand = demand_lines(state)
     if demand is None:
         return differences, False
-    row_size = next(place for place, line in enumerate(lines) if line.startswith("size\tr"))
-    starts = {"c": 1, "r": row_size + 1}
     for letter in model.LETTERS:
         placements = [placement for placement in state.panel.placements if placement.axis == letter]
         differences.append(css_placements(state, letter, demand[letter], placements))
-        differences.append(css_records(state, letter, lines[starts[letter]:]))
+        differences.append(css_records(state, letter, records[letter]))
     return differences, True
+
+
+def records_by_axis(lines):
+    """The record lines of each axis in an output."""
+    row_size = next(place for place, line in enumerate(lines) if line.startswith("size\tr"))
+    end = next((place for place, line in enumerate(lines) if line.startswith("place")), len(lines))
+    return {"c": lines[1:row_size], "r": lines[row_size + 1:end]}
 
 
 def compare(sheet, calls, rust, program=None, expected=None):
@@ -200,7 +210,7 @@ def compare(sheet, calls, rust, program=None, expected=None):
         if found != expected:
             result.differences.append(f"damage: model {found}, made for {expected}")
     if program:
-        own = model.Answer(sheet).sheet_answer()
+        own = model.text_of(model.Answer(sheet).sheet_answer()).split("\n")
         result.differences += filter(None, [first_difference("panel program", own, program.ask(sheet))])
     return result
 

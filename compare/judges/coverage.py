@@ -15,13 +15,14 @@ from compare import MOST_ENTRIES_ASKED, Rust
 # Files with every function measured, or (from, to): the functions between these lines of text.
 MEASURED = {
     "compute/grid/explicit_grid.rs": None,
-    "compute/grid/types/named.rs": ("fn split_area_edge_name", "/// Move the row and column line-name maps"),
+    "compute/grid/types/named.rs": ("fn line(&self, axis: GridAreaAxis", "/// Move the row and column line-name maps"),
     "compute/grid/types/coordinates.rs": ("pub(crate) fn into_origin_zero_line", "/// Converts a grid line in OriginZero"),
     "style/grid.rs": ("fn definite_value", None),
 }
-BLOCK = re.compile(r"(\b(if|else|for|while)\b|=> \{|\| \{|^\)|\bfn\b).*\{$")
+BLOCK = re.compile(r"(\b(if|else|for|while)\b|=> (?=\{$)|\| (?=\{$)|^\)|\bfn\b).*\{$")
 MATCH_OR_LITERAL = re.compile(r"\bmatch\b.*\{$|\b[A-Z]\w*(::<\w+>)? \{$|^(impl|pub struct|struct|enum|trait|pub trait)\b")
 ARM = re.compile(r"^(\s*)(.*?) => ([^{].*),$")
+LONG_ARM = re.compile(r"^(\s*)(.*?) => ([^{].*[^,{(])$")
 INLINE = re.compile(r"\bif (.+?) \{ (.+?) \} else \{ (.+?) \}")
 
 # Branches that no panel can reach, with the reason.
@@ -29,7 +30,24 @@ UNREACHABLE = {
     "let Some(template) = template else {": "`Style` always has a template",
     "_ => unreachable!(),": "named lines are resolved before this match",
     "_ if self.0.is_plain_calc()": "calc is left out by document 01",
+    "not: if let Some(area_iter)": "`Style` always has areas here, perhaps none in the list",
+    "not: if let Some(track_template)": "`Style` always has a template",
+    "not: if let Some(mut column_tracks)": "`Style` always has a template",
+    "not: if let Some(mut row_tracks)": "`Style` always has a template",
+    "not: if let Some(column_line_names_iter)": "`Style` always has name sets",
+    "not: if let Some(row_line_names_iter)": "`Style` always has name sets",
+    "pub(crate) fn resolve_row_names": "calls `resolve_line_names`, which is driven itself",
+    "pub(crate) fn resolve_column_names": "calls `resolve_line_names`, which is driven itself",
+    "fn add_assign": "no compared function adds so",
 }
+
+HEADING = """# Branches of the Rust functions and the recorded case that reaches each first
+
+Written by `compare/coverage`. `not:` is the other side of an `if` without `else`; a row without a case says why.
+
+| Branch | Text | First reached by |
+|---|---|---|
+"""
 
 MEASURE = """
 use std::cell::RefCell;
@@ -49,6 +67,12 @@ pub(crate) fn reached(number: usize) {
             new.push(number);
         }
     })
+}
+
+/// A value on its way, counted.
+pub(crate) fn passed<T>(number: usize, value: T) -> T {
+    reached(number);
+    value
 }
 
 /// The answer with a last line of the branches that it reached first.
@@ -84,7 +108,32 @@ class Measuring:
         arm = ARM.match(text)
         if arm and balanced(arm[3]):
             return f"{arm[1]}{arm[2]} => {{ {self.counter(path, number, text)} {arm[3]} }},"
+        long = LONG_ARM.match(text)
+        if long and balanced(long[3]):
+            self.counter(path, number, text)
+            return f"{long[1]}{long[2]} => crate::measure::passed({len(self.branches) - 1}, {long[3]})"
         return text
+
+    def other_side(self, path, lines, number):
+        """For the `}` that ends an `if` without `else`: the counter of its other side."""
+        indent = lines[number - 1][:-1]
+        for above in range(number - 2, -1, -1):
+            text = lines[above]
+            if text.startswith(indent) and text[len(indent):len(indent) + 1] not in ("", " "):
+                if text.startswith(indent + "if ") and text.endswith("{"):
+                    return " else { " + self.counter(path, above + 1, "not: " + text.strip()) + " }"
+                return ""
+        return ""
+
+    def lines(self, path, lines, wanted):
+        """Every line with its counters."""
+        for number, text in enumerate(lines, start=1):
+            if number not in wanted:
+                yield text
+            elif text.strip() == "}":
+                yield text + self.other_side(path, lines, number)
+            else:
+                yield self.line(path, number, text)
 
     def change(self, files):
         """The files of the measuring copy."""
@@ -92,8 +141,7 @@ class Measuring:
         for path, bounds in MEASURED.items():
             lines = files[path].decode().split("\n")
             wanted = chosen_lines(lines, bounds)
-            files[path] = "\n".join(self.line(path, number, text) if number in wanted else text
-                                    for number, text in enumerate(lines, start=1)).encode()
+            files[path] = "\n".join(self.lines(path, lines, wanted)).encode()
         files["measure.rs"] = MEASURE.encode()
         files["main.rs"] = files["main.rs"].replace(b"mod batch;", b"mod batch;\nmod measure;")
         files["batch.rs"] = files["batch.rs"].replace(b"        write!(output", b"        let text = crate::measure::with_new(text);\n        write!(output")
@@ -140,7 +188,8 @@ def blocks(data):
             letter, line, text = data[at:end].split(b"\t", 2)
             calls.append((letter.decode(), int(line), text))
             at = end + 1
-        at += int(header()[1])
+        size = int(header()[1])
+        at += size
         yield name, sheet, calls
 
 
@@ -158,7 +207,7 @@ def entries_asked(sheet, calls):
 def first_cases(rust):
     """For each branch reached, the recorded case that reaches it first."""
     found = {}
-    for file in ("cases.txt", "entries.txt", "accepted.txt", "large.txt", "refused.txt"):
+    for file in ("cases.txt", "limits.txt", "entries.txt", "accepted.txt", "large.txt", "refused.txt"):
         data = build.read_bytes(os.path.join(build.COMPARE, "recorded", file))
         for name, sheet, calls in blocks(data):
             entries = entries_asked(sheet, calls)
@@ -178,24 +227,28 @@ def reason(text):
     return next((why for start, why in UNREACHABLE.items() if start in text), None)
 
 
+def row(branch, by):
+    """A row of the table, and whether the branch is missed without a reason."""
+    file, line, text = branch
+    why = reason(text)
+    missed = by is None and why is None
+    by = by or (f"not reached: {why}" if why else "NOT REACHED")
+    text = text.replace("|", "\\|")
+    return f"| {file}:{line} | `{text}` | {by} |\n", missed
+
+
 def main():
     measuring = Measuring()
-    path = build.build(name="measure", change=measuring.change)
-    rust = Rust(path)
+    rust = Rust(build.build(name="measure", change=measuring.change))
     found = first_cases(rust)
     rust.close()
-    missing = 0
-    print("| Branch | Text | First reached by |\n|---|---|---|")
-    for number, (file, line, text) in enumerate(measuring.branches):
-        by = found.get(number)
-        if by is None:
-            why = reason(text)
-            missing += why is None
-            by = f"unreachable: {why}" if why else "NOT REACHED"
-        text = text.replace("|", "\\|")
-        print(f"| {file}:{line} | `{text}` | {by} |")
-    print(f"\n{len(measuring.branches)} branches, {len(found)} reached, {missing} missed")
-    return 1 if missing else 0
+    rows = [row(branch, found.get(number)) for number, branch in enumerate(measuring.branches)]
+    missed = sum(missed for _, missed in rows)
+    summary = f"{len(rows)} branches, {len(found)} reached, {missed} missed"
+    with open(os.path.join(build.COMPARE, "BRANCHES.md"), "w", encoding="utf-8") as file:
+        file.write(HEADING + "".join(text for text, _ in rows) + f"\n{summary}\n")
+    print(summary)
+    return 1 if missed else 0
 
 
 if __name__ == "__main__":

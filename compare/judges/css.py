@@ -143,6 +143,25 @@ def template_tracks(axis, repetitions):
     return tracks
 
 
+def gutters_fall_into_one(records):
+    """Whether just one gutter is left between two neighbouring open tracks, and none at the edges.
+
+    `records` are record lines; collapsed tracks take their gutters with them as CSS has it."""
+    open_gutters = 0
+    seen_track = False
+    for line in records:
+        _, kind, collapsed = line.split("\t", 3)[:3]
+        if collapsed == "y":
+            continue
+        if kind == "gutter":
+            open_gutters += 1
+            continue
+        if open_gutters != (1 if seen_track else 0):
+            return False
+        seen_track, open_gutters = True, 0
+    return open_gutters == 0
+
+
 def whole_number(size, inner):
     """A fixed size as a whole number, None where it is no whole number."""
     value = size.value() * (inner if size.kind == "pct" else 1)

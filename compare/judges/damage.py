@@ -1,8 +1,10 @@
 """Damages good sheets, each damage with the refusal that it is made for."""
 
 BAD_NAMES = [b"", b"x" * 33, b"a b", b"a\x7f", b"\x80", b"a\r", b"\x00", b"\xc3\xa9", b" "]
-UNREAD_NUMBERS = ["", "-", "+1", "01", "-0", "00", "1 ", "0x1", "1.0", "-01", "--1", "a", "1e3"]
+UNREAD_NUMBERS = ["", "-", "+1", "01", "-0", "00", "1 ", "0x1", "1.0", "-01", "--1", "a", "1e3", "1\r", "1\0", "\xb2"]
 LONG_NUMBER = "9" * 40
+# Outside every range, but within one where they wrap at 16, 32 or 64 bits.
+WRAPPING = [65537, 4294967297, 18446744073709551617]
 BAD_LENGTHS = ["80000000", "7fc00000", "7f800000", "ff800000", "bf800000", "477fff01", "80000001", "ffffffff"]
 BAD_FRACTIONS = ["80000000", "7fc00000", "41200001", "bf800000", "7f7fffff"]
 BAD_KEYWORDS = ["00000001", "80000000", "3f800000"]
@@ -12,7 +14,7 @@ AXES = [(1, word) for word in ("x", "", "C", "cr", "0")]
 
 def numbers(low, high):
     """Damages of a whole number with its range."""
-    outside = [low - 1, high + 1, low - 1000000, high + 1000000, LONG_NUMBER, "-" + LONG_NUMBER]
+    outside = [low - 1, high + 1, low - 1000000, high + 1000000, LONG_NUMBER, "-" + LONG_NUMBER, *WRAPPING]
     return [(1, text) for text in UNREAD_NUMBERS] + [(4, str(number)) for number in outside]
 
 

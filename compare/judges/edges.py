@@ -36,3 +36,95 @@ SHEETS = {
             + [f"{index}\t{kind}\ty\tlen\t00000000\tlen\t00000000"
                for index, kind in ((0, "gutter"), (1, "track"), (2, "gutter"), (4, "gutter"), (5, "track"), (6, "gutter"))]),
 }
+
+
+# Limits: each just met, and just passed with the refusal (number, line) of document 01's table.
+
+TRACK = "auto\t00000000\tauto\t00000000"
+
+
+def axis_line(inner="-", kind="len", gap="00000000"):
+    return f"axis\tc\t{inner}\tmax\t{kind}\t{gap}"
+
+
+def place_line(start, end="auto\t-\t0"):
+    return f"place\tc\t{start}\t{end}"
+
+
+def just_met_and_passed():
+    """Single lines: (name, the line that meets the limit, the line that passes it, its number)."""
+    size = lambda kind, bits: f"track\tc\tauto\t00000000\t{kind}\t{bits}"
+    yield "inner size", axis_line("477fff00"), axis_line("477fff01"), 3
+    yield "inner zero", axis_line("00000000"), axis_line("80000000"), 3
+    yield "gap length", axis_line(gap="477fff00"), axis_line(gap="477fff01"), 3
+    yield "gap percentage", axis_line(kind="pct", gap="41200000"), axis_line(kind="pct", gap="41200001"), 3
+    for kind, most, more in (("len", "477fff00", "477fff01"), ("fr", "477fff00", "477fff01"), ("fitl", "477fff00", "477fff01"),
+                             ("pct", "41200000", "41200001"), ("fitp", "41200000", "41200001"), ("auto", "00000000", "00000001")):
+        yield f"size {kind}", size(kind, most), size(kind, more), 3
+        yield f"size {kind} smallest", size(kind, "00000000"), size(kind, "80000000"), 3
+    yield "smallest f32", size("len", "00000001"), size("len", "80000001"), 3
+    yield "infinite", size("len", "477ffeff"), size("len", "7f800000"), 3
+    yield "no number", size("fr", "00800000"), size("fr", "7fc00001"), 3
+    yield "row edge", "area\ta\t1\t10001\t1\t2", "area\ta\t1\t10002\t1\t2", 4
+    yield "column edge", "area\ta\t1\t2\t10000\t10001", "area\ta\t1\t2\t0\t10001", 4
+    yield "area order", "area\ta\t1\t2\t1\t2", "area\ta\t1\t2\t2\t2", 5
+    yield "negative count", "extra\tc\t10000\t0", "extra\tc\t10001\t0", 4
+    yield "positive count", "extra\tr\t0\t10000", "extra\tr\t0\t10001", 4
+    yield "item", "item\tc\t29999", "item\tc\t30000", 4
+    yield "item below", "item\tc\t0", "item\tc\t-1", 4
+    yield "line above", place_line("line\t-\t32767"), place_line("line\t-\t32768"), 4
+    yield "line below", place_line("line\t-\t-32768"), place_line("line\t-\t-32769"), 4
+    yield "index above", place_line("named\tx\t32767"), place_line("named\tx\t32768"), 4
+    yield "index below", place_line("named\tx\t-32768"), place_line("named\tx\t-32769"), 4
+    yield "span", place_line("span\t-\t65535"), place_line("span\t-\t65536"), 4
+    yield "span below", place_line("span\t-\t0"), place_line("span\t-\t-1"), 4
+    yield "named span", place_line("nspan\tx\t65535", "line\t-\t1"), place_line("nspan\tx\t65536", "line\t-\t1"), 4
+    yield "wrapping at 32 bits", "item\tc\t1", "item\tc\t4294967297", 4
+    yield "wrapping at 64 bits", "item\tc\t2", "item\tc\t18446744073709551618", 4
+    yield "name length", "name\tc\t" + "n" * 32, "name\tc\t" + "n" * 33, 2
+    yield "name codes below", "name\tc\t!", "name\tc\t ", 2
+    yield "name codes above", "name\tc\t~", "name\tc\t\x7f", 2
+
+
+def open_and_closed():
+    """Counts of several lines: (name, lines that meet the limit, the one more, its number)."""
+    track, size = f"track\tc\t{TRACK}", TRACK
+    yield "components", [track] * 64, track, 8
+    yield "components by a repeat", [track] * 64, "repeat\tc\t1", 8
+    yield "spares", [f"spare\tr\t{size}"] * 64, f"spare\tr\t{size}", 8
+    yield "areas", [f"area\t{number}\t1\t2\t1\t2" for number in range(64)], "area\tx\t1\t2\t1\t2", 8
+    yield "placements", [place_line("auto\t-\t0")] * 256, place_line("auto\t-\t0"), 8
+
+
+def limit_sheets():
+    """(name, lines, refusal or None)."""
+    for name, met, passed, number in just_met_and_passed():
+        yield f"{name} met", [met], None
+        yield f"{name} passed", [passed], (number, 1)
+    for name, met, more, number in open_and_closed():
+        yield f"{name} met", met, None
+        yield f"{name} passed", met + [more], (number, len(met) + 1)
+    track = f"track\tc\t{TRACK}"
+    yield "tracks in a repeat met", ["repeat\tc\t2"] + [track] * 32 + ["end\tc"], None
+    yield "tracks in a repeat passed", ["repeat\tc\t2"] + [track] * 33 + ["end\tc"], (8, 34)
+    yield "repeat count met", ["repeat\tc\t65535", "end\tc"], None
+    yield "repeat count passed", ["repeat\tc\t65536", "end\tc"], (4, 1)
+    yield "entries met", ["repeat\tr\t4096", "name\tr\tx", "end\tr"], None
+    yield "entries passed", ["repeat\tr\t4097", "name\tr\tx", "end\tr"], (8, 4)
+    yield "explicit count met", ["repeat\tr\t10000", f"track\tr\t{TRACK}", "end\tr"], None
+    yield "explicit count passed", ["repeat\tr\t10001", f"track\tr\t{TRACK}", "end\tr"], (4, 4)
+    yield "both passed", ["repeat\tr\t10001", f"track\tr\t{TRACK}", "end\tr", "repeat\tc\t4097", "name\tc\tx", "end\tc"], (4, 7)
+    yield "open and passed", ["repeat\tr\t10001", f"track\tr\t{TRACK}", "end\tr", "repeat\tc\tfill"], (1, 5)
+    # Nine bytes a line, and the rest in a name.
+    yield "sheet length met", ["item\tc\t0"] * 3639 + ["name\tc\t" + "n" * 9], None
+    yield "sheet length passed", ["item\tc\t0"] * 3639 + ["name\tc\t" + "n" * 10], (1, 0)
+    yield "empty sheet", [], None
+    yield "empty line", [""], (1, 1)
+    yield "all counts met", ["extra\tc\t10000\t10000", "extra\tr\t10000\t10000", "repeat\tc\t10000", track, "end\tc", "item\tc\t29999"], None
+
+
+def limit_calls():
+    """Entry calls on an empty sheet, each with its number."""
+    return [(("c", 1, b"x"), 0), (("c", 0, b"x"), 4), (("r", 20000, b"x"), 0), (("r", 20001, b"x"), 4), (("c", 4294967295, b"x"), 4),
+            (("c", 1, b"n" * 32), 0), (("c", 1, b"n" * 33), 2), (("c", 1, b""), 2), (("c", 1, b"!"), 0), (("c", 1, b" "), 2),
+            (("c", 1, b"~"), 0), (("c", 1, b"\x7f"), 2), (("c", 0, b"\x80"), 2), (("r", 1, b"a\tb"), 2)]

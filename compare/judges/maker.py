@@ -17,15 +17,6 @@ def bits(value):
     return f"{binary32.to_bits(value):08x}"
 
 
-class Axis:
-    """What the maker chose for one axis, as lines; `inside` are those of its template."""
-
-    def __init__(self):
-        self.record = []
-        self.inside = []
-        self.loose = []
-
-
 class Maker:
     def __init__(self, seed, number):
         self.random = random.Random(seed * 1000003 + number)
@@ -257,7 +248,7 @@ class Maker:
         if self.chance(0.7):
             tracks = self.pick([1, 1, 2, 3, 7, 32])
             lines += [f"repeat\t{letter}\t{self.pick(['fill', 'fit'])}"]
-            lines += [f"track\t{letter}\t{self.pick([size, size, 'auto' + chr(9) + '00000000' + chr(9) + 'len' + chr(9) + '3f800000'])}"] * tracks
+            lines += [f"track\t{letter}\t" + self.pick([size, size, "auto\t00000000\tlen\t3f800000"])] * tracks
             lines += self.name_lines(letter, 0.1) + [f"end\t{letter}"]
         lines += self.name_lines(letter, 0.5)
         if self.chance(0.3):

@@ -18,7 +18,6 @@ REPEAT_COUNTS = (0, 65535)
 
 UNREAD, NAME, VALUE, COUNT, AREA, TWICE, LATE, CROWDED, ZERO_LINE, SHORT = range(1, 11)
 
-KEYWORDS = ("auto", "min", "max")
 LARGEST_OF_KIND = {"len": LARGEST_LENGTH, "pct": LARGEST_PERCENTAGE, "fr": LARGEST_LENGTH,
                    "fitl": LARGEST_LENGTH, "fitp": LARGEST_PERCENTAGE, "auto": 0.0, "min": 0.0, "max": 0.0}
 MINIMUM_KINDS = ("len", "pct", "auto", "min", "max")

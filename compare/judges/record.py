@@ -20,7 +20,7 @@ DEFAULT_CASES = os.path.join(build.REPOSITORY, "..", "shared", "cases")
 ACCEPTED = {"general": 1300, "tie": 200, "full": 40, "writing_out": 60, "spoiled": 40}
 LONGEST_BLOCK = 3500
 CUT = {"large": 60, "far": 40, "over": 12, "writing_out": 20, "full": 4}
-REFUSED_FOR_EACH = 4
+REFUSED_FOR_EACH = 6
 ENTRY_LISTS = 150
 STORE_LISTS = 4
 
@@ -126,6 +126,24 @@ def write_cases(folder, rust):
     names = sorted(name[:-3] for name in os.listdir(folder) if name.endswith(".in"))
     cases = [paper_case(folder, name, rust) for name in names] + [edge_case(name, rust) for name in edges.SHEETS]
     write("cases.txt", [case.block(cut=len(case.lines) > 3000) for case in cases])
+
+
+def limit_case(name, lines, refusal, rust):
+    case = Case(name, damage.sheet_of(lines), [], rust)
+    found = (case.refused.number, case.refused.line) if case.refused else None
+    if found != refusal:
+        raise build.CannotCompare(f"not recorded: limit {name} is answered by {found}")
+    return case
+
+
+def write_limits(rust):
+    """Each limit just met and just passed."""
+    cases = [limit_case(*sheet, rust) for sheet in edges.limit_sheets()]
+    calls = edges.limit_calls()
+    cases.append(Case("limits of entry calls", b"", [call for call, _ in calls], rust))
+    if cases[-1].answer.numbers != [number for _, number in calls]:
+        raise build.CannotCompare("not recorded: the limits of entry calls are answered otherwise")
+    write("limits.txt", [case.block(cut=len(case.lines) > 3000) for case in cases])
 
 
 def write_accepted(rust):
@@ -245,6 +263,7 @@ def main():
     rust = Rust(build.build(options.rust))
     os.makedirs(RECORDED, exist_ok=True)
     write_cases(options.cases, rust)
+    write_limits(rust)
     write_lines(rust)
     write_short()
     write_entries(rust)

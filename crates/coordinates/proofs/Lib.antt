@@ -2,3 +2,5 @@
 pub mod Integers
 pub mod Lines
 pub mod Conversions
+pub mod Totals
+pub mod Distances

@@ -4,9 +4,11 @@ pub mod counts;
 pub mod line;
 pub mod refusal;
 pub mod signed;
+pub mod span;
 
 pub use axis::Axis;
 pub use counts::TrackCounts;
 pub use line::GridLine;
 pub use line::OriginZeroLine;
 pub use refusal::Refusal;
+pub use span::OriginZeroLines;

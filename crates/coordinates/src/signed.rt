@@ -86,6 +86,18 @@ pub fn minus(value: i16, n: u16) -> Signed
     }
 }
 
+// The difference of two counts.
+pub fn difference(a: u16, b: u16) -> Signed
+    ensures { λ r. ⌜ integerOf r ≡ pos a -ℤ pos b ⌝ }
+{
+    let m = a as u32;
+    let n = b as u32;
+    if n <= m {
+        return Signed::NonNegative(m - n);
+    }
+    Signed::Negative(n - m - 1)
+}
+
 // Held within -10,000..10,000.
 pub fn hold(value: Signed) -> Signed
     ensures { λ r. ⌜ integerOf r ≡ held (integerOf value) ⌝ }

@@ -1,18 +1,15 @@
 -- The n-th number at which a predicate holds: there is at most one, it depends on the predicate alone, and `seek` finds it.
 -- Assumes nothing.
-use mathlib.Core.Path.{_≡_, refl, sym, _∙_, ap}
-use mathlib.Core.Logic.{_⊎_, inl, inr, ⊎-elim, _↔_}
+use mathlib.Core.Path.{_≡_, refl}
+use mathlib.Core.Logic.{⊎-elim}
 use mathlib.Core.Bool.{Bool, true, false}
 use Prim.Native.Nat.{ℕ, zero, suc, _+_, _-_, _≤_, _<_, max}
 use native.Mathlib.Nat.{le-refl, add-zero, add-suc, suc-add}
-use native.Mathlib.Decide.{decLt}
 use native.Mathlib.Omega.{arith}
 use lib.Dec.{T}
+use Rattle.coordinates.proofs.Lines.{lt-or-ge}
 use Rattle.line_placement.specs.Css.{Nearest, Nth}
-use Rattle.line_placement.specs.Rule.{Seek, at, left, onward, seek, settle}
-
-pub lt-or-ge : (m n : ℕ) → (m < n) ⊎ (n ≤ m)
-lt-or-ge m n = elim (decLt m n) [ yes h ↦ inl h | no h ↦ inr (omega arith) ]
+use Rattle.line_placement.specs.Rule.{at, left, onward, seek, settle}
 
 nearest-le : (B : ℕ → Type 0) (f l m : ℕ) → Nearest B f l → Nearest B f m → l ≤ m
 nearest-le B f l m p q = ⊎-elim (λ (h : m < l). absurd (p .none m (q .reached) h (q .holds))) (λ (h : l ≤ m). h) (lt-or-ge m l)
@@ -36,7 +33,7 @@ nth-same B C to back zero f l p = p
 nth-same B C to back (suc zero) f l p = nearest-same B C to back f l p
 nth-same B C to back (suc (suc n)) f l (m, q, p) = (m, nearest-same B C to back f m q, nth-same B C to back (suc n) (suc m) l p)
 
--- what does not held at f may be passed over
+-- what does not hold at f may be passed over
 nearest-skip : (B : ℕ → Type 0) (f l : ℕ) → (B f → ⊥) → Nearest B (suc f) l → Nearest B f l
 nearest-skip B f l out p =
     record {
@@ -57,7 +54,7 @@ nearest-here : (B : ℕ → Type 0) (f : ℕ) → B f → Nearest B f f
 nearest-here B f b = record { reached = omega arith; holds = b; none = λ k h g c. omega arith }
 
 -- where it holds at every number from f on
-nth-all : (B : ℕ → Type 0) (f m : ℕ) → ((k : ℕ) → f ≤ k → B k) → Nth B f (suc m) (f + m)
+pub nth-all : (B : ℕ → Type 0) (f m : ℕ) → ((k : ℕ) → f ≤ k → B k) → Nth B f (suc m) (f + m)
 nth-all B f zero all = rw (add-zero f) (nearest-here B f (all f (le-refl f)))
 nth-all B f (suc m) all = (f, nearest-here B f (all f (le-refl f)), rw (add-suc f m) (rw (← (suc-add f m)) (nth-all B (suc f) m (λ k h. all k (omega arith)))))
 
@@ -155,9 +152,6 @@ seek-below p (suc k) f m l e = go (p f) m (λ j r. seek-below p k (suc f) j l r)
     go false m rec r = omega (arith, rec m r)
     go true zero rec r = let z : f ≡ l = cc in omega arith
     go true (suc j) rec r = omega (arith, rec j r)
-
-pub nth-every : (B : ℕ → Type 0) (f m : ℕ) → ((k : ℕ) → f ≤ k → B k) → Nth B f (suc m) (f + m)
-nth-every B f m all = nth-all B f m all
 
 -- the first: found, or none among those sought
 pub seek-first : (p : ℕ → Bool) (k f l : ℕ) → seek p k f 0 ≡ at l → Nearest (λ j. T (p j)) f l

@@ -1,6 +1,11 @@
 pub mod Counting
+pub mod Tally
 pub mod Lines
 pub mod Names
-pub mod Edges
+pub mod Resolve
+pub mod Unique
+pub mod Exists
+pub mod Order
+pub mod Cases
 pub mod Written
-pub mod Sure
+pub mod Walk

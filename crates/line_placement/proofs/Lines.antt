@@ -1,35 +1,27 @@
 -- The rule of the implementation counts as CSS does.
 -- Assumes nothing.
 use mathlib.Core.Path.{_≡_, refl, sym, _∙_, ap}
-use mathlib.Core.Logic.{_⊎_, inl, inr, ⊎-elim, _↔_}
-use mathlib.Core.Bool.{Bool, true, false}
-use mathlib.Core.List.{List, [], _∷_}
-use Prim.Native.Nat.{ℕ, zero, suc, _+_, _-_, _≤_, _<_, max, min}
-use native.Mathlib.Nat.{le-refl, add-zero, zero-add, add-suc, suc-add}
+use mathlib.Core.Logic.{inl, inr, ⊎-elim}
+use mathlib.Core.Bool.{Bool}
+use Prim.Native.Nat.{ℕ, zero, suc, _+_, _-_, _≤_, _<_, min}
+use native.Mathlib.Nat.{le-refl, zero-add}
 use native.Mathlib.Numerals.{one-add}
 use native.Mathlib.Omega.{arith}
-use borrow.Author.Tests.{lt-ltb, le-ltb}
-use lib.Dec.{T, ltb}
+use lib.Dec.{T}
 use lib.IntN.{ℤ, pos, negsuc, _+ℤ_, _-ℤ_, subℕ}
-use Rattle.coordinates.specs.Lines.{held, Within}
-use Rattle.line_placement.specs.Css.{AxisNames, Bytes, Named, Way, endward, startward, along, Counts, Nearest, Nth, CountsTo}
-use Rattle.line_placement.specs.Rule.{Seek, at, left, onward, seek, settle, top, upFrom, forwards, backwards, lineOf, named?}
-use Rattle.line_placement.proofs.Counting.{lt-or-ge, nth-same, seek-nth, within, nth-unique, nth-lift, nth-lower, nth-from, nth-reached, nth-every, seek-below}
+use Rattle.coordinates.specs.Lines.{Within}
+use Rattle.coordinates.proofs.Integers.{sub-le, sub-lt, minus-at, minus-past}
+use Rattle.coordinates.proofs.Lines.{lt-or-ge}
+use Rattle.line_placement.specs.Css.{AxisNames, Bytes, Named, endward, startward, Counts, Nth, CountsTo}
+use Rattle.line_placement.specs.Rule.{Seek, at, left, seek, settle, top, upFrom, forwards, backwards, lineOf}
+use Rattle.line_placement.proofs.Counting.{nth-same, seek-nth, within, nth-lift, nth-lower, nth-from, nth-reached, nth-all, seek-below}
 
 -- differences of two naturals
-sub-le : (a k : ℕ) → k ≤ a → subℕ a k ≡ pos (a - k)
-sub-le a k h = rw (le-ltb a k h)
-
-pub sub-lt : (a k : ℕ) → a < k → subℕ a k ≡ negsuc (k - suc a)
-sub-lt a k h = rw (lt-ltb a k h)
-
 minus-le : (a k : ℕ) → k ≤ a → pos a -ℤ pos k ≡ pos (a - k)
-minus-le a zero h = let e : a - 0 ≡ a + 0 = omega arith in ap pos (sym e)
-minus-le a (suc k) h = sub-le a (suc k) h
+minus-le a k h = sym (minus-at a k h)
 
 minus-lt : (a k : ℕ) → a < k → pos a -ℤ pos k ≡ negsuc (k - suc a)
-minus-lt a zero h = absurd (omega arith)
-minus-lt a (suc k) h = sub-lt a (suc k) h
+minus-lt a k h = sym (minus-past a k h) ∙ ap negsuc (omega arith)
 
 -- a − (a − l + d) is l − d
 shifted : (a l d : ℕ) → l ≤ a → pos a -ℤ pos (a - l + d) ≡ pos l -ℤ pos d
@@ -43,16 +35,20 @@ line-of : (e : ℕ) (p : ℕ → Bool) (l : ℕ) (sk : Seek) → ((d : ℕ) → 
 line-of e p l (at d) b = minus-le l d (b d refl)
 line-of e p l (left r) b = minus-lt l (suc l + r) (omega arith) ∙ ap negsuc (omega arith)
 
-module _ (x : AxisNames) (nm : Bytes) (p : ℕ → Bool) (to : (k : ℕ) → T (p k) → Named x nm (suc k)) (back : (k : ℕ) → Named x nm (suc k) → T (p k))
-    (small : x .explicit ≤ 10000) (lies : (k : ℕ) → Named x nm (suc k) → k ≤ x .explicit) where
+-- p marks the explicit lines that have the name, and no others
+pub record Marked (x : AxisNames) (nm : Bytes) (p : ℕ → Bool) : Type 0 where
+  pub to : (k : ℕ) → T (p k) → (k ≤ x .explicit) × Named x nm (suc k)
+  pub back : (k : ℕ) → k ≤ x .explicit → Named x nm (suc k) → T (p k)
+
+module _ (x : AxisNames) (nm : Bytes) (p : ℕ → Bool) (marked : Marked x nm p) (small : x .explicit ≤ 10000) where
   -- lines from f on, endward
   up : (f m : ℕ) → f ≤ top → Nth (λ l. Counts x nm endward (pos l)) f (suc m) (upFrom (x .explicit) p f m)
   up f m h =
       seek-nth (λ l. Counts x nm endward (pos l)) p (suc (x .explicit)) top
-      (λ k h t. inl (omega arith, to k t))
-      (λ k h c. ⊎-elim (λ w. back k (w .1)) (λ w. absurd (omega arith)) c)
+      (λ k h t. inl (marked .to k t))
+      (λ k h c. ⊎-elim (λ w. marked .back k (w .0) (w .1)) (λ w. absurd (omega arith)) c)
       (λ k h. inr h)
-      (λ k h b t. let q : k ≤ x .explicit = lies k (to k t) in omega arith)
+      (λ k h b t. omega (arith, marked .to k t .0))
       (top - f) f m (omega arith) (omega arith)
 
   pub forwards-index : (m : ℕ) → CountsTo x nm endward (pos 0) 0 (suc m) (forwards (x .explicit) p (pos 0) m)
@@ -69,8 +65,8 @@ module _ (x : AxisNames) (nm : Bytes) (p : ℕ → Bool) (to : (k : ℕ) → T (
       → Nth (λ d. Counts x nm startward (pos l -ℤ pos d)) 0 (suc m) (settle (suc l) (seek (λ d. p (l - d)) (suc l) 0 m))
   down l m h =
       within (λ d. Counts x nm startward (pos l -ℤ pos d)) (λ d. p (l - d)) (suc l) (suc l)
-      (λ k g t. rw (minus-le l k (omega arith)) (omega arith, to (l - k) t))
-      (λ k g c. let q : Counts x nm startward (pos (l - k)) = rw (minus-le l k (omega arith)) at c in back (l - k) (q .1))
+      (λ k g t. rw (minus-le l k (omega arith)) (marked .to (l - k) t))
+      (λ k g c. let q : Counts x nm startward (pos (l - k)) = rw (minus-le l k (omega arith)) at c in marked .back (l - k) (q .0) (q .1))
       (λ k g. rw (minus-lt l k g) tt)
       (λ k g b t. omega arith)
       (suc l) 0 m (omega arith) (omega arith) (omega arith)
@@ -124,7 +120,7 @@ module _ (x : AxisNames) (nm : Bytes) (p : ℕ → Bool) (to : (k : ℕ) → T (
       record {
         distance = 1 + m;
         there = minus-lt 0 (1 + m) (omega arith) ∙ ap negsuc (omega arith);
-        nth = nth-every (λ k. Counts x nm startward (pos 0 -ℤ pos k)) 1 m (λ k h. rw (minus-lt 0 k h) tt);
+        nth = nth-all (λ k. Counts x nm startward (pos 0 -ℤ pos k)) 1 m (λ k h. rw (minus-lt 0 k h) tt);
       }
   backwards-span (pos (suc b)) m =
       let e : pos (suc b) -ℤ pos 1 ≡ pos b = minus-le (suc b) 1 (omega arith) ∙ ap pos (omega arith) in
@@ -149,7 +145,7 @@ module _ (x : AxisNames) (nm : Bytes) (p : ℕ → Bool) (to : (k : ℕ) → T (
       record {
         distance = 1 + m;
         there = rw one-add (ap negsuc (omega arith));
-        nth = nth-every (λ k. Counts x nm startward (negsuc q -ℤ pos k)) 1 m (λ k h. implicit k h);
+        nth = nth-all (λ k. Counts x nm startward (negsuc q -ℤ pos k)) 1 m (λ k h. implicit k h);
       }
     where
       implicit : (k : ℕ) → 1 ≤ k → Counts x nm startward (negsuc q -ℤ pos k)

@@ -1,4 +1,7 @@
--- The specification of line names.
+-- CSS Grid Level 2, 8.3, the rule of named.rs, and what the theorems between them ask.
 pub mod Css
+pub mod Conditions
 pub mod Rule
 pub mod Template
+pub mod Walk
+pub mod Cases

@@ -1,2 +1,7 @@
 -- What the contracts of layer 2 cite.
 pub mod Words
+pub mod Constants
+pub mod Definite
+pub mod Ranges
+pub mod Sums
+pub mod Steps

@@ -1,8 +1,8 @@
 -- A size as one word of a lent table: its kind times 2^32, and the bits of its f32. Any word gives a size.
-use Prim.Native.Nat.{ℕ, _/_, _%_}
-use mathlib.Core.Bool.{Bool, true, false, cond, _&&_}
+use Prim.Native.Nat.{ℕ, _+_, _*_, _/_, _%_}
+use mathlib.Core.Bool.{cond}
 use lib.Dec.{eqb, leb}
-use lib.Ieee.{Float, ofBits, binary32}
+use lib.Ieee.{Float, binary32, ofBits, toBits, isNan}
 use Rattle.sizing.specs.declared.Sizing.{Sizing}
 use Rattle.sizing.specs.declared.Sizing.the-variants.{Length, Percent, Fraction, Auto, MinContent, MaxContent, FitContentLength, FitContentPercent}
 use Rattle.sizing.specs.declared.MinMax.{MinMax}
@@ -39,3 +39,34 @@ sizingOf word = sizingOfKind (word / 4294967296) (word % 4294967296)
 
 abbrev pub minMaxOf : ℕ → ℕ → MinMax
 minMaxOf low high = record { min = sizingOf low; max = sizingOf high }
+
+-- the word of a kind and bits
+abbrev pub sizeWordOf : ℕ → ℕ → ℕ
+sizeWordOf kind bits = kind * 4294967296 + bits
+
+-- the kind that a size is printed by
+abbrev pub kindOf : Sizing → ℕ
+kindOf (Length v) = 0
+kindOf (Percent p) = 1
+kindOf (Fraction v) = 2
+kindOf Auto = 3
+kindOf MinContent = 4
+kindOf MaxContent = 5
+kindOf (FitContentLength v) = 6
+kindOf (FitContentPercent p) = 7
+
+-- the bits of an f32; a NaN, which is no size, is printed as 0
+unfoldable pub printedBits : Float → ℕ
+unfolding isNan toBits
+printedBits x = cond (isNan x) 0 (toBits binary32 x)
+
+-- the bits that a size is printed by; a keyword has value zero
+abbrev pub bitsOf : Sizing → ℕ
+bitsOf (Length v) = printedBits v
+bitsOf (Percent p) = printedBits p
+bitsOf (Fraction v) = printedBits v
+bitsOf Auto = 0
+bitsOf MinContent = 0
+bitsOf MaxContent = 0
+bitsOf (FitContentLength v) = printedBits v
+bitsOf (FitContentPercent p) = printedBits p

@@ -1,4 +1,6 @@
 // Layer 2: sizes of tracks, and the words that hold them.
+pub mod definite;
+pub mod range;
 pub mod word;
 
 // The size of a track at one end.

@@ -5,19 +5,14 @@ use Rattle.sizing.specs.Words.{floatUpTo}
 use Rattle.sizing.proofs.Bits.{no-nan}
 use Rattle.sizing.proofs.word.float_up_to.Statement.{statement}
 use Rattle.sizing.proofs.word.float_up_to.Tie as tie
-use Rattle.sizing.proofs.word.float_up_to.Reads as reads
-use Rattle.sizing.proofs.word.float_up_to.Lts as lts
 
--- src/word.rt:13:16
 float-from-bits-result : tie.Need-float-from-bits-result
 float-from-bits-result c = let h : c .before .args .bits ≤ 0x477fff00 = omega arith in no-nan (c .before .args .bits) h
 
--- src/word.rt:13:9
 returns : tie.Need-returns
 unfolding floatUpTo
 returns c = rw (le-leb (c .before .args .bits) (c .before .args .most) (c .if1 .taken))
 
--- src/word.rt:8:1
 returns-2 : tie.Need-returns-2
 unfolding floatUpTo
 returns-2 c = rw (lt-leb (c .before .args .bits) (c .before .args .most) (c .if1 .left))

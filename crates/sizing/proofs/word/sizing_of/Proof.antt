@@ -2,23 +2,16 @@ use Rattle.sizing.specs.Words.{sizingOf}
 use borrow.Author.Needs.{needs}
 use Rattle.sizing.proofs.word.sizing_of.Statement.{statement}
 use Rattle.sizing.proofs.word.sizing_of.Tie as tie
-use Rattle.sizing.proofs.word.sizing_of.Reads as reads
-use Rattle.sizing.proofs.word.sizing_of.Lts as lts
-use Rattle.sizing.proofs.word.sizing_of_kind.Reads as sizing-of-kind-reads
 
--- src/word.rt:38:20
 cast-sizing-of-kind : tie.Need-cast-sizing-of-kind
 cast-sizing-of-kind c = search needs
 
--- src/word.rt:38:51
 cast-sizing-of-kind-2 : tie.Need-cast-sizing-of-kind-2
 cast-sizing-of-kind-2 c = search needs
 
--- src/word.rt:38:5
 sizing-of-kind-requires : tie.Need-sizing-of-kind-requires
 sizing-of-kind-requires c κs = search needs
 
--- src/word.rt:35:1
 returns : tie.Need-returns
 unfolding sizingOf
 returns c = c .sizing-of-kind .ensures

@@ -3,66 +3,50 @@ use Rattle.sizing.specs.Words.{sizingOfKind}
 use borrow.Author.Needs.{needs}
 use Rattle.sizing.proofs.word.sizing_of_kind.Statement.{statement}
 use Rattle.sizing.proofs.word.sizing_of_kind.Tie as tie
-use Rattle.sizing.proofs.word.sizing_of_kind.Reads as reads
-use Rattle.sizing.proofs.word.sizing_of_kind.Lts as lts
-use Rattle.sizing.proofs.word.float_up_to.Reads as float-up-to-reads
 
--- src/word.rt:23:29
 float-up-to-requires : tie.Need-float-up-to-requires
 float-up-to-requires c κs = search needs
 
--- src/word.rt:24:30
 float-up-to-requires-2 : tie.Need-float-up-to-requires-2
 float-up-to-requires-2 c κs = search needs
 
--- src/word.rt:25:31
 float-up-to-requires-3 : tie.Need-float-up-to-requires-3
 float-up-to-requires-3 c κs = search needs
 
--- src/word.rt:28:39
 float-up-to-requires-4 : tie.Need-float-up-to-requires-4
 float-up-to-requires-4 c κs = search needs
 
--- src/word.rt:29:40
 float-up-to-requires-5 : tie.Need-float-up-to-requires-5
 float-up-to-requires-5 c κs = search needs
 
--- src/word.rt:19:1
 returns : tie.Need-returns
 unfolding sizingOfKind
 returns c = simp (c .before .match .keys1, c .float-up-to .ensures)
 
--- src/word.rt:19:1
 returns-2 : tie.Need-returns-2
 unfolding sizingOfKind
 returns-2 c = simp (c .before .match .keys2, c .float-up-to2 .ensures)
 
--- src/word.rt:19:1
 returns-3 : tie.Need-returns-3
 unfolding sizingOfKind
 returns-3 c = simp (c .before .match .keys3, c .float-up-to3 .ensures)
 
--- src/word.rt:19:1
 returns-4 : tie.Need-returns-4
 unfolding sizingOfKind
 returns-4 c = simp (c .match .keys4)
 
--- src/word.rt:19:1
 returns-5 : tie.Need-returns-5
 unfolding sizingOfKind
 returns-5 c = simp (c .match .keys5)
 
--- src/word.rt:19:1
 returns-6 : tie.Need-returns-6
 unfolding sizingOfKind
 returns-6 c = simp (c .before .match .keys6, c .float-up-to4 .ensures)
 
--- src/word.rt:19:1
 returns-7 : tie.Need-returns-7
 unfolding sizingOfKind
 returns-7 c = simp (c .before .match .keys7, c .float-up-to5 .ensures)
 
--- src/word.rt:19:1
 returns-8 : tie.Need-returns-8
 unfolding sizingOfKind
 returns-8 c = let n = c .match .rest in simp (ne-eqb _ _ (n .1), ne-eqb _ _ (n .0 .1), ne-eqb _ _ (n .0 .0 .1), ne-eqb _ _ (n .0 .0 .0 .1), ne-eqb _ _ (n .0 .0 .0 .0 .1), ne-eqb _ _ (n .0 .0 .0 .0 .0 .1), ne-eqb _ _ (n .0 .0 .0 .0 .0 .0 .1))

@@ -1,33 +1,12 @@
--- The meaning is sure: CSS counts to one line alone, there is always one, and `Nth` is counting.
--- Assumes nothing.
-use mathlib.Core.Path.{_≡_, refl, sym, _∙_, ap}
-use mathlib.Core.Logic.{_⊎_, inl, inr, ⊎-elim}
+-- The n-th number is what one would count to: n numbers pass from the first to it, itself among them. Assumes nothing.
+use mathlib.Core.Path.{_≡_, refl, _∙_}
 use mathlib.Core.Bool.{Bool, true, false}
-use mathlib.Core.List.{List, _++_}
-use Prim.Native.Nat.{ℕ, zero, suc, pred, _+_, _-_, _≤_, _<_}
+use Prim.Native.Nat.{ℕ, zero, suc, _+_, _-_, _≤_, _<_}
 use native.Mathlib.Nat.{zero-add, add-zero, add-suc, suc-add}
 use native.Mathlib.Omega.{arith}
 use lib.Dec.{T}
-use lib.IntN.{ℤ, pos, negsuc}
-use Rattle.coordinates.specs.Lines.{held}
-use Rattle.line_placement.specs.Css.{AxisNames, Bytes, Side, suffix, Named, Way, along, Counts, Nearest, Nth, CountsTo, CssLine, edged, bare, index, back, CssSpan}
-use Rattle.line_placement.proofs.Counting.{lt-or-ge, nth-unique, nth-reached, nearest-unique}
-
-pub counts-unique : (x : AxisNames) (nm : Bytes) (w : Way) (s : ℤ) (f n : ℕ) (l m : ℤ) → CountsTo x nm w s f n l → CountsTo x nm w s f n m → l ≡ m
-counts-unique x nm w s f n l m p q =
-    let e : p .distance ≡ q .distance = nth-unique (λ k. Counts x nm w (along w s k)) n f (p .distance) (q .distance) (p .nth) (q .nth) in
-    sym (p .there) ∙ ap (λ (k : ℕ). along w s k) e ∙ q .there
-
-pub line-unique : (x : AxisNames) (nm : Bytes) (s : Side) {i l m : ℤ} → CssLine x nm s i l → CssLine x nm s i m → l ≡ m
-line-unique x nm s (edged a p) (edged b q) = ap (λ (k : ℕ). held (pos k)) (nearest-unique (λ k. Named x (nm ++ suffix s) (suc k)) 0 a b p q)
-line-unique x nm s (edged a p) (bare b out q) = absurd (out a (p .holds))
-line-unique x nm s (bare a out p) (edged b q) = absurd (out b (q .holds))
-line-unique x nm s (bare a u p) (bare b v q) = ap held (counts-unique x nm _ _ _ _ a b p q)
-line-unique x nm s (index i a p) (index j b q) = ap held (counts-unique x nm _ _ _ _ a b p q)
-line-unique x nm s (back i a p) (back j b q) = ap held (counts-unique x nm _ _ _ _ a b p q)
-
-pub span-unique : (x : AxisNames) (nm : Bytes) (w : Way) (o : ℤ) (n : ℕ) (l m : ℤ) → CssSpan x nm w o n l → CssSpan x nm w o n m → l ≡ m
-span-unique x nm w o n l m p q = p .limited ∙ ap held (counts-unique x nm w o 1 (suc (pred n)) (p .line) (q .line) (p .counted) (q .counted)) ∙ sym (q .limited)
+use Rattle.line_placement.specs.Css.{Nearest, Nth}
+use Rattle.line_placement.proofs.Counting.{nth-reached}
 
 -- how many of the k numbers from f on pass a test
 abbrev one : Bool → ℕ
