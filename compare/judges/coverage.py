@@ -8,7 +8,6 @@ import sys
 
 import build
 import model
-import reader
 import rules
 from compare import MOST_ENTRIES_ASKED, Rust
 

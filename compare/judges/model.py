@@ -120,11 +120,12 @@ class Answer:
             return [refusal_line(self.refused.number, self.refused.line)]
         return sheet_lines(self.state)
 
-    def full_answer(self):
-        """The answers of the calls, document 01's output and the line names."""
+    def full_answer(self, names=True):
+        """The answers of the calls, document 01's output and, where asked, the line names."""
         if self.refused:
             return self.sheet_answer()
-        return [entry_line(number) for number in self.numbers] + sheet_lines(self.state) + name_lines(self.state)
+        lines = [entry_line(number) for number in self.numbers] + sheet_lines(self.state)
+        return lines + name_lines(self.state) if names else lines
 
 
 def text_of(lines):

@@ -11,6 +11,7 @@ import maker
 import model
 import reader
 import rules
+from answer import calls_of
 from compare import Rust, compare, compare_lines
 
 SEED = 1
@@ -20,7 +21,9 @@ DEFAULT_CASES = os.path.join(build.REPOSITORY, "..", "shared", "cases")
 ACCEPTED = {"general": 1300, "tie": 200, "full": 40, "writing_out": 60, "spoiled": 40}
 LONGEST_BLOCK = 3500
 CUT = {"large": 60, "far": 40, "over": 12, "writing_out": 20, "full": 4}
-REFUSED_FOR_EACH = 6
+# Refused sheets for each number, record and kind of field.
+REFUSED_FOR_EACH = {1: 9, 3: 4, 4: 6}
+REFUSED_FOR_OTHERS = 25
 ENTRY_LISTS = 150
 STORE_LISTS = 4
 
@@ -37,6 +40,8 @@ class Case:
         self.calls = calls
         self.answer = model.Answer(sheet, calls)
         self.refused = self.answer.refused
+        if self.refused:
+            self.calls = []
         self.lines = self.answer_lines(rust)
 
     def answer_lines(self, rust):
@@ -97,8 +102,7 @@ def paper_case(folder, name, rust):
     """A case of the papers; the Rust's answer has to be the one that lies beside it."""
     sheet = build.read_bytes(os.path.join(folder, name + ".in"))
     path = os.path.join(folder, name + ".enter")
-    rows = build.read_bytes(path).split(b"\n")[:-1] if os.path.exists(path) else []
-    calls = [(letter.decode(), int(line), text) for letter, line, text in (row.split(b"\t") for row in rows)]
+    calls = calls_of(path if os.path.exists(path) else None)
     case = Case(name, sheet, calls, rust)
     given = build.read_bytes(os.path.join(folder, name + ".out")).decode().splitlines()
     given = [line for line in given if not line.startswith("enter")]
@@ -182,7 +186,7 @@ def write_refused(rust):
                 continue
             key = (family == "long", refusal_key(case))
             seen[key] = seen.get(key, 0) + 1
-            if seen[key] <= REFUSED_FOR_EACH:
+            if seen[key] <= REFUSED_FOR_EACH.get(case.refused.number, REFUSED_FOR_OTHERS):
                 cases.append(case)
     write("refused.txt", [case.block() for case in cases])
 
