@@ -1,6 +1,6 @@
 -- A template as a list of components (document 01, layer 3; CSS Grid Level 2, 7.2), and the words that hold one.
 use Prim.Native.Nat.{ℕ, zero, suc, _/_, _%_}
-use mathlib.Core.Bool.{Bool, true, false, cond}
+use mathlib.Core.Bool.{cond}
 use mathlib.Core.List.{List, [], _∷_, map}
 use lib.Dec.{eqb}
 use lib.ListN.{getD}

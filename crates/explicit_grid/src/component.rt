@@ -1,7 +1,6 @@
 // Components and tracks as words of lent tables. Any word gives a component.
 ghost use mathlib.Core.Path.{_≡_};
 ghost use lib.ListN.{getD};
-ghost use Rattle.sizing.specs.Words.{minMaxOf};
 ghost use Rattle.explicit_grid.specs.Template.{countOf, componentOf, trackAt};
 use crate::GridTemplateComponent;
 use crate::RepetitionCount;

@@ -3,20 +3,14 @@ use Rattle.explicit_grid.specs.Template.{componentOf}
 use borrow.Author.Needs.{needs}
 use Rattle.explicit_grid.proofs.component.component_of.Statement.{statement}
 use Rattle.explicit_grid.proofs.component.component_of.Tie as tie
-use Rattle.explicit_grid.proofs.component.component_of.Reads as reads
-use Rattle.explicit_grid.proofs.component.component_of.Lts as lts
-use Rattle.explicit_grid.proofs.component.count_of.Reads as count-of-reads
 
--- src/component.rt:27:9
 count-of-requires : tie.Need-count-of-requires
 count-of-requires c κs = search needs
 
--- src/component.rt:30:9
 returns : tie.Need-returns
 unfolding componentOf
 returns c = rw (c .before .count-of .ensures, eq-eqb _ _ (c .if1 .taken))
 
--- src/component.rt:23:1
 returns-2 : tie.Need-returns-2
 unfolding componentOf
 returns-2 c = rw (c .before .count-of .ensures, ne-eqb _ _ (c .if1 .left))

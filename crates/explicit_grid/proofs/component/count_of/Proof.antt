@@ -1,22 +1,16 @@
 use borrow.Author.Tests.{ne-eqb}
 use Rattle.explicit_grid.proofs.component.count_of.Statement.{statement}
 use Rattle.explicit_grid.proofs.component.count_of.Tie as tie
-use Rattle.explicit_grid.proofs.component.count_of.Reads as reads
-use Rattle.explicit_grid.proofs.component.count_of.Lts as lts
 
--- src/component.rt:11:1
 returns : tie.Need-returns
 returns c = simp (c .match .keys1)
 
--- src/component.rt:11:1
 returns-2 : tie.Need-returns-2
 returns-2 c = simp (c .match .keys2)
 
--- src/component.rt:11:1
 returns-3 : tie.Need-returns-3
 returns-3 c = simp (c .match .keys3)
 
--- src/component.rt:11:1
 returns-4 : tie.Need-returns-4
 returns-4 c = let n = c .match .rest in simp (ne-eqb _ _ (n .1), ne-eqb _ _ (n .0 .1), ne-eqb _ _ (n .0 .0 .1))
 

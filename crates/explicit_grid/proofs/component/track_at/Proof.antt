@@ -1,28 +1,19 @@
 use borrow.Author.Needs.{needs}
 use Rattle.explicit_grid.proofs.component.track_at.Statement.{statement}
 use Rattle.explicit_grid.proofs.component.track_at.Tie as tie
-use Rattle.explicit_grid.proofs.component.track_at.Reads as reads
-use Rattle.explicit_grid.proofs.component.track_at.Lts as lts
-use Rattle.explicit_grid.proofs.component.word_at.Reads as word-at-reads
-use Rattle.sizing.proofs.word.sizing_of.Reads as sizing-of-reads
 
--- src/component.rt:58:39
 word-at-requires : tie.Need-word-at-requires
 word-at-requires c κs = search needs
 
--- src/component.rt:58:9
 sizing-of-requires : tie.Need-sizing-of-requires
 sizing-of-requires c κs = search needs
 
--- src/component.rt:59:39
 word-at-requires-2 : tie.Need-word-at-requires-2
 word-at-requires-2 c κs = search needs
 
--- src/component.rt:59:9
 sizing-of-requires-2 : tie.Need-sizing-of-requires-2
 sizing-of-requires-2 c κs = search needs
 
--- src/component.rt:55:1
 returns : tie.Need-returns
 returns c = rw (c .before .before .sizing-of .ensures, c .sizing-of2 .ensures, c .before .before .before .word-at .ensures, c .before .word-at2 .ensures)
 

@@ -3,22 +3,16 @@ use mathlib.Core.Path.{sym}
 use borrow.Author.Needs.{needs}
 use Rattle.explicit_grid.proofs.component.word_at.Statement.{statement}
 use Rattle.explicit_grid.proofs.component.word_at.Tie as tie
-use Rattle.explicit_grid.proofs.component.word_at.Reads as reads
-use Rattle.explicit_grid.proofs.component.word_at.Lts as lts
 
--- src/component.rt:49:16
 mul-result : tie.Need-mul-result
 mul-result c = search needs
 
--- src/component.rt:49:16
 shared-slice-read-result : tie.Need-shared-slice-read-result
 shared-slice-read-result c = search needs
 
--- src/component.rt:49:9
 returns : tie.Need-returns
 returns c = search needs
 
--- src/component.rt:44:1
 returns-2 : tie.Need-returns-2
 returns-2 c = sym (List·getD-eq-default (c .before .args .words .now) 0 (c .if1 .left))
 

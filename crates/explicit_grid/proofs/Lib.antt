@@ -1,0 +1,10 @@
+-- Laws of layer 3.
+pub mod Tests
+pub mod Rounding
+pub mod Exact
+pub mod Walk
+pub mod Bounds
+pub mod Held
+pub mod Valid
+pub mod Css
+pub mod Answer

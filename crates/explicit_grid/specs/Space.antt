@@ -1,0 +1,55 @@
+-- The space that a template uses (document 01, layer 3): all sums are f32, in template order, each operation rounded once.
+use Prim.Native.Nat.{ℕ}
+use mathlib.Core.List.{List, [], _∷_, map}
+use lib.IntN.{pos}
+use lib.Ieee.{Float, binary32, mul, ofInt}
+use Rattle.sizing.specs.Words.{zero32}
+use Rattle.sizing.specs.Sums.{sumFrom}
+use Rattle.sizing.specs.Definite.{trackValueOf, orZero}
+use Rattle.sizing.specs.declared.MinMax.{MinMax}
+use Rattle.explicit_grid.specs.Template.{Component}
+use Rattle.explicit_grid.specs.Counts.{automaticTracks}
+use Rattle.explicit_grid.specs.declared.RepetitionCount.{RepetitionCount}
+use Rattle.explicit_grid.specs.declared.RepetitionCount.the-variants.{Single, Count, AutoFill, AutoFit}
+
+-- a count as an f32
+abbrev pub whole32 : ℕ → Float
+whole32 n = ofInt binary32 (pos n)
+
+-- "a track counts as its definite maximum raised to its definite minimum, else its minimum"; one with no definite size counts as 0:
+-- a valid template with an automatic repeat has none
+abbrev pub trackSpace : Float → MinMax → Float
+trackSpace inner t = orZero (trackValueOf t inner)
+
+-- a track inside the automatic repeat
+abbrev pub repeatedTrackSpace : Float → MinMax → Float
+repeatedTrackSpace inner t = trackSpace inner t
+
+-- a track of a component, by how often the component is written out
+abbrev pub spaceIn : RepetitionCount → Float → MinMax → Float
+spaceIn Single inner t = trackSpace inner t
+spaceIn (Count n) inner t = trackSpace inner t
+spaceIn AutoFill inner t = repeatedTrackSpace inner t
+spaceIn AutoFit inner t = repeatedTrackSpace inner t
+
+-- a single is its track
+abbrev pub singleSpace : Float → List MinMax → Float
+singleSpace inner [] = zero32
+singleSpace inner (t ∷ ts) = trackSpace inner t
+
+-- "a counted repeat is the sum of its tracks times its count"; an automatic one uses nothing outside itself
+abbrev pub spaceOf : Float → RepetitionCount → List MinMax → Float
+spaceOf inner Single ts = singleSpace inner ts
+spaceOf inner (Count n) ts = mul binary32 (sumFrom zero32 (map (trackSpace inner) ts)) (whole32 n)
+spaceOf inner AutoFill ts = zero32
+spaceOf inner AutoFit ts = zero32
+
+-- the space used outside the automatic repeat, in template order
+unfoldable pub outsideSpace : Float → List Component → Float
+unfolding sumFrom
+outsideSpace inner cs = sumFrom zero32 (map (λ (c : Component). spaceOf inner (c .count) (c .tracks)) cs)
+
+-- the space of one repetition
+unfoldable pub repetitionSpace : Float → List Component → Float
+unfolding sumFrom automaticTracks
+repetitionSpace inner cs = sumFrom zero32 (map (repeatedTrackSpace inner) (automaticTracks cs))

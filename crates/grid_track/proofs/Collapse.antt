@@ -1,0 +1,204 @@
+-- The records against CSS's rules: collapse, implicit sizes, and what stands after a template line. Assumes nothing.
+use Prim.Native.Nat.{ℕ, zero, suc, _+_, _*_, _-_, _/_, _%_, _≤_, _<_}
+use native.Mathlib.Omega.{arith}
+use native.Mathlib.Nat.{mod-lt, mod-eq-of-lt, div-add-mod, add-mul-mod-self-left, mul-add, mul-le-mul-left}
+use mathlib.Core.Path.{_≡_, refl, sym, ap, _∙_}
+use mathlib.Core.Logic.{⊎-elim, _↔_}
+use mathlib.Core.Bool.{Bool, true, false, not, _&&_, _||_}
+use mathlib.Core.List.{List, [], _∷_}
+use lib.Dec.{leb, eqb}
+use lib.ListN.{length, getD, List·getD-eq-default}
+use borrow.Author.Tests.{lt-leb, leb-false, eq-eqb, ne-eqb, eqb-true, eqb-false}
+use Rattle.sizing.specs.declared.MinMax.{MinMax}
+use Rattle.explicit_grid.specs.Template.{Component}
+use Rattle.grid_track.specs.declared.GridTrack.{GridTrack}
+use Rattle.grid_track.specs.declared.WrittenTrack.{WrittenTrack}
+use Rattle.grid_track.specs.declared.AxisTracks.{AxisTracks}
+use Rattle.grid_track.specs.Tracks.{autoSize, gutterOf, trackOf}
+use Rattle.grid_track.specs.Written.{writtenOut}
+use Rattle.grid_track.specs.Records.{negativeOf, explicitOf, tracksIn, spareAt, negativeAt, allTracks, noTrack, itemAt, closedIn, openTo, fitEndsIn, shutGutter, recordIn, recordsOf}
+use Rattle.grid_track.specs.Steps.{totalsOf, cursorOf, writtenAt}
+use Rattle.grid_track.specs.Css.{Collapses, Stays, forwards, backwards}
+use Rattle.grid_track.specs.Lines.{Stands}
+use Rattle.grid_track.proofs.Lists.{lt-or-ge}
+use Rattle.grid_track.proofs.Cursors.{length-written, written-at}
+use Rattle.grid_track.proofs.AllTracks.{countIn, length-all, get-all, open-le, open-closed, open-last, gutter-late, not-fit, track-negative, track-explicit, track-past, records-in}
+
+-- a track is collapsed exactly by CSS's rule
+pub track-css : (l : List WrittenTrack) (item : ℕ → Bool) (t : ℕ) → (closedIn l item t ≡ true) ↔ Collapses l item t
+track-css l item t = (to ((getD l t noTrack) .fit) (item t), from ((getD l t noTrack) .fit) (item t))
+  where
+    to : (f i : Bool) → (f && not i) ≡ true → (f ≡ true) × (i ≡ false)
+    to true true e = (refl, sym e)
+    to true false e = (refl, refl)
+    to false i e = let z : _≡_ {A = ℕ} 0 1 = cc in absurd (omega arith)
+
+    from : (f i : Bool) → (f ≡ true) × (i ≡ false) → (f && not i) ≡ true
+    from f i h = rw (h .0, h .1)
+
+open-css : (l : List WrittenTrack) (item : ℕ → Bool) (t : ℕ) → closedIn l item t ≡ false → Collapses l item t → ⊥
+open-css l item t e h = let f = track-css l item t .1 h in let z : _≡_ {A = ℕ} 0 1 = cc in omega arith
+
+closed-css : (l : List WrittenTrack) (item : ℕ → Bool) (t : ℕ) → (Collapses l item t → ⊥) → closedIn l item t ≡ false
+closed-css l item t h = go (closedIn l item t) refl
+  where
+    go : (b : Bool) → closedIn l item t ≡ b → closedIn l item t ≡ false
+    go true e = absurd (h (track-css l item t .0 e))
+    go false e = e
+
+-- an open track at or past g, exactly where g is below the open end
+last-open : (f : ℕ → Bool) (n g : ℕ) → g < openTo f n → (t : ℕ) × (g ≤ t) × (t < n) × (f t ≡ false)
+last-open f zero g h = absurd (omega (arith, open-le f zero))
+last-open f (suc n) g h = go (last-open f n g) (f n) refl
+  where
+    go : (g < openTo f n → (t : ℕ) × (g ≤ t) × (t < n) × (f t ≡ false)) → (b : Bool) → f n ≡ b → (t : ℕ) × (g ≤ t) × (t < suc n) × (f t ≡ false)
+    go rec true e = let r = rec (omega (arith, open-closed f n e)) in (r .0, r .1, omega (arith, r .2), r .3)
+    go rec false e = (n, omega (arith, open-last f n e), omega arith, e)
+
+open-above : (f : ℕ → Bool) (n t : ℕ) → t < n → f t ≡ false → t < openTo f n
+open-above f zero t h e = absurd (omega arith)
+open-above f (suc n) t h e = go (λ k. open-above f n t k e) (f n) refl
+  where
+    go : (t < n → t < openTo f n) → (b : Bool) → f n ≡ b → t < openTo f (suc n)
+    go rec true q =
+        ⊎-elim
+        (λ (k : t < n). omega (arith, open-closed f n q, rec k))
+        (λ (k : n ≤ t). let s : t ≡ n = omega arith in let x : f n ≡ false = rw s at e in let z : _≡_ {A = ℕ} 0 1 = cc in absurd (omega arith))
+        (lt-or-ge t n)
+    go rec false q = omega (arith, open-last f n q)
+
+or-false : (a b : Bool) → (a || b) ≡ false → (a ≡ false) × (b ≡ false)
+or-false true b e = let z : _≡_ {A = ℕ} 0 1 = cc in absurd (omega arith)
+or-false false b e = (refl, e)
+
+-- a gutter is open exactly by CSS's rule
+pub gutter-css : (l : List WrittenTrack) (item : ℕ → Bool) (g : ℕ) → g ≤ length l → (shutGutter (closedIn l item) (fitEndsIn l) (length l) g ≡ false) ↔ Stays l item g
+gutter-css l item zero h = ((λ e. let z : _≡_ {A = ℕ} 0 1 = cc in absurd (omega arith)), (λ s. absurd (omega (arith, s .beside))))
+gutter-css l item (suc t) h =
+    let same = gutter-late (closedIn l item) (length l) t (fitEndsIn l) (omega arith) (λ e. not-fit (fitEndsIn l) (not (item (length l - 1))) e) in (
+      (λ e.
+          let p = or-false (closedIn l item t) (leb (openTo (closedIn l item) (length l)) (suc t)) (sym same ∙ e) in
+          let r = last-open (closedIn l item) (length l) (suc t) (leb-false _ _ (p .1)) in
+          record { before = t; beside = refl; before-open = (omega arith, open-css l item t (p .0)); after = r .0; later = r .1; after-open = (r .2, open-css l item (r .0) (r .3)) }),
+      (λ s.
+          let b : t ≡ s .before = omega (arith, s .beside) in
+          let x : closedIn l item t ≡ false = rw b (closed-css l item (s .before) (s .before-open .1)) in
+          let y = open-above (closedIn l item) (length l) (s .after) (s .after-open .0) (closed-css l item (s .after) (s .after-open .1)) in
+          same ∙ rw (x, lt-leb (openTo (closedIn l item) (length l)) (suc t) (omega (arith, s .later)))),
+    )
+
+-- the mark of a record is what it was made with
+marked : (k : MinMax) (b : Bool) → (trackOf k b) .collapsed ≡ b
+marked k true = refl
+marked k false = refl
+
+module _ (a : AxisTracks) (cs : List Component) (sp : List MinMax) (items : List ℕ) where
+  -- record 2t + 1 of the list is collapsed exactly where CSS collapses track t
+  pub record-track : (t : ℕ) (d : GridTrack) → t < tracksIn a → ((getD (recordsOf a cs sp items) (2 * t + 1) d) .collapsed ≡ true) ↔ Collapses (allTracks a cs sp) (itemAt items) t
+  record-track t d h =
+      let l = allTracks a cs sp in
+      let half : (2 * t + 1) / 2 ≡ t = omega arith in
+      let odd : (2 * t + 1) % 2 ≡ 1 = omega arith in
+      let e : recordIn l (itemAt items) (a .gap) (2 * t + 1) ≡ trackOf ((getD l t noTrack) .size) (closedIn l (itemAt items) t) = rw (ne-eqb ((2 * t + 1) % 2) 0 (λ z. omega arith), half) in
+      let m : (getD (recordsOf a cs sp items) (2 * t + 1) d) .collapsed ≡ closedIn l (itemAt items) t =
+      ap (λ (x : GridTrack). x .collapsed) (records-in a cs sp items (2 * t + 1) d (omega arith) ∙ e) ∙ marked ((getD l t noTrack) .size) (closedIn l (itemAt items) t) in
+      ((λ x. track-css l (itemAt items) t .0 (sym m ∙ x)), (λ x. m ∙ track-css l (itemAt items) t .1 x))
+
+  -- record 2g of the list is an open gutter exactly where CSS leaves one
+  pub record-gutter : (g : ℕ) (d : GridTrack) → g ≤ tracksIn a → ((getD (recordsOf a cs sp items) (2 * g) d) .collapsed ≡ false) ↔ Stays (allTracks a cs sp) (itemAt items) g
+  record-gutter g d h =
+      let l = allTracks a cs sp in
+      let half : 2 * g / 2 ≡ g = omega arith in
+      let even : 2 * g % 2 ≡ 0 = omega arith in
+      let b = shutGutter (closedIn l (itemAt items)) (fitEndsIn l) (length l) g in
+      let e : recordIn l (itemAt items) (a .gap) (2 * g) ≡ gutterOf (a .gap) b = rw (eq-eqb (2 * g % 2) 0 even, half) in
+      let m : (getD (recordsOf a cs sp items) (2 * g) d) .collapsed ≡ b =
+      ap (λ (x : GridTrack). x .collapsed) (records-in a cs sp items (2 * g) d (omega arith) ∙ e) ∙ marked-gutter b in
+      let within : g ≤ length l = omega (arith, length-all a cs sp) in
+      ((λ x. gutter-css l (itemAt items) g within .0 (sym m ∙ x)), (λ x. m ∙ gutter-css l (itemAt items) g within .1 x))
+    where
+      marked-gutter : (b : Bool) → (gutterOf (a .gap) b) .collapsed ≡ b
+      marked-gutter true = refl
+      marked-gutter false = refl
+
+-- before the grid the spare sizes are aligned to its start
+align : (s m t : ℕ) → 0 < s → t < m → (s - m % s + t) % s ≡ s - 1 - (m - 1 - t) % s
+align s m t pos h =
+    let d = m - 1 - t in
+    let b = m / s in
+    let k = d / s in
+    let em : s * b + m % s ≡ m = div-add-mod m s in
+    let ed : s * k + d % s ≡ d = div-add-mod d s in
+    let am : m % s < s = mod-lt m pos in
+    let ad : d % s < s = mod-lt d pos in
+    let up : k ≤ b = ⊎-elim
+    (λ (g : b < k). let w : s * (b + 1) ≤ s * k = mul-le-mul-left s (omega arith) in absurd (omega (arith, mul-add s b 1)))
+    (λ (g : k ≤ b). g) (lt-or-ge b k) in
+    let x : s * b ≡ s * k + s * (b - k) = ap (λ (j : ℕ). s * j) (let y : b ≡ k + (b - k) = omega arith in y) ∙ mul-add s k (b - k) in
+    let v : s - m % s + t ≡ (s - 1 - d % s) + s * (b - k) = omega arith in
+    rw v (add-mul-mod-self-left (s - 1 - d % s) s (b - k) ∙ mod-eq-of-lt (omega arith))
+
+pub negative-css : (s : List MinMax) (m t : ℕ) → t < m → (negativeAt s m t) .size ≡ backwards s m t
+negative-css s m t h =
+    ⊎-elim
+    (λ (k : length s < 1).
+    let x : length s ≤ (length s - m % length s + t) % length s = omega arith in
+    let y : length s ≤ length s - 1 - (m - 1 - t) % length s = omega arith in
+    List·getD-eq-default s autoSize x ∙ sym (List·getD-eq-default s autoSize y))
+    (λ (k : 1 ≤ length s). ap (λ (i : ℕ). getD s i autoSize) (align (length s) m t k h))
+    (lt-or-ge (length s) 1)
+
+module _ (a : AxisTracks) (cs : List Component) (sp : List MinMax) (item : ℕ → Bool) where
+  -- implicit tracks before the grid take CSS's sizes
+  pub sizes-before : (t : ℕ) → t < negativeOf a → (getD (allTracks a cs sp) t noTrack) .size ≡ backwards sp (negativeOf a) t
+  sizes-before t h =
+      ap (λ (x : WrittenTrack). x .size) (get-all a cs sp t (omega arith) ∙ track-negative a cs sp item t h) ∙ negative-css sp (negativeOf a) t h
+
+  -- and so do the tracks after the template's, those that only an area makes first
+  pub sizes-after : (i : ℕ) → negativeOf a + countIn a cs + i < tracksIn a → (getD (allTracks a cs sp) (negativeOf a + countIn a cs + i) noTrack) .size ≡ forwards sp i
+  sizes-after i h =
+      let t = negativeOf a + countIn a cs + i in
+      let s : t - (negativeOf a + countIn a cs) ≡ i = omega arith in
+      ap (λ (x : WrittenTrack). x .size) (get-all a cs sp t h ∙ track-past a cs sp item t (omega arith)) ∙ ap (spareAt sp) s
+
+-- the first size after the grid is the first spare one, and the last before it the last
+pub first-spare : (s : List MinMax) → forwards s 0 ≡ getD s 0 autoSize
+first-spare [] = refl
+first-spare (x ∷ s) = let h : 0 < length (x ∷ s) = omega arith in ap (λ (i : ℕ). getD (x ∷ s) i autoSize) (mod-eq-of-lt h)
+
+pub last-spare : (s : List MinMax) (m : ℕ) → 0 < m → 0 < length s → backwards s m (m - 1) ≡ getD s (length s - 1) autoSize
+last-spare s m h pos =
+    let z : m - 1 - (m - 1) ≡ 0 = omega arith in
+    let e : (m - 1 - (m - 1)) % length s ≡ 0 = ap (λ (k : ℕ). k % length s) z ∙ mod-eq-of-lt pos in
+    let w : length s - 1 - (m - 1 - (m - 1)) % length s ≡ length s - 1 = omega arith in
+    ap (λ (k : ℕ). getD s k autoSize) w
+
+-- what a track record says of its track
+stands : (x : WrittenTrack) (byte : ℕ) → Stands x byte (trackOf (x .size) (x .fit && not (not (eqb byte 0))))
+stands x byte = go (x .fit) refl (eqb byte 0) refl
+  where
+    go : (f : Bool) → x .fit ≡ f → (z : Bool) → eqb byte 0 ≡ z → Stands x byte (trackOf (x .size) (f && not (not z)))
+    go true e true q = record { is-track = refl; as-written = λ n. absurd (n (e, eqb-true byte 0 q)); shut = λ n. (refl, refl) }
+    go true e false q = record { is-track = refl; as-written = λ n. (refl, refl); shut = λ n. absurd (eqb-false byte 0 q (n .1)) }
+    go false e z q = record { is-track = refl; as-written = λ n. (refl, refl); shut = λ n. let f = n .0 in let w : _≡_ {A = ℕ} 0 1 = cc in absurd (omega arith) }
+
+-- after line j of a template of at most as many tracks as the grid has stands record 2(m + j) - 1: track j
+pub line-record : (a : AxisTracks) (cs : List Component) (sp : List MinMax) (items : List ℕ) (j : ℕ) (d : GridTrack) →
+    1 ≤ j → j ≤ length (writtenOut cs (a .repetitions)) → length (writtenOut cs (a .repetitions)) ≤ explicitOf a →
+    Stands (getD (writtenOut cs (a .repetitions)) (j - 1) noTrack) (getD items (negativeOf a + j - 1) 0) (getD (recordsOf a cs sp items) (2 * (negativeOf a + j) - 1) d)
+line-record a cs sp items j d one low fits =
+    let n = length-written cs (a .repetitions) in
+    let t = negativeOf a + j - 1 in
+    let i = 2 * (negativeOf a + j) - 1 in
+    let l = allTracks a cs sp in
+    let x = getD (writtenOut cs (a .repetitions)) (j - 1) noTrack in
+    let half : i / 2 ≡ t = omega arith in
+    let odd : i % 2 ≡ 1 = omega arith in
+    let in-all : t < tracksIn a = omega arith in
+    let same : getD l t noTrack ≡ x =
+    get-all a cs sp t in-all ∙ track-explicit a cs sp (itemAt items) t (omega arith) (omega arith)
+    ∙ ap (λ (o : ℕ). writtenAt cs (cursorOf (totalsOf (a .repetitions) cs) o)) (let y : t - negativeOf a ≡ j - 1 = omega arith in y)
+    ∙ sym (written-at cs (a .repetitions) (j - 1) (omega arith)) in
+    let e : getD (recordsOf a cs sp items) i d ≡ trackOf (x .size) (x .fit && not (itemAt items t)) =
+    records-in a cs sp items i d (omega arith) ∙ rw (ne-eqb (i % 2) 0 (λ z. omega arith), half, same) in
+    rw e (stands x (getD items t 0))

@@ -1,0 +1,9 @@
+-- What the contracts of layer 5 cite.
+pub mod Tracks
+pub mod Written
+pub mod Records
+pub mod Steps
+pub mod Css
+pub mod Rust
+pub mod Lines
+pub mod Cases

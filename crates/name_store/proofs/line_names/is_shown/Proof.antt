@@ -1,0 +1,19 @@
+use borrow.Author.Tests.{eq-eqb, ne-eqb}
+use borrow.Author.Needs.{needs}
+use Rattle.name_store.proofs.line_names.is_shown.Statement.{statement}
+use Rattle.name_store.proofs.line_names.is_shown.Tie as tie
+
+returns : tie.Need-returns
+returns c = rw (ne-eqb _ _ (c .if1 .taken))
+
+name-in-requires : tie.Need-name-in-requires
+name-in-requires c κs = search needs
+
+written-before-requires : tie.Need-written-before-requires
+written-before-requires c κs = search needs
+
+returns-2 : tie.Need-returns-2
+returns-2 c = rw (eq-eqb _ _ (c .before .before .if1 .left), ← c .before .name-in .ensures, c .written-before .ensures)
+
+pub is-shown-spec : {M : Type 1} → statement M
+is-shown-spec = tie.close (tie.spec returns name-in-requires written-before-requires returns-2)

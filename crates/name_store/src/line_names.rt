@@ -1,0 +1,116 @@
+// The names of the explicit lines of an axis, each shown as a part of the axis's store.
+ghost use mathlib.Core.Path.{_≡_};
+ghost use mathlib.Core.List.{[]};
+ghost use Prim.Native.Nat.{_≤_};
+ghost use lib.ListN.{length, getD, take, drop};
+ghost use Rattle.line_placement.specs.Rule.{any, written?};
+ghost use Rattle.name_store.specs.Entries.{entryOf, namedEntry, entriesOf};
+ghost use Rattle.name_store.specs.LineNames.{shows, lineNamesOf, explicitLineNames, lineCount, ofAxis};
+use crate::NameEntry;
+use crate::bytes::same_bytes;
+use crate::entry::entry_of;
+use crate::entry::name_in;
+use coordinates::Axis;
+
+// How many lists of line names an axis has, by its entries and its explicit tracks.
+pub fn line_count(count: u32, explicit: u32) -> u64
+    ensures { λ r. ⌜ r ≡ lineCount count explicit ⌝ }
+{
+    if count == 0 {
+        return 0;
+    }
+    explicit as u64 + 1
+}
+
+// Whether an entry is on the line and has the name.
+pub fn is_written(store: &[u8], entry: NameEntry, line: u32, name: &[u8]) -> bool
+    ensures { λ r. ⌜ r ≡ written? (now (name .entry)) line (namedEntry (now (store .entry)) entry) ⌝ }
+{
+    if entry.line != line {
+        return false;
+    }
+    same_bytes(name_in(store, entry), name)
+}
+
+// Whether one of the first `end` entries is on the line and has the name.
+fn written_before(entries: &[u64], store: &[u8], end: usize, line: u32, name: &[u8]) -> bool
+    requires { ⌜ end ≤ length (now entries) ⌝ }
+    ensures { λ r. ⌜ r ≡ any (written? (now (name .entry)) line) (entriesOf (take end (now (entries .entry))) (now (store .entry))) ⌝ }
+{
+    let mut i = 0;
+    while i < end {
+        if is_written(store, entry_of(entries[i]), line, name) {
+            return true;
+        }
+        i += 1;
+    }
+    false
+}
+
+// Whether the entry at a place shows its name on the line: it is there, and no entry before has the name there.
+fn is_shown(entries: &[u64], store: &[u8], place: usize, line: u32, entry: NameEntry) -> bool
+    requires { ⌜ place ≤ length (now entries) ⌝ }
+    ensures { λ r. ⌜ r ≡ shows line (entriesOf (take place (now (entries .entry))) (now (store .entry))) (namedEntry (now (store .entry)) entry) ⌝ }
+{
+    if entry.line != line {
+        return false;
+    }
+    !written_before(entries, store, place, line, name_in(store, entry))
+}
+
+// The name at that place, from 0, among those that the line shows; an empty part where it shows fewer.
+fn shown_name<'a>(entries: &[u64], store: &'a [u8], line: u32, place: u32) -> &'a [u8]
+    ensures { λ r. ⌜ now r ≡ getD (lineNamesOf (entriesOf (now (entries .entry)) (now (store .entry))) line) place [] ⌝ }
+{
+    let mut left = place;
+    let mut i = 0;
+    while i < entries.len() {
+        let entry = entry_of(entries[i]);
+        if is_shown(entries, store, i, line, entry) {
+            if left == 0 {
+                return name_in(store, entry);
+            }
+            left -= 1;
+        }
+        i += 1;
+    }
+    &store[0..0]
+}
+
+// A name of a line, by its place from 0: a part of the store, empty where that line and place hold none.
+pub fn line_name<'a>(
+    entries: &[u64],
+    store: &'a [u8],
+    explicit: u32,
+    line: u32,
+    place: u32,
+) -> &'a [u8]
+    ensures { λ r. ⌜ now r ≡ getD (explicitLineNames explicit (entriesOf (now (entries .entry)) (now (store .entry))) line) place [] ⌝ }
+{
+    if line < 1 {
+        return &store[0..0];
+    }
+    if explicit < line - 1 {
+        return &store[0..0];
+    }
+    shown_name(entries, store, line, place)
+}
+
+// A name of a line of an axis: a part of the column store or of the row store.
+pub fn line_name_in<'a>(
+    columns: &[u64],
+    rows: &[u64],
+    columnstore: &'a [u8],
+    rowstore: &'a [u8],
+    axis: Axis,
+    explicit: u32,
+    line: u32,
+    place: u32,
+) -> &'a [u8]
+    ensures { λ r. ⌜ now r ≡ getD (explicitLineNames explicit (entriesOf (ofAxis axis (now (columns .entry)) (now (rows .entry))) (ofAxis axis (now (columnstore .entry)) (now (rowstore .entry)))) line) place [] ⌝ }
+{
+    match axis {
+        Axis::Column => line_name(columns, columnstore, explicit, line, place),
+        Axis::Row => line_name(rows, rowstore, explicit, line, place),
+    }
+}

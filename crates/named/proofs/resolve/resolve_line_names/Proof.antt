@@ -1,0 +1,57 @@
+use borrow.Author.Tests.{le-leb, lt-leb}
+use Rattle.named.specs.Areas.{bearsIn}
+use Rattle.named.specs.Placements.{resolutionOf}
+use Rattle.named.proofs.Resolving.{numbered-ends, named-bears}
+use borrow.Author.Needs.{needs}
+use Rattle.named.proofs.resolve.resolve_line_names.Statement.{statement}
+use Rattle.named.proofs.resolve.resolve_line_names.Tie as tie
+use Rattle.named.proofs.resolve.resolve_line_names.Reads as reads
+use Rattle.named.proofs.resolve.resolve_line_names.Lts as lts
+use Rattle.coordinates.proofs.refusal.no_refusal.Reads as no-refusal-reads
+use Rattle.named.proofs.resolve.numbered_line.Reads as numbered-line-reads
+use Rattle.named.proofs.resolve.refused.Reads as refused-reads
+use Rattle.named.proofs.resolve.resolved_line.Reads as resolved-line-reads
+
+-- src/resolve.rt:304:9
+refused-requires : tie.Need-refused-requires
+refused-requires c κs = search needs
+
+-- src/resolve.rt:304:9
+returns : tie.Need-returns
+unfolding resolutionOf
+returns c = rw (lt-leb (c .before .before .before .before .before .before .before .before .args .explicit) 10000 (c .before .if1 .taken), c .refused .ensures)
+
+-- src/resolve.rt:306:9
+numbered-line-requires : tie.Need-numbered-line-requires
+numbered-line-requires c κs = search needs
+
+-- src/resolve.rt:317:9
+resolved-line-requires : tie.Need-resolved-line-requires
+resolved-line-requires c κs = search needs
+
+-- src/resolve.rt:329:18
+no-refusal-requires : tie.Need-no-refusal-requires
+no-refusal-requires c κs = search needs
+
+-- src/resolve.rt:290:1
+returns-2 : tie.Need-returns-2
+unfolding resolutionOf
+returns-2 c = let a = c .before .before .before .before .before .before .before .before .before .before .args in
+    rw (
+      le-leb (a .explicit) 10000 (c .before .before .before .if1 .left),
+      c .no-refusal .ensures,
+      c .before .resolved-line .ensures,
+      numbered-ends (a .explicit) (bearsIn (a .axis) (a .entries .now) (a .store .now) (a .edges .now) (a .areas .now) (a .areastore .now)) (a .names .now) (a .line) (c .before .before .numbered-line .result) (c .before .before .numbered-line .ensures),
+      named-bears (a .explicit) (a .axis) (a .entries .now) (a .store .now) (a .edges .now) (a .areas .now) (a .areastore .now),
+    )
+
+pub resolve-line-names-spec : {M : Type 1} → statement M
+resolve-line-names-spec =
+    tie.close
+    (tie.spec
+    refused-requires
+    returns
+    numbered-line-requires
+    resolved-line-requires
+    no-refusal-requires
+    returns-2)

@@ -1,0 +1,12 @@
+-- Laws of the records of a sheet.
+pub mod Codes
+pub mod Firsts
+pub mod FieldRows
+pub mod PartRows
+pub mod EndRows
+pub mod LineRows
+pub mod LineFaults
+pub mod Bounds
+pub mod AreaRows
+pub mod Theorem
+pub mod Examples

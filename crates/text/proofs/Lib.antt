@@ -1,0 +1,4 @@
+-- Laws of texts that are cut at a separator.
+pub mod Laws
+pub mod Cut
+pub mod Which

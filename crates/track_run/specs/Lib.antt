@@ -1,0 +1,3 @@
+-- What the contracts of the lent run cite.
+pub mod Run
+pub mod Steps

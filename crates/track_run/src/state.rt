@@ -1,0 +1,125 @@
+// What the filling loop carries, and the functions that it is made of.
+ghost use mathlib.Core.Path.{_≡_};
+ghost use Rattle.explicit_grid.specs.Template.{templateOf};
+ghost use Rattle.grid_track.specs.Written.{sparesOf};
+ghost use Rattle.grid_track.specs.Records.{itemAt};
+ghost use Rattle.grid_track.specs.Steps.{wordTotals};
+ghost use Rattle.track_run.specs.Run.{refusedFill, fillAnswerOf};
+ghost use Rattle.track_run.specs.Steps.{fillCount, stateAt, stateRecord, advanceOf};
+use crate::FillAnswer;
+use grid_track::AxisTracks;
+use grid_track::GridTrack;
+use grid_track::cursor::Cursor;
+use grid_track::plan::Plan;
+
+// An axis with its plan, and the cursor that belongs to the next record.
+pub struct FillState {
+    pub axis: AxisTracks,
+    pub plan: Plan,
+    pub cursor: Cursor,
+}
+
+// How many records are written: none where the run or the items are too short.
+pub fn fill_count(lent: usize, items: usize, axis: AxisTracks) -> usize
+    ensures { λ r. ⌜ r ≡ fillCount axis lent items ⌝ }
+{
+    let tracks = grid_track::plan::track_count(axis) as usize;
+    if lent < 2 * tracks + 1 {
+        return 0;
+    }
+    if items < tracks {
+        return 0;
+    }
+    2 * tracks + 1
+}
+
+// The refused answer.
+fn refused() -> FillAnswer
+    ensures { λ r. ⌜ r ≡ refusedFill ⌝ }
+{
+    let refusal = coordinates::refusal::refusal_of(coordinates::refusal::SHORT);
+    FillAnswer { refusal, count: 0 }
+}
+
+// What the call answers.
+pub fn fill_answer(lent: usize, items: usize, axis: AxisTracks) -> FillAnswer
+    ensures { λ r. ⌜ r ≡ fillAnswerOf axis lent items ⌝ }
+{
+    let tracks = grid_track::plan::track_count(axis);
+    if lent < (2 * tracks + 1) as usize {
+        return refused();
+    }
+    if items < tracks as usize {
+        return refused();
+    }
+    let refusal = coordinates::refusal::no_refusal();
+    let count = 2 * tracks + 1;
+    FillAnswer { refusal, count }
+}
+
+// The state at record 0.
+pub fn begin(
+    components: &[u64],
+    minimums: &[u64],
+    maximums: &[u64],
+    items: &[u8],
+    axis: AxisTracks,
+) -> FillState
+    ensures { λ r. ⌜ r ≡ stateAt axis (templateOf (now (components .entry)) (now (minimums .entry)) (now (maximums .entry))) (itemAt (now (items .entry))) 0 ⌝ }
+{
+    let plan = grid_track::plan::make_plan(components, minimums, maximums, items, axis);
+    let cursor = grid_track::rule::cursor_at(components, axis, 0);
+    FillState { axis, plan, cursor }
+}
+
+// Record `index`, in its state.
+pub fn record_at(
+    components: &[u64],
+    minimums: &[u64],
+    maximums: &[u64],
+    spare_minimums: &[u64],
+    spare_maximums: &[u64],
+    items: &[u8],
+    at: FillState,
+    index: usize,
+) -> GridTrack
+    ensures { λ r. ⌜ r ≡ stateRecord (templateOf (now (components .entry)) (now (minimums .entry)) (now (maximums .entry))) (sparesOf (now («spare_minimums» .entry)) (now («spare_maximums» .entry))) (itemAt (now (items .entry))) at index ⌝ }
+{
+    let axis = at.axis;
+    let plan = at.plan;
+    let cursor = at.cursor;
+    grid_track::rule::record_with(
+        components,
+        minimums,
+        maximums,
+        spare_minimums,
+        spare_maximums,
+        items,
+        axis,
+        plan,
+        cursor,
+        index as u64,
+    )
+}
+
+// The state of record `index` + 1 from that of record `index`: the cursor moves after each gutter from the template's first track on.
+pub fn advance(components: &[u64], at: FillState, index: usize) -> FillState
+    ensures { λ r. ⌜ r ≡ advanceOf (wordTotals (at .axis .repetitions) (now (components .entry))) at index ⌝ }
+{
+    let axis = at.axis;
+    let counts = axis.counts;
+    if index % 2 == 1 {
+        return at;
+    }
+    if index < 2 * counts.negative_implicit as usize + 2 {
+        return at;
+    }
+    let plan = at.plan;
+    let cursor = at.cursor;
+    let next = grid_track::cursor::next(components, axis.repetitions, cursor);
+    FillState {
+        axis,
+        plan,
+        cursor: next,
+    }
+}
