@@ -1,4 +1,4 @@
--- What the helpers of layer 3 ask: the numbers that a word can hold, and what so many components can add up to.
+-- What the inner functions of layer 3 ask: the numbers that a word can hold, and what so many components can add up to.
 use Prim.Native.Nat.{ℕ, _*_, _≤_, _<_}
 use mathlib.Core.Bool.{false}
 use mathlib.Core.Path.{_≡_}

@@ -35,7 +35,9 @@ fn first_repetition_space(summary: TemplateSummary, gap: f32) -> f32
     ensures { λ r. ⌜ r ≡ firstSpace summary gap ⌝ }
 {
     let gaps = gaps_of_first_repetition(summary);
-    summary.used + summary.once + gaps * gap
+    let used = summary.used;
+    let once = summary.once;
+    used + once + gaps * gap
 }
 
 // One more repetition with its gaps.

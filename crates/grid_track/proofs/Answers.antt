@@ -14,7 +14,7 @@ use Rattle.grid_track.specs.declared.RecordAnswer.{RecordAnswer}
 use Rattle.grid_track.specs.Tracks.{zeroGridTrack, refusedRecord}
 use Rattle.grid_track.specs.Records.{tracksIn, recordsIn, itemAt, recordAnswerOf}
 use Rattle.grid_track.specs.Steps.{recordOf}
-use Rattle.grid_track.proofs.AllTracks.{records-at}
+use Rattle.grid_track.proofs.RecordList.{records-at}
 
 abbrev answer : Refusal → GridTrack → RecordAnswer
 answer x y = record { refusal = x; track = y }

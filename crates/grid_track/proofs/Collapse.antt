@@ -1,28 +1,25 @@
--- The records against CSS's rules: collapse, implicit sizes, and what stands after a template line. Assumes nothing.
+-- The collapse of tracks and gutters against CSS's rules. Assumes nothing.
 use Prim.Native.Nat.{ℕ, zero, suc, _+_, _*_, _-_, _/_, _%_, _≤_, _<_}
 use native.Mathlib.Omega.{arith}
-use native.Mathlib.Nat.{mod-lt, mod-eq-of-lt, div-add-mod, add-mul-mod-self-left, mul-add, mul-le-mul-left}
 use mathlib.Core.Path.{_≡_, refl, sym, ap, _∙_}
 use mathlib.Core.Logic.{⊎-elim, _↔_}
 use mathlib.Core.Bool.{Bool, true, false, not, _&&_, _||_}
-use mathlib.Core.List.{List, [], _∷_}
-use lib.Dec.{leb, eqb}
-use lib.ListN.{length, getD, List·getD-eq-default}
-use borrow.Author.Tests.{lt-leb, leb-false, eq-eqb, ne-eqb, eqb-true, eqb-false}
+use mathlib.Core.List.{List}
+use lib.Dec.{leb}
+use lib.ListN.{length, getD}
+use borrow.Author.Tests.{lt-leb, leb-false, eq-eqb, ne-eqb}
 use Rattle.sizing.specs.declared.MinMax.{MinMax}
 use Rattle.explicit_grid.specs.Template.{Component}
 use Rattle.grid_track.specs.declared.GridTrack.{GridTrack}
 use Rattle.grid_track.specs.declared.WrittenTrack.{WrittenTrack}
 use Rattle.grid_track.specs.declared.AxisTracks.{AxisTracks}
-use Rattle.grid_track.specs.Tracks.{autoSize, gutterOf, trackOf}
-use Rattle.grid_track.specs.Written.{writtenOut}
-use Rattle.grid_track.specs.Records.{negativeOf, explicitOf, tracksIn, spareAt, negativeAt, allTracks, noTrack, itemAt, closedIn, openTo, fitEndsIn, shutGutter, recordIn, recordsOf}
-use Rattle.grid_track.specs.Steps.{totalsOf, cursorOf, writtenAt}
-use Rattle.grid_track.specs.Css.{Collapses, Stays, forwards, backwards}
-use Rattle.grid_track.specs.Lines.{Stands}
+use Rattle.grid_track.specs.Tracks.{gutterOf, trackOf}
+use Rattle.grid_track.specs.Records.{tracksIn, allTracks, noTrack, itemAt, closedIn, openTo, fitEndsIn, shutGutter, recordIn, recordsOf}
+use Rattle.grid_track.specs.Css.{Collapses, Stays}
 use Rattle.grid_track.proofs.Lists.{lt-or-ge}
-use Rattle.grid_track.proofs.Cursors.{length-written, written-at}
-use Rattle.grid_track.proofs.AllTracks.{countIn, length-all, get-all, open-le, open-closed, open-last, gutter-late, not-fit, track-negative, track-explicit, track-past, records-in}
+use Rattle.grid_track.proofs.Opened.{open-le, open-closed, open-last, gutter-late, not-fit}
+use Rattle.grid_track.proofs.AllTracks.{length-all}
+use Rattle.grid_track.proofs.RecordList.{records-in}
 
 -- a track is collapsed exactly by CSS's rule
 pub track-css : (l : List WrittenTrack) (item : ℕ → Bool) (t : ℕ) → (closedIn l item t ≡ true) ↔ Collapses l item t
@@ -120,85 +117,3 @@ module _ (a : AxisTracks) (cs : List Component) (sp : List MinMax) (items : List
       marked-gutter : (b : Bool) → (gutterOf (a .gap) b) .collapsed ≡ b
       marked-gutter true = refl
       marked-gutter false = refl
-
--- before the grid the spare sizes are aligned to its start
-align : (s m t : ℕ) → 0 < s → t < m → (s - m % s + t) % s ≡ s - 1 - (m - 1 - t) % s
-align s m t pos h =
-    let d = m - 1 - t in
-    let b = m / s in
-    let k = d / s in
-    let em : s * b + m % s ≡ m = div-add-mod m s in
-    let ed : s * k + d % s ≡ d = div-add-mod d s in
-    let am : m % s < s = mod-lt m pos in
-    let ad : d % s < s = mod-lt d pos in
-    let up : k ≤ b = ⊎-elim
-    (λ (g : b < k). let w : s * (b + 1) ≤ s * k = mul-le-mul-left s (omega arith) in absurd (omega (arith, mul-add s b 1)))
-    (λ (g : k ≤ b). g) (lt-or-ge b k) in
-    let x : s * b ≡ s * k + s * (b - k) = ap (λ (j : ℕ). s * j) (let y : b ≡ k + (b - k) = omega arith in y) ∙ mul-add s k (b - k) in
-    let v : s - m % s + t ≡ (s - 1 - d % s) + s * (b - k) = omega arith in
-    rw v (add-mul-mod-self-left (s - 1 - d % s) s (b - k) ∙ mod-eq-of-lt (omega arith))
-
-pub negative-css : (s : List MinMax) (m t : ℕ) → t < m → (negativeAt s m t) .size ≡ backwards s m t
-negative-css s m t h =
-    ⊎-elim
-    (λ (k : length s < 1).
-    let x : length s ≤ (length s - m % length s + t) % length s = omega arith in
-    let y : length s ≤ length s - 1 - (m - 1 - t) % length s = omega arith in
-    List·getD-eq-default s autoSize x ∙ sym (List·getD-eq-default s autoSize y))
-    (λ (k : 1 ≤ length s). ap (λ (i : ℕ). getD s i autoSize) (align (length s) m t k h))
-    (lt-or-ge (length s) 1)
-
-module _ (a : AxisTracks) (cs : List Component) (sp : List MinMax) (item : ℕ → Bool) where
-  -- implicit tracks before the grid take CSS's sizes
-  pub sizes-before : (t : ℕ) → t < negativeOf a → (getD (allTracks a cs sp) t noTrack) .size ≡ backwards sp (negativeOf a) t
-  sizes-before t h =
-      ap (λ (x : WrittenTrack). x .size) (get-all a cs sp t (omega arith) ∙ track-negative a cs sp item t h) ∙ negative-css sp (negativeOf a) t h
-
-  -- and so do the tracks after the template's, those that only an area makes first
-  pub sizes-after : (i : ℕ) → negativeOf a + countIn a cs + i < tracksIn a → (getD (allTracks a cs sp) (negativeOf a + countIn a cs + i) noTrack) .size ≡ forwards sp i
-  sizes-after i h =
-      let t = negativeOf a + countIn a cs + i in
-      let s : t - (negativeOf a + countIn a cs) ≡ i = omega arith in
-      ap (λ (x : WrittenTrack). x .size) (get-all a cs sp t h ∙ track-past a cs sp item t (omega arith)) ∙ ap (spareAt sp) s
-
--- the first size after the grid is the first spare one, and the last before it the last
-pub first-spare : (s : List MinMax) → forwards s 0 ≡ getD s 0 autoSize
-first-spare [] = refl
-first-spare (x ∷ s) = let h : 0 < length (x ∷ s) = omega arith in ap (λ (i : ℕ). getD (x ∷ s) i autoSize) (mod-eq-of-lt h)
-
-pub last-spare : (s : List MinMax) (m : ℕ) → 0 < m → 0 < length s → backwards s m (m - 1) ≡ getD s (length s - 1) autoSize
-last-spare s m h pos =
-    let z : m - 1 - (m - 1) ≡ 0 = omega arith in
-    let e : (m - 1 - (m - 1)) % length s ≡ 0 = ap (λ (k : ℕ). k % length s) z ∙ mod-eq-of-lt pos in
-    let w : length s - 1 - (m - 1 - (m - 1)) % length s ≡ length s - 1 = omega arith in
-    ap (λ (k : ℕ). getD s k autoSize) w
-
--- what a track record says of its track
-stands : (x : WrittenTrack) (byte : ℕ) → Stands x byte (trackOf (x .size) (x .fit && not (not (eqb byte 0))))
-stands x byte = go (x .fit) refl (eqb byte 0) refl
-  where
-    go : (f : Bool) → x .fit ≡ f → (z : Bool) → eqb byte 0 ≡ z → Stands x byte (trackOf (x .size) (f && not (not z)))
-    go true e true q = record { is-track = refl; as-written = λ n. absurd (n (e, eqb-true byte 0 q)); shut = λ n. (refl, refl) }
-    go true e false q = record { is-track = refl; as-written = λ n. (refl, refl); shut = λ n. absurd (eqb-false byte 0 q (n .1)) }
-    go false e z q = record { is-track = refl; as-written = λ n. (refl, refl); shut = λ n. let f = n .0 in let w : _≡_ {A = ℕ} 0 1 = cc in absurd (omega arith) }
-
--- after line j of a template of at most as many tracks as the grid has stands record 2(m + j) - 1: track j
-pub line-record : (a : AxisTracks) (cs : List Component) (sp : List MinMax) (items : List ℕ) (j : ℕ) (d : GridTrack) →
-    1 ≤ j → j ≤ length (writtenOut cs (a .repetitions)) → length (writtenOut cs (a .repetitions)) ≤ explicitOf a →
-    Stands (getD (writtenOut cs (a .repetitions)) (j - 1) noTrack) (getD items (negativeOf a + j - 1) 0) (getD (recordsOf a cs sp items) (2 * (negativeOf a + j) - 1) d)
-line-record a cs sp items j d one low fits =
-    let n = length-written cs (a .repetitions) in
-    let t = negativeOf a + j - 1 in
-    let i = 2 * (negativeOf a + j) - 1 in
-    let l = allTracks a cs sp in
-    let x = getD (writtenOut cs (a .repetitions)) (j - 1) noTrack in
-    let half : i / 2 ≡ t = omega arith in
-    let odd : i % 2 ≡ 1 = omega arith in
-    let in-all : t < tracksIn a = omega arith in
-    let same : getD l t noTrack ≡ x =
-    get-all a cs sp t in-all ∙ track-explicit a cs sp (itemAt items) t (omega arith) (omega arith)
-    ∙ ap (λ (o : ℕ). writtenAt cs (cursorOf (totalsOf (a .repetitions) cs) o)) (let y : t - negativeOf a ≡ j - 1 = omega arith in y)
-    ∙ sym (written-at cs (a .repetitions) (j - 1) (omega arith)) in
-    let e : getD (recordsOf a cs sp items) i d ≡ trackOf (x .size) (x .fit && not (itemAt items t)) =
-    records-in a cs sp items i d (omega arith) ∙ rw (ne-eqb (i % 2) 0 (λ z. omega arith), half, same) in
-    rw e (stands x (getD items t 0))

@@ -4,11 +4,11 @@ use native.Mathlib.Omega.{arith}
 use native.Mathlib.Nat.{mul-comm, mul-zero, mod-lt}
 use mathlib.Core.Path.{_≡_, refl, sym, ap, _∙_}
 use mathlib.Core.Logic.{⊎-elim}
-use mathlib.Core.Bool.{Bool, true, false, cond, not, _&&_, _||_}
+use mathlib.Core.Bool.{Bool, true, false, _&&_, _||_}
 use mathlib.Core.List.{List, [], _∷_}
 use lib.Dec.{leb, eqb}
 use lib.ListN.{length, getD}
-use borrow.Author.Tests.{lt-ltb, le-ltb, eq-eqb, ne-eqb, eqb-true, eqb-false}
+use borrow.Author.Tests.{lt-ltb, le-ltb, eq-eqb, ne-eqb}
 use Rattle.sizing.specs.declared.MinMax.{MinMax}
 use Rattle.explicit_grid.specs.Template.{Component}
 use Rattle.explicit_grid.specs.declared.RepetitionCount.{RepetitionCount}
@@ -20,97 +20,14 @@ use Rattle.grid_track.specs.Tracks.{autoSize, gutterOf, trackOf}
 use Rattle.grid_track.specs.Written.{repeatsOf, written, writtenOut}
 use Rattle.grid_track.specs.Records.{listed, negativeOf, explicitOf, positiveOf, tracksIn, recordsIn, spareAt, allTracks, noTrack, itemAt, closedBy, openTo, recordIn, recordsOf}
 use Rattle.grid_track.specs.Steps.{totalOf, totalsOf, sumOf, cursorOf, writtenIn, writtenAt, trackAt, closedAt, planOf, pairWith, recordOf}
-use Rattle.grid_track.specs.Rust.{pushes, closeBack, never, cycled, State, state, limit, room, plainStep, step, steps, negativePart, explicitPart, positivePart, closeFirst, closeLast, inOrder, initializeGridTracks}
+use Rattle.grid_track.specs.Rust.{pushes, never, cycled, State, limit, room, plainStep, step, steps, negativePart, explicitPart, positivePart, closeFirst, closeLast, inOrder, initializeGridTracks}
 use Rattle.grid_track.proofs.Lists.{lt-or-ge, listed-same, get-map}
 use Rattle.grid_track.proofs.Cursors.{sum-nil, sum-cons, written-at, written-head, written-tail}
-use Rattle.grid_track.proofs.AllTracks.{countIn, track-negative, track-explicit, track-past, closed-negative, closed-past, gutter-late, plan-opened, record-later, record-first, record-same}
-use Rattle.grid_track.proofs.Raw.{or-true, or-none, or-twice, raw, shown, raw-same, raw-push, raw-close, raw-first, raw-last, raw-order}
-
--- the flag b: whether a fit repeat ended the grid
-abbrev mixed : (ℕ → Bool) → ℕ → Bool → ℕ → Bool
-mixed f n b zero = false || (b && leb (openTo f n) 0)
-mixed f n b (suc t) = f t || (b && leb (openTo f n) (suc t))
-
-abbrev sizeBy : (ℕ → WrittenTrack) → ℕ → MinMax
-sizeBy T t = T t .size
-
-abbrev closedFor : (ℕ → Bool) → (ℕ → WrittenTrack) → ℕ → Bool
-closedFor item T t = closedBy item (T t) t
-
--- what holds between two components
-record Good (a : AxisTracks) (item : ℕ → Bool) (T : ℕ → WrittenTrack) (s : State) (b : Bool) : Type 0 where
-  made-so : s .tracks ≡ raw (a .gap) (sizeBy T) (closedFor item T) (mixed (closedFor item T) (tracksIn a) b) (s .at)
-  within : s .at ≤ limit a
-  ended : b ≡ true → s .at ≡ tracksIn a
-  last : b ≡ false → s .at ≡ tracksIn a → 0 < tracksIn a → closedFor item T (tracksIn a - 1) ≡ false
-
-no : {A : Type 0} → _≡_ {A = Bool} true false → A
-no e = let z : _≡_ {A = ℕ} 0 1 = cc in absurd (omega arith)
-
-module _ (a : AxisTracks) (item : ℕ → Bool) (T : ℕ → WrittenTrack) where
-  push-raw : (s : State) (b : Bool) → Good a item T s b → (z : ℕ → MinMax) (c : ℕ → Bool) (n : ℕ) → n ≤ limit a - s .at →
-      ((i : ℕ) → i < n → z i ≡ sizeBy T (s .at + i)) → ((i : ℕ) → i < n → c i ≡ closedFor item T (s .at + i)) →
-      pushes (a .gap) z c n (s .tracks) ≡ raw (a .gap) (sizeBy T) (closedFor item T) (mixed (closedFor item T) (tracksIn a) b) (s .at + n)
-  push-raw s b g z c n h hz hc =
-      ap (pushes (a .gap) z c n) (g .made-so)
-      ∙ raw-push (a .gap) (sizeBy T) (closedFor item T) (mixed (closedFor item T) (tracksIn a) b) z c (s .at) n hz hc (λ i k. flag b (g .ended) i k)
-    where
-      flag : (b : Bool) → (b ≡ true → s .at ≡ tracksIn a) → (i : ℕ) → i < n → mixed (closedFor item T) (tracksIn a) b (suc (s .at + i)) ≡ closedFor item T (s .at + i)
-      flag true e i k = absurd (omega (arith, e refl))
-      flag false e i k = or-none (closedFor item T (s .at + i))
-
-  plain-good : (s : State) (b : Bool) → Good a item T s b → (z : ℕ → MinMax) (n : ℕ) → n ≤ limit a - s .at →
-      ((i : ℕ) → i < n → z i ≡ sizeBy T (s .at + i)) → ((i : ℕ) → i < n → false ≡ closedFor item T (s .at + i)) →
-      Good a item T (state (pushes (a .gap) z never n (s .tracks)) (s .at + n)) b
-  plain-good s b g z n h hz hc =
-      record {
-        made-so = push-raw s b g z never n h hz hc;
-        within = omega (arith, g .within);
-        ended = λ e. omega (arith, g .ended e);
-        last = λ e k pos.
-            ⊎-elim
-            (λ (x : n < 1). g .last e (omega arith) pos)
-            (λ (x : 1 ≤ n). let y : tracksIn a - 1 ≡ s .at + (n - 1) = omega arith in rw y (sym (hc (n - 1) (omega arith))))
-            (lt-or-ge n 1);
-      }
-
-  fit-good : (s : State) (b : Bool) → Good a item T s b → (z : ℕ → MinMax) (n : ℕ) → n ≤ limit a - s .at →
-      ((i : ℕ) → i < n → z i ≡ sizeBy T (s .at + i)) → ((i : ℕ) → i < n → not (item (s .at + i)) ≡ closedFor item T (s .at + i)) →
-      let o = pushes (a .gap) z (λ i. not (item (s .at + i))) n (s .tracks) in
-      Good a item T (state (cond (eqb (s .at + n) (negativeOf a + explicitOf a + positiveOf a)) (closeBack o) o) (s .at + n)) (eqb (s .at + n) (tracksIn a))
-  fit-good s b g z n h hz hc = go (eqb (s .at + n) (tracksIn a)) refl
-    where
-      o : List GridTrack
-      o = pushes (a .gap) z (λ i. not (item (s .at + i))) n (s .tracks)
-
-      pushed : o ≡ raw (a .gap) (sizeBy T) (closedFor item T) (mixed (closedFor item T) (tracksIn a) b) (s .at + n)
-      pushed = push-raw s b g z (λ i. not (item (s .at + i))) n h hz hc
-
-      again : s .at + n ≡ tracksIn a → (x : ℕ) → (mixed (closedFor item T) (tracksIn a) b x || leb (openTo (closedFor item T) (s .at + n)) x) ≡ mixed (closedFor item T) (tracksIn a) true x
-      again e zero = rw e (or-twice false b (leb (openTo (closedFor item T) (tracksIn a)) 0))
-      again e (suc t) = rw e (or-twice (closedFor item T t) b (leb (openTo (closedFor item T) (tracksIn a)) (suc t)))
-
-      off : (c : Bool) → b ≡ c → eqb (s .at + n) (tracksIn a) ≡ false → b ≡ false
-      off true e q = absurd (eqb-false (s .at + n) (tracksIn a) q (omega (arith, g .ended e)))
-      off false e q = e
-
-      go : (t : Bool) → eqb (s .at + n) (tracksIn a) ≡ t → Good a item T (state (cond t (closeBack o) o) (s .at + n)) t
-      go true e =
-          let q = eqb-true (s .at + n) (tracksIn a) e in
-          record {
-            made-so = ap closeBack pushed ∙ raw-close (a .gap) (sizeBy T) (closedFor item T) (mixed (closedFor item T) (tracksIn a) b) (s .at + n)
-                ∙ raw-same (a .gap) (sizeBy T) (closedFor item T) _ (mixed (closedFor item T) (tracksIn a) true) (s .at + n) (λ x k. again q x);
-            within = omega (arith, g .within);
-            ended = λ x. q;
-            last = λ x. no x;
-          }
-      go false e =
-          record {
-            made-so = pushed ∙ ap (λ (c : Bool). raw (a .gap) (sizeBy T) (closedFor item T) (mixed (closedFor item T) (tracksIn a) c) (s .at + n)) (off b refl e);
-            within = omega (arith, g .within);
-            ended = λ x. no (sym x);
-            last = λ x k pos. absurd (eqb-false (s .at + n) (tracksIn a) e k);
-          }
+use Rattle.grid_track.proofs.Opened.{gutter-late}
+use Rattle.grid_track.proofs.AllTracks.{countIn, track-negative, track-explicit, track-past, closed-negative, closed-past}
+use Rattle.grid_track.proofs.RecordList.{plan-opened, record-later, record-first, record-same}
+use Rattle.grid_track.proofs.Raw.{or-true, or-none, raw, shown, raw-push, raw-first, raw-last, raw-order}
+use Rattle.grid_track.proofs.Between.{mixed, sizeBy, closedFor, Good, no, plain-good, fit-good}
 
 -- a component's count as a product either way
 room-swap : (x y k : ℕ) → min (x * y) k ≡ min (y * x) k

@@ -13,7 +13,7 @@ use Rattle.grid_track.specs.declared.GridTrack.{GridTrack}
 use Rattle.grid_track.specs.Tracks.{gutterOf, trackOf}
 use Rattle.grid_track.specs.Records.{listed, openTo}
 use Rattle.grid_track.specs.Rust.{pushes, closeBack, closeFirst, closeLast, inOrder}
-use Rattle.grid_track.proofs.AllTracks.{open-le, open-closed, open-last}
+use Rattle.grid_track.proofs.Opened.{open-le, open-closed, open-last}
 
 pub or-true : (b : Bool) → (b || true) ≡ true
 or-true true = refl

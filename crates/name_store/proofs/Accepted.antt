@@ -11,6 +11,7 @@ use Rattle.coordinates.specs.Refusals.{refusalOf}
 use Rattle.line_placement.specs.Css.{Bytes}
 use Rattle.name_store.specs.Names.{isName}
 use Rattle.name_store.specs.Enter.{entryRefusal, upsertedBy}
+use Rattle.name_store.proofs.Booleans.{both, neither}
 use Rattle.name_store.proofs.Graphic.{name-length}
 
 pub record Accepted (words bytes count used line : ℕ) (name : Bytes) : Type 0 where
@@ -25,15 +26,6 @@ pub record Accepted (words bytes count used line : ℕ) (name : Bytes) : Type 0 
 
 zero-suc : {A : Type 0} (n : ℕ) → _≡_ {A = ℕ} (suc n) 0 → A
 zero-suc n e = absurd (omega arith)
-
-both : (a b : Bool) → (a && b) ≡ true → (a ≡ true) × (b ≡ true)
-both true true e = (refl, refl)
-both true false e = absurd (let z : _≡_ {A = ℕ} 0 1 = cc in omega arith)
-both false b e = absurd (let z : _≡_ {A = ℕ} 0 1 = cc in omega arith)
-
-neither : (a b : Bool) → (a || b) ≡ false → (a ≡ false) × (b ≡ false)
-neither false b e = (refl, e)
-neither true b e = absurd (let z : _≡_ {A = ℕ} 0 1 = cc in omega arith)
 
 through : (a b c d : Bool) → _≡_ {A = ℕ} (cond (not a) 2 (cond (not b) 4 (cond c 8 (cond d 10 0)))) 0 → (a ≡ true) × (b ≡ true) × (c ≡ false) × (d ≡ false)
 through true true false false e = (refl, refl, refl, refl)

@@ -1,3 +1,5 @@
+-- Laws of the name store: what entry calls leave (Entering), and what the names of a line are (Shown).
+pub mod Booleans
 pub mod Same
 pub mod Parts
 pub mod Graphic

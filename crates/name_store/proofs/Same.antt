@@ -10,6 +10,7 @@ use lib.Dec.{eqb}
 use lib.ListN.{length, getD, drop, drop-of-length-le}
 use lib.Seq.{drop-cons}
 use Rattle.line_placement.specs.Rule.{eqBytes}
+use Rattle.name_store.proofs.Booleans.{both}
 
 same-step : (a b : List ℕ) (i : ℕ) → i < length a → i < length b
     → eqBytes (drop i a) (drop i b) ≡ (eqb (getD a i 0) (getD b i 0) && eqBytes (drop (i + 1) a) (drop (i + 1) b))
@@ -36,10 +37,6 @@ same-length (x ∷ a) (y ∷ b) out = go (eqb x y) (same-length a b (λ e. out (
     go false e = refl
 
 -- the same bytes are the same name
-both : (a b : Bool) → (a && b) ≡ true → (a ≡ true) × (b ≡ true)
-both true b e = (refl, e)
-both false b e = absurd (let z : _≡_ {A = ℕ} 0 1 = cc in omega arith)
-
 pub same-sound : (a b : List ℕ) → eqBytes a b ≡ true → a ≡ b
 same-sound [] [] e = refl
 same-sound [] (y ∷ b) e = absurd (let z : _≡_ {A = ℕ} 0 1 = cc in omega arith)

@@ -4,11 +4,11 @@ use mathlib.Core.Bool.{Bool, true, false, cond, not, _&&_, _||_, or-false, or-tr
 use mathlib.Core.List.{List, [], _∷_, _++_, append-nil, append-assoc}
 use Prim.Native.Nat.{ℕ}
 use native.Mathlib.Omega.{arith}
-use borrow.Author.Tests.{eqb-true}
 use lib.Dec.{eqb}
 use Rattle.line_placement.specs.Css.{Bytes, Entry}
 use Rattle.line_placement.specs.Rule.{any, eqBytes, written?}
 use Rattle.name_store.specs.LineNames.{shows, shownAfter, lineNamesOf, among, Once}
+use Rattle.name_store.proofs.Booleans.{both}
 use Rattle.name_store.proofs.Same.{same-sound, same-refl}
 
 any-append : (p : Entry → Bool) (l : List Entry) (e : Entry) → any p (l ++ (e ∷ [])) ≡ (any p l || p e)
@@ -32,10 +32,6 @@ not-again true true true h = h refl
 not-again true true false h = refl
 not-again true false same h = refl
 not-again false new same h = refl
-
-first : (a b : Bool) → (a && b) ≡ true → a ≡ true
-first true b e = refl
-first false b e = e
 
 module _ (line : ℕ) where
   same-new : (name : Bytes) (before : List Entry) (e : Entry) → eqBytes (e .name) name ≡ true
@@ -81,7 +77,7 @@ module _ (line : ℕ) where
       by true q h = (
         fresh (e .name) (before ++ (e ∷ [])) l
             (any-append (written? (e .name) line) before e
-            ∙ rw (first (eqb (e .line) line) (not (any (written? (e .name) line) before)) q, same-refl (e .name)) (or-true (any (written? (e .name) line) before))),
+            ∙ rw (both (eqb (e .line) line) (not (any (written? (e .name) line) before)) q .0, same-refl (e .name)) (or-true (any (written? (e .name) line) before))),
         h,
       )
 

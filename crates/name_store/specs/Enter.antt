@@ -38,7 +38,6 @@ upsertedBy (suc n) entries store count used line name =
     record { answer = record { refusal = refusalOf (suc n); count = count; used = used }; entries = entries; store = store }
 
 unfoldable pub upserted : List ℕ → List ℕ → ℕ → ℕ → ℕ → Bytes → Upserted
-unfolding entryRefusal
 upserted entries store count used line name =
     upsertedBy (entryRefusal (length entries) (length store) count used line name) entries store count used line name
 

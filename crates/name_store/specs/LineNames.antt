@@ -25,7 +25,6 @@ lineNamesOf entries line = shownAfter line [] entries
 
 -- the names of an explicit line; other lines hold none
 unfoldable pub explicitLineNames : ℕ → List Entry → ℕ → List Bytes
-unfolding shownAfter
 explicitLineNames explicit entries line = cond (leb 1 line && leb line (explicit + 1)) (lineNamesOf entries line) []
 
 -- how many lists there are: none where the axis has no entry

@@ -17,7 +17,8 @@ use Rattle.records.specs.Words.{at}
 use Rattle.records.specs.Faults.{rankOf, noRow, firstRow}
 use Rattle.records.specs.Fields.{countOf, nameFault}
 use Rattle.records.specs.Records.{unless, edgesOf, areaLine, faultOf}
-use Rattle.records.specs.Rows.{Row, unread, badName, badValue, badCount, badArea, numberOf, Holds, NotBelow, First, area, partsOf, Of}
+use Rattle.records.specs.Forms.{area, partsOf, Of}
+use Rattle.records.specs.Rows.{Row, unread, badName, badValue, badCount, badArea, numberOf, Holds, NotBelow, First}
 use Rattle.records.proofs.Firsts.{first-zero, first-none, numbers, at-none, at-area}
 use Rattle.records.proofs.FieldRows.{writes-once, count-writes}
 use Rattle.records.proofs.LineRows.{faults, SomeHolds, parts-first, line-holds, line-not}

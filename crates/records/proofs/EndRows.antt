@@ -14,7 +14,8 @@ use Rattle.records.specs.Words.{at, dash, nought, endWords}
 use Rattle.records.specs.Faults.{firstOf}
 use Rattle.records.specs.Fields.{wordOf, nameFault}
 use Rattle.records.specs.Ends.{endKind, unusedName, usesName, endName, endNumber, faultyNumber, endOf}
-use Rattle.records.specs.Rows.{Row, unread, badName, badValue, badCount, badArea, First, anEnd, InNameRange, Whole, OutsideIndexes, OutsideCounts, isNamed, isNspan, EndForm, auto, line, named, span, nspan, CountOutside}
+use Rattle.records.specs.Forms.{anEnd, InNameRange, Whole, OutsideIndexes, OutsideCounts, isNamed, isNspan, EndForm, auto, line, named, span, nspan}
+use Rattle.records.specs.Rows.{Row, unread, badName, badValue, badCount, badArea, First, CountOutside}
 use Rattle.records.proofs.Firsts.{first-left, first-one, firsts, first-same, at-none, at-unread, at-name}
 use Rattle.records.proofs.FieldRows.{below-or, word-good, word-value, word-bad, name-range, never, counted-rows, count-counted, index-counted}
 use Rattle.records.proofs.PartRows.{PartHolds}

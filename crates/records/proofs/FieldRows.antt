@@ -20,7 +20,8 @@ use Rattle.numeral.specs.Spelling.{Writes}
 use Rattle.numeral.proofs.Decimals.{whole-read, whole-written, whole-unread}
 use Rattle.records.specs.Fields.{wordOf, axisAt, countField, countOf, codes, nameFault}
 use Rattle.records.specs.Ends.{indexField}
-use Rattle.records.specs.Rows.{Row, unread, badName, badValue, badCount, badArea, First, OneOf, Codes, InNameRange, Whole, OutsideRange}
+use Rattle.records.specs.Forms.{OneOf, Codes, InNameRange, Whole, OutsideRange}
+use Rattle.records.specs.Rows.{Row, unread, badName, badValue, badCount, badArea, First}
 use Rattle.records.proofs.Firsts.{at-none, at-unread, at-count}
 
 pub below-or : (a b : ℕ) → (a < b) ⊎ (b ≤ a)

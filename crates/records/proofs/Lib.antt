@@ -6,6 +6,7 @@ pub mod PartRows
 pub mod EndRows
 pub mod LineRows
 pub mod LineFaults
+pub mod FieldBounds
 pub mod Bounds
 pub mod AreaRows
 pub mod Theorem

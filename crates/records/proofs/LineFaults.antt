@@ -17,7 +17,8 @@ use Rattle.records.specs.Words.{at, kindWords}
 use Rattle.records.specs.Faults.{firstOf, noRow, firstRow}
 use Rattle.records.specs.Fields.{axisOf, repetitionOf}
 use Rattle.records.specs.Records.{unless, axisLine, areaLine, nameLine, sizesLine, madeRepeat, repeatLine, endLine, extraLine, itemLine, placeLine, byKind, recordOf, faultOf}
-use Rattle.records.specs.Rows.{Row, unread, badName, badValue, badCount, badArea, First, Kind, axis, area, name, track, repeat, end, spare, extra, item, place, kindNumber, fieldsOf, partsOf}
+use Rattle.records.specs.Forms.{Kind, axis, area, name, track, repeat, end, spare, extra, item, place, kindNumber, fieldsOf, partsOf}
+use Rattle.records.specs.Rows.{Row, unread, badName, badValue, badCount, badArea, First}
 use Rattle.records.proofs.Firsts.{first-left, first-one, first-none, none-or-some}
 use Rattle.records.proofs.PartRows.{axis-first}
 use Rattle.records.proofs.LineRows.{faults, word-index}

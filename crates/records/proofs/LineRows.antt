@@ -12,7 +12,8 @@ use Rattle.records.specs.Faults.{firstOf, noRow}
 use Rattle.records.specs.Fields.{axisOf, ruleOf, countOf, repetitionOf, nameFault}
 use Rattle.records.specs.Sizes.{sizeOf, innerOf}
 use Rattle.records.specs.Ends.{endOf}
-use Rattle.records.specs.Rows.{Row, unread, badName, badValue, badCount, badArea, Holds, First, Part, anAxis, aName, aCount, anInner, aRule, aSize, aRepetition, anEnd, Formed, NameOutside, ValueOutside, CountOutside, Kind, axis, area, name, track, repeat, end, spare, extra, item, place, kindNumber, partsOf, Of, Every, Some}
+use Rattle.records.specs.Forms.{Part, anAxis, aName, aCount, anInner, aRule, aSize, aRepetition, anEnd, Formed, Kind, axis, area, name, track, repeat, end, spare, extra, item, place, kindNumber, partsOf, Of, Every}
+use Rattle.records.specs.Rows.{Row, unread, badName, badValue, badCount, badArea, Holds, First, NameOutside, ValueOutside, CountOutside, Some}
 use Rattle.records.proofs.Firsts.{firsts}
 use Rattle.records.proofs.PartRows.{PartHolds, axis-first, rule-first, name-first, count-first, inner-first, size-first, repetition-first}
 use Rattle.records.proofs.EndRows.{end-first}

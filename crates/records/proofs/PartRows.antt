@@ -24,7 +24,8 @@ use Rattle.records.specs.declared.field.Field.{Field}
 use Rattle.records.specs.Words.{at, dash, axisWords, ruleWords, sizeWords, repeatWords}
 use Rattle.records.specs.Fields.{wordOf, axisOf, ruleOf, countOf, repetitionAt, repetitionOf, nameFault}
 use Rattle.records.specs.Sizes.{kindOf, allowedAt, faultySize, valueField, sizeField, sizeOf, noInner, someInner, innerField, innerOf}
-use Rattle.records.specs.Rows.{Row, unread, badName, badValue, badCount, badArea, First, Part, anAxis, aName, aCount, anInner, aRule, aSize, aRepetition, OneOf, Size, SizeKind, Allowed, Formed, NameOutside, ValueOutside, CountOutside}
+use Rattle.records.specs.Forms.{Part, anAxis, aName, aCount, anInner, aRule, aSize, aRepetition, OneOf, Size, SizeKind, Allowed, Formed}
+use Rattle.records.specs.Rows.{Row, unread, badName, badValue, badCount, badArea, First, NameOutside, ValueOutside, CountOutside}
 use Rattle.records.proofs.Firsts.{at-none, at-unread, at-name, at-value, at-count}
 use Rattle.records.proofs.FieldRows.{below-or, one-of, of-one, word-good, word-value, word-bad, axis-good, axis-bad, name-range, never, counted-rows, Counted, unspelt, outside, inside, count-counted}
 

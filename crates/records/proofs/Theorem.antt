@@ -14,7 +14,8 @@ use Rattle.records.specs.declared.Record.{Record}
 use Rattle.records.specs.Words.{at, kindWords}
 use Rattle.records.specs.Faults.{rankOf, noRow, firstRow}
 use Rattle.records.specs.Records.{recordOf, faultOf}
-use Rattle.records.specs.Rows.{Row, unread, badName, badValue, badCount, badArea, numberOf, Holds, First, Kind, axis, area, name, track, repeat, end, spare, extra, item, place, kindNumber, fieldsOf, partsOf, Of}
+use Rattle.records.specs.Forms.{Kind, axis, area, name, track, repeat, end, spare, extra, item, place, kindNumber, fieldsOf, partsOf, Of}
+use Rattle.records.specs.Rows.{Row, unread, badName, badValue, badCount, badArea, numberOf, Holds, First}
 use Rattle.records.proofs.Firsts.{numbers, first-same, first-unique, at-unread}
 use Rattle.records.proofs.FieldRows.{below-or}
 use Rattle.records.proofs.LineRows.{SomeHolds, parts-first, word-index, kind-below, kindAt, number-back, same-kind, line-holds, line-not}

@@ -5,4 +5,5 @@ pub mod Fields
 pub mod Sizes
 pub mod Ends
 pub mod Records
+pub mod Forms
 pub mod Rows

@@ -24,8 +24,8 @@ use Rattle.grid_track.specs.Lines.{Stands}
 use Rattle.grid_track.proofs.Lists.{lt-or-ge, length-listed, listed-same}
 use Rattle.grid_track.proofs.Words.{totals-words}
 use Rattle.grid_track.proofs.Cursors.{next-cursor}
-use Rattle.grid_track.proofs.AllTracks.{record-same, records-length, record-of}
-use Rattle.grid_track.proofs.Collapse.{line-record}
+use Rattle.grid_track.proofs.RecordList.{record-same, records-length, record-of}
+use Rattle.grid_track.proofs.Lines.{line-record}
 use Rattle.track_run.specs.declared.state.FillState.{FillState}
 use Rattle.track_run.specs.Run.{runAfter, zeroRecords}
 use Rattle.track_run.specs.Steps.{fillCount, filledTo, stateAt, stateRecord, advanceOf}

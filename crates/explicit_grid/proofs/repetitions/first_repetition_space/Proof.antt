@@ -6,7 +6,7 @@ gaps-of-first-repetition-requires : tie.Need-gaps-of-first-repetition-requires
 gaps-of-first-repetition-requires c κs = search needs
 
 returns : tie.Need-returns
-returns c = rw (c .before .gaps-of-first-repetition .ensures)
+returns c = rw (c .gaps-of-first-repetition .ensures)
 
 pub first-repetition-space-spec : {M : Type 1} → statement M
 first-repetition-space-spec = tie.close (tie.spec gaps-of-first-repetition-requires returns)

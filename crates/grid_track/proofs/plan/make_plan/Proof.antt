@@ -12,7 +12,8 @@ use Rattle.grid_track.specs.Records.{tracksIn, itemAt, closedBy, openTo}
 use Rattle.grid_track.specs.Steps.{totalsOf, settleOf, cursorOf, nextOf, writtenAt, writtenCount, cursorAt, closedAt}
 use Rattle.grid_track.proofs.Words.{totals-words}
 use Rattle.grid_track.proofs.Cursors.{next-cursor}
-use Rattle.grid_track.proofs.AllTracks.{countIn, open-last, open-closed, open-negative, open-past, closed-explicit, plan-of}
+use Rattle.grid_track.proofs.Opened.{open-last, open-closed}
+use Rattle.grid_track.proofs.AllTracks.{countIn, open-negative, open-past, closed-explicit, plan-of}
 use Rattle.grid_track.proofs.plan.make_plan.Statement.{statement}
 use Rattle.grid_track.proofs.plan.make_plan.Tie as tie
 

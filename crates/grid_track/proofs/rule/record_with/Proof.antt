@@ -1,7 +1,7 @@
 use Rattle.explicit_grid.specs.Template.{templateOf}
 use Rattle.grid_track.specs.Written.{sparesOf}
 use Rattle.grid_track.specs.Records.{itemAt}
-use Rattle.grid_track.proofs.AllTracks.{gutter-record, track-record}
+use Rattle.grid_track.proofs.RecordList.{gutter-record, track-record}
 use borrow.Author.Needs.{needs}
 use Rattle.grid_track.proofs.rule.record_with.Statement.{statement}
 use Rattle.grid_track.proofs.rule.record_with.Tie as tie

@@ -7,7 +7,7 @@ use Rattle.grid_track.specs.Written.{sparesOf}
 use Rattle.grid_track.specs.Records.{tracksIn, itemAt}
 use Rattle.grid_track.specs.Steps.{cursorAt}
 use Rattle.grid_track.proofs.Words.{totals-words}
-use Rattle.grid_track.proofs.AllTracks.{record-of}
+use Rattle.grid_track.proofs.RecordList.{record-of}
 use Rattle.grid_track.proofs.Answers.{answer-past, answer-short, answer-held}
 use borrow.Author.Needs.{needs}
 use Rattle.grid_track.proofs.rule.track_record.Statement.{statement}
