@@ -3,13 +3,13 @@ use mathlib.Core.Path.{_≡_, refl, sym, _∙_, ap}
 use mathlib.Core.Logic.{⊎-elim}
 use mathlib.Core.Bool.{Bool, true, false}
 use mathlib.Core.List.{List, _++_}
-use Prim.Native.Nat.{ℕ, zero, suc, pred, _+_, _-_, _≤_, _<_, min, max}
+use Prim.Native.Nat.{ℕ, zero, suc, pred, _+_, _-_, _≤_, _<_, min}
 use native.Mathlib.Numerals.{add-one}
 use native.Mathlib.Omega.{arith}
 use borrow.Author.Tests.{ne-eqb}
 use lib.Dec.{eqb}
 use lib.IntN.{ℤ, pos, negsuc, _+ℤ_, _-ℤ_}
-use lib.ListN.{length, getD, replicate, length-replicate, getD-replicate}
+use lib.ListN.{replicate, length-replicate, getD-replicate}
 use Rattle.coordinates.specs.Lines.{held, Within}
 use Rattle.coordinates.proofs.Lines.{held-within, lt-or-ge}
 use Rattle.line_placement.specs.Css.{Bytes, Side, suffix}
@@ -21,6 +21,7 @@ use Rattle.coordinates.specs.declared.signed.Signed.the-variants.{NonNegative}
 use Rattle.named.specs.Marks.{marked, Adds, countedLine, isZero, indexCount, CountedSpan}
 use Rattle.named.specs.declared.search.Count.{Count}
 use Rattle.named.specs.declared.search.Count.the-variants.{Forwards, Backwards}
+use Rattle.named.proofs.Suffixes.{never}
 use Rattle.named.proofs.Walk.{seek-same}
 
 -- marks that began with none are the lines marked
@@ -89,9 +90,6 @@ counted-same e p q (Backwards last over) b h = ap held (backwards-same e p q (in
 pub zero-test : (n : ℕ) → eqb n 0 ≡ isZero (pos n)
 zero-test zero = refl
 zero-test (suc n) = ne-eqb (suc n) 0 (λ e. omega arith)
-
-never : {X : Type 0} → _≡_ {A = Bool} false true → X
-never e = absurd (let z : _≡_ {A = ℕ} 0 1 = cc in omega arith)
 
 pub zero-is : (i : ℤ) → isZero i ≡ true → i ≡ pos 0
 zero-is (pos zero) h = refl

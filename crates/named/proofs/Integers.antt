@@ -1,7 +1,7 @@
 -- Lines next to a line, and lines that are held, as numbers of 16 bits. Assumes nothing.
-use mathlib.Core.Path.{_≡_, refl, sym, _∙_, ap}
-use mathlib.Core.Bool.{true, false}
-use Prim.Native.Nat.{ℕ, zero, suc, _+_, _-_, _≤_, _<_, min}
+use mathlib.Core.Path.{_≡_, refl, ap}
+use mathlib.Core.Bool.{false}
+use Prim.Native.Nat.{ℕ, zero, suc, _+_, _-_, _≤_}
 use native.Mathlib.Omega.{arith}
 use borrow.Author.Tests.{le-ltb}
 use lib.IntN.{ℤ, pos, negsuc, _+ℤ_, _-ℤ_}
@@ -50,10 +50,3 @@ unfolding originZeroAnswer
 origin-zero-answer n (pos zero) h z = absurd (z refl)
 origin-zero-answer n (pos (suc g)) h z = rw (le-ltb 10000 n h)
 origin-zero-answer n (negsuc g) h z = rw (le-ltb 10000 n h)
-
--- line 0 is neither a later line nor one before it
-pub zero-count : (n : ℕ) → pos n ≡ pos 0 → n ≡ 0
-zero-count n e = cc
-
-pub not-negative : (k : ℕ) → negsuc k ≡ pos 0 → ⊥
-not-negative k e = let z : _≡_ {A = ℕ} 0 1 = cc in omega arith

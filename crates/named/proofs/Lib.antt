@@ -7,3 +7,4 @@ pub mod Walk
 pub mod Finding
 pub mod Resolving
 pub mod Theorems
+pub mod Cases

@@ -1,12 +1,12 @@
 -- Ends of a placement beside each other. Assumes nothing.
-use mathlib.Core.Path.{_≡_, refl, sym, _∙_, ap}
+use mathlib.Core.Path.{_≡_, refl}
 use mathlib.Core.Bool.{Bool}
 use mathlib.Core.List.{List, []}
 use Prim.Native.Nat.{ℕ, zero, suc}
 use lib.IntN.{ℤ, pos, negsuc}
 use Rattle.coordinates.specs.Lines.{toOriginZero, toGridLine}
 use Rattle.coordinates.specs.declared.axis.Axis.{Axis}
-use Rattle.line_placement.specs.Css.{Bytes, Side, Placement, Resolved, atLine}
+use Rattle.line_placement.specs.Css.{Bytes, atLine}
 use Rattle.line_placement.specs.Rule.{named?, lineAt, beside, resolve}
 use Rattle.named.specs.Areas.{axisNames, bears, bearsIn}
 use Rattle.named.specs.Placements.{placementOf, endsOf, Numbered, resolvedEndsOf}

@@ -1,21 +1,20 @@
 -- Names in two parts. Assumes nothing.
 use mathlib.Core.Path.{_≡_, refl, sym, _∙_, ap}
 use mathlib.Core.Bool.{Bool, true, false, cond, _&&_}
-use mathlib.Core.List.{List, [], _∷_, _++_}
-use Prim.Native.Nat.{ℕ, zero, suc, _+_, _-_, _≤_, _<_}
+use mathlib.Core.List.{[], _∷_, _++_}
+use Prim.Native.Nat.{ℕ, _+_, _-_, _≤_, _<_}
 use native.Mathlib.Omega.{arith}
 use borrow.Author.Tests.{le-leb, lt-leb, leb-true, eqb-true, eq-eqb}
 use lib.Dec.{eqb, leb}
-use lib.ListN.{length, take, drop, getD, length-append, length-drop, length-take, take-append-drop}
+use lib.ListN.{length, take, drop, getD, length-append, length-drop, take-append-drop}
 use lib.Seq.{take-all, getD-append-add}
-use Rattle.line_placement.specs.Css.{Bytes, Side, start, end, suffix}
+use Rattle.line_placement.specs.Css.{Bytes, start, end, suffix}
 use Rattle.line_placement.specs.Rule.{eqBytes}
-use Rattle.name_store.proofs.Same.{same-length}
 use Rattle.named.specs.Suffixes.{endsWith, edgeOf}
 use Rattle.named.specs.declared.suffix.AreaEdge.{AreaEdge}
 use Rattle.named.specs.declared.suffix.AreaEdge.the-variants.{Start, End, Neither}
 
-never : {X : Type 0} → _≡_ {A = Bool} false true → X
+pub never : {X : Type 0} → _≡_ {A = Bool} false true → X
 never e = absurd (let z : _≡_ {A = ℕ} 0 1 = cc in omega arith)
 
 pub both : (a b : Bool) → a && b ≡ true → (a ≡ true) × (b ≡ true)

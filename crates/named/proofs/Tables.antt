@@ -1,13 +1,12 @@
 -- The lent tables as a loop reads them, and the lines that a suffixed name has. Assumes nothing.
-use mathlib.Core.Path.{_≡_, refl, sym, _∙_, ap}
+use mathlib.Core.Path.{_≡_, refl, sym, _∙_}
 use mathlib.Core.Bool.{Bool, true, false, _&&_, _||_}
 use mathlib.Core.List.{List, [], _∷_, _++_, append-nil}
-use Prim.Native.Nat.{ℕ, zero, suc, _+_, _-_, _≤_, _<_}
+use Prim.Native.Nat.{ℕ, suc, _+_, _-_, _≤_, _<_}
 use native.Mathlib.Nat.{add-zero}
 use native.Mathlib.Numerals.{add-one}
-use native.Mathlib.Omega.{arith}
 use lib.Dec.{eqb}
-use lib.ListN.{length, getD, drop, take, drop-of-length-le}
+use lib.ListN.{length, getD, drop, drop-of-length-le}
 use lib.Seq.{drop-cons, drop-drop, getD-drop}
 use Rattle.coordinates.specs.declared.axis.Axis.{Axis}
 use Rattle.line_placement.specs.Css.{Bytes, Side, start, end, suffix, edge, Entry, Area}
@@ -15,8 +14,8 @@ use Rattle.line_placement.specs.Rule.{any, eqBytes, written?, drawn?}
 use Rattle.name_store.specs.Entries.{entryOf, nameIn, namedEntry, entriesOf}
 use Rattle.named.specs.Areas.{edgeIn, areaOf, areasOf, edged?, bears}
 use Rattle.named.specs.Marks.{Adds}
-use Rattle.named.specs.Suffixes.{endsWith, edgeOf}
-use Rattle.named.proofs.Marking.{or-false, mark-if, mark-not}
+use Rattle.named.specs.Suffixes.{endsWith}
+use Rattle.named.proofs.Marking.{or-false, and-false, mark-if, mark-not}
 use Rattle.named.proofs.Suffixes.{stems, other-ends, bytes-differ, not-joined}
 
 -- the entries from i on
@@ -47,10 +46,6 @@ any-same f g (a ∷ l) e = rw (e a, any-same f g l e)
 any-none : {A : Type 0} (f : A → Bool) (l : List A) → ((a : A) → f a ≡ false) → any f l ≡ false
 any-none f [] e = refl
 any-none f (a ∷ l) e = rw (e a) (any-none f l e)
-
-and-false : (a : Bool) → (a && false) ≡ false
-and-false true = refl
-and-false false = refl
 
 -- of the edges of an area only that of the suffix has the name
 drawn-edge : (nm : Bytes) (s : Side) (number : ℕ) (a : Area) → drawn? (nm ++ suffix s) number a ≡ edged? nm s number a

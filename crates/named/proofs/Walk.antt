@@ -1,10 +1,10 @@
 -- Steps of `seek`, as a loop takes them. Assumes nothing.
-use mathlib.Core.Path.{_≡_, refl, sym, _∙_, ap}
+use mathlib.Core.Path.{_≡_, refl, _∙_, ap}
 use mathlib.Core.Bool.{Bool, true, false}
 use Prim.Native.Nat.{ℕ, zero, suc, _+_, _-_, _≤_, _<_}
 use native.Mathlib.Numerals.{add-one}
 use native.Mathlib.Omega.{arith}
-use Rattle.line_placement.specs.Rule.{Seek, at, left, onward, seek}
+use Rattle.line_placement.specs.Rule.{at, left, onward, seek}
 
 module _ (p : ℕ → Bool) (e i : ℕ) where
   step : (m : ℕ) → i < e → seek p (e - i) i m ≡ onward (p i) i m (λ j. seek p (e - (i + 1)) (i + 1) j)

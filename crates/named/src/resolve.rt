@@ -123,6 +123,7 @@ fn refused() -> Resolution
 }
 
 // Resolve the names of both ends of a placement. Refused by 4 where the explicit count is above 10,000.
+// `entries` and `store` hold the names of the axis, `edges`, `areas` and `areastore` the drawn areas, `names` the bytes of placements' names.
 pub fn resolve_line_names(
     explicit: u16,
     axis: Axis,

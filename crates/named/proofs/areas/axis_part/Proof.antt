@@ -1,22 +1,16 @@
 use borrow.Author.Needs.{needs}
 use Rattle.named.proofs.areas.axis_part.Statement.{statement}
 use Rattle.named.proofs.areas.axis_part.Tie as tie
-use Rattle.named.proofs.areas.axis_part.Reads as reads
-use Rattle.named.proofs.areas.axis_part.Lts as lts
 
--- src/marks.rt:59:25
 enum-told : tie.Need-enum-told
 enum-told c = search needs
 
--- src/marks.rt:60:22
 enum-told-2 : tie.Need-enum-told-2
 enum-told-2 c = search needs
 
--- src/marks.rt:55:1
 returns : tie.Need-returns
 returns c = rw (c .enum-told .given .1)
 
--- src/marks.rt:55:1
 returns-2 : tie.Need-returns-2
 returns-2 c = search needs
 

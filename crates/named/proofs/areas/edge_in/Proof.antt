@@ -1,35 +1,25 @@
 use borrow.Author.Needs.{needs}
 use Rattle.named.proofs.areas.edge_in.Statement.{statement}
 use Rattle.named.proofs.areas.edge_in.Tie as tie
-use Rattle.named.proofs.areas.edge_in.Reads as reads
-use Rattle.named.proofs.areas.edge_in.Lts as lts
-use Rattle.named.proofs.areas.axis_part.Reads as axis-part-reads
 
--- src/marks.rt:68:9
 axis-part-requires : tie.Need-axis-part-requires
 axis-part-requires c κs = search needs
 
--- src/marks.rt:70:32
 enum-told : tie.Need-enum-told
 enum-told c = search needs
 
--- src/marks.rt:70:31
 cast-result : tie.Need-cast-result
 cast-result c = search needs
 
--- src/marks.rt:71:30
 enum-told-2 : tie.Need-enum-told-2
 enum-told-2 c = search needs
 
--- src/marks.rt:71:29
 cast-result-2 : tie.Need-cast-result-2
 cast-result-2 c = search needs
 
--- src/marks.rt:65:1
 returns : tie.Need-returns
 returns c = rw (c .enum-told .given .1, c .before .before .axis-part .ensures)
 
--- src/marks.rt:65:1
 returns-2 : tie.Need-returns-2
 returns-2 c = rw (c .enum-told2 .given .1, c .before .before .axis-part .ensures)
 

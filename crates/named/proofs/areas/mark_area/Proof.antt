@@ -1,47 +1,31 @@
 use Rattle.named.specs.Areas.{sideOf}
-use mathlib.Core.Path.{_≡_, refl, sym, _∙_, ap}
-use Rattle.line_placement.specs.Rule.{eqBytes}
-use Rattle.name_store.specs.Entries.{nameIn}
-use Rattle.named.specs.Areas.{areaOf, sideOf}
+use mathlib.Core.Path.{sym, _∙_}
+use Rattle.named.specs.Areas.{sideOf}
 use Rattle.named.proofs.Tables.{edge-marked, edge-passed}
 use borrow.Author.Needs.{needs}
 use Rattle.named.proofs.areas.mark_area.Statement.{statement}
 use Rattle.named.proofs.areas.mark_area.Tie as tie
-use Rattle.named.proofs.areas.mark_area.Reads as reads
-use Rattle.named.proofs.areas.mark_area.Lts as lts
-use Rattle.name_store.proofs.bytes.same_bytes.Reads as same-bytes-reads
-use Rattle.name_store.proofs.entry.entry_of.Reads as entry-of-reads
-use Rattle.name_store.proofs.entry.name_in.Reads as name-in-reads
-use Rattle.named.proofs.areas.edge_in.Reads as edge-in-reads
-use Rattle.named.proofs.marks.mark_line.Reads as mark-line-reads
 
--- src/marks.rt:79:9
 entry-of-requires : tie.Need-entry-of-requires
 entry-of-requires c κs = search needs
 
--- src/marks.rt:80:26
 name-in-requires : tie.Need-name-in-requires
 name-in-requires c κs = search needs
 
--- src/marks.rt:80:8
 same-bytes-requires : tie.Need-same-bytes-requires
 same-bytes-requires c κs = search needs
 
--- src/marks.rt:81:26
 edge-in-requires : tie.Need-edge-in-requires
 edge-in-requires c κs = search needs
 
--- src/marks.rt:81:9
 mark-line-requires : tie.Need-mark-line-requires
 mark-line-requires c κs = search needs
 
--- src/marks.rt:76:1
 returns : tie.Need-returns
 returns c = let a = c .before .before .before .before .before .before .before .before .before .args in
     edge-marked (a .marks .now) (a .axis) (a .word) (a .area) (a .areastore .now) (sideOf (a .end)) (a .name .now) (c .mark-line .last .0) (c .before .edge-in .result) (c .before .edge-in .ensures)
     (rw (← (c .before .before .before .before .before .before .entry-of .ensures), ← (c .before .before .before .before .before .name-in .ensures)) (sym (c .before .before .before .before .same-bytes .ensures) ∙ c .before .before .before .if1 .taken)) (c .mark-line .ensures)
 
--- src/marks.rt:76:1
 returns-2 : tie.Need-returns-2
 returns-2 c = let a = c .before .before .before .before .before .before .args in
     edge-passed (a .marks .now) (a .axis) (a .word) (a .area) (a .areastore .now) (sideOf (a .end)) (a .name .now) (rw (← (c .before .before .before .entry-of .ensures), ← (c .before .before .name-in .ensures)) (sym (c .before .same-bytes .ensures) ∙ c .if1 .left))

@@ -1,24 +1,18 @@
 use lib.ListN.{List·getD-eq-default}
-use mathlib.Core.Path.{_≡_, refl, sym, _∙_, ap}
+use mathlib.Core.Path.{sym}
 use borrow.Author.Needs.{needs}
 use Rattle.named.proofs.areas.word_at.Statement.{statement}
 use Rattle.named.proofs.areas.word_at.Tie as tie
-use Rattle.named.proofs.areas.word_at.Reads as reads
-use Rattle.named.proofs.areas.word_at.Lts as lts
 
--- src/marks.rt:90:16
 mul-result : tie.Need-mul-result
 mul-result c = search needs
 
--- src/marks.rt:90:16
 shared-slice-read-result : tie.Need-shared-slice-read-result
 shared-slice-read-result c = search needs
 
--- src/marks.rt:90:9
 returns : tie.Need-returns
 returns c = search needs
 
--- src/marks.rt:86:1
 returns-2 : tie.Need-returns-2
 returns-2 c = sym (List·getD-eq-default (c .before .args .words .now) 0 (c .if1 .left))
 

@@ -5,20 +5,13 @@ use Rattle.named.proofs.Integers.{grid-line-answer}
 use borrow.Author.Needs.{needs}
 use Rattle.named.proofs.ends.grid_line.Statement.{statement}
 use Rattle.named.proofs.ends.grid_line.Tie as tie
-use Rattle.named.proofs.ends.grid_line.Reads as reads
-use Rattle.named.proofs.ends.grid_line.Lts as lts
-use Rattle.coordinates.proofs.line.OriginZeroLine.into_grid_line.Reads as into-grid-line-reads
-use Rattle.coordinates.proofs.signed.joined.Reads as joined-reads
 
--- src/resolve.rt:48:33
 joined-requires : tie.Need-joined-requires
 joined-requires c κs = search needs
 
--- src/resolve.rt:48:9
 into-grid-line-requires : tie.Need-into-grid-line-requires
 into-grid-line-requires c κs = search needs
 
--- src/resolve.rt:44:1
 returns : tie.Need-returns
 returns c = let a = c .before .before .before .args in rw (c .before .into-grid-line .ensures, c .before .before .joined .ensures, toZ-ofZ (sixteen-fits (integerOf (a .line)))) (grid-line-answer (a .explicit) (integerOf (a .line)) (c .before .before .before .pre .0) (c .before .before .before .pre .1))
 

@@ -1,4 +1,4 @@
-use mathlib.Core.Path.{_≡_, refl, sym, _∙_, ap}
+use mathlib.Core.Path.{_≡_, sym, _∙_, ap}
 use lib.IntN.{pos}
 use Rattle.named.specs.Areas.{sideOf, bearsIn}
 use Rattle.line_placement.specs.Rule.{spanFrom}
@@ -16,39 +16,25 @@ use mir.Facts.{toZ-ofZ}
 use borrow.Author.Needs.{needs}
 use Rattle.named.proofs.ends.named_span.Statement.{statement}
 use Rattle.named.proofs.ends.named_span.Tie as tie
-use Rattle.named.proofs.ends.named_span.Reads as reads
-use Rattle.named.proofs.ends.named_span.Lts as lts
-use Rattle.coordinates.proofs.line.GridLine.into_origin_zero_line.Reads as into-origin-zero-line-reads
-use Rattle.coordinates.proofs.signed.split_16_bits.Reads as split-16-bits-reads
-use Rattle.named.proofs.find.is_zero.Reads as is-zero-reads
-use Rattle.named.proofs.find.span_line.Reads as span-line-reads
-use Rattle.named.proofs.ends.grid_line.Reads as grid-line-reads
 
--- src/resolve.rt:121:22
 split-16-bits-requires : tie.Need-split-16-bits-requires
 split-16-bits-requires c κs = search needs
 
--- src/resolve.rt:121:8
 is-zero-requires : tie.Need-is-zero-requires
 is-zero-requires c κs = search needs
 
--- src/resolve.rt:122:9
 returns : tie.Need-returns
 returns c = let e : toZ w16 (ofZ w16 (c .before .before .before .before .before .before .before .before .before .before .args .line .0)) ≡ c .before .before .before .before .before .before .before .before .before .before .args .line .0 = toZ-ofZ {w = w16} {z = c .before .before .before .before .before .before .before .before .before .before .args .line .0} (record { sfits = c .before .before .before .struct-told .given .0 .1 }) in let z : integerOf (c .before .before .split-16-bits .result) ≡ c .before .before .before .before .before .before .before .before .before .before .args .line .0 = c .before .before .split-16-bits .ensures .is ∙ e in let y : c .before .before .before .before .before .before .before .before .before .before .args .line .0 ≡ pos 0 = sym z ∙ zero-is (integerOf (c .before .before .split-16-bits .result)) (sym (c .before .is-zero .ensures) ∙ c .if1 .taken) in rw y
 
--- src/resolve.rt:124:9
 into-origin-zero-line-requires : tie.Need-into-origin-zero-line-requires
 into-origin-zero-line-requires c κs = search needs
 
--- src/resolve.rt:125:9
 span-line-requires : tie.Need-span-line-requires
 span-line-requires c κs = let e : toZ w16 (ofZ w16 (c .before .before .before .before .before .before .before .before .before .before .before .args .line .0)) ≡ c .before .before .before .before .before .before .before .before .before .before .before .args .line .0 = toZ-ofZ {w = w16} {z = c .before .before .before .before .before .before .before .before .before .before .before .args .line .0} (record { sfits = c .before .before .before .before .struct-told .given .0 .1 }) in let z : integerOf (c .before .before .before .split-16-bits .result) ≡ c .before .before .before .before .before .before .before .before .before .before .before .args .line .0 = c .before .before .before .split-16-bits .ensures .is ∙ e in let nz : c .before .before .before .before .before .before .before .before .before .before .before .args .line .0 ≡ pos 0 → ⊥ = zero-not (c .before .before .before .before .before .before .before .before .before .before .before .args .line .0) (rw z at (sym (c .before .before .is-zero .ensures) ∙ c .before .if1 .left)) in let o : c .into-origin-zero-line .result .line ≡ record { 0 = toOriginZero (c .before .before .before .before .before .before .before .before .before .before .before .args .explicit) (c .before .before .before .before .before .before .before .before .before .before .before .args .line .0) } = ap (λ (r : OriginZeroAnswer). r .line) (c .into-origin-zero-line .ensures) ∙ origin-zero-answer (c .before .before .before .before .before .before .before .before .before .before .before .args .explicit) (c .before .before .before .before .before .before .before .before .before .before .before .args .line .0) (c .before .before .before .before .before .before .before .before .before .before .before .pre) nz in (c .before .before .before .before .before .before .before .before .before .before .before .pre, rw o (origin-zero-within (c .before .before .before .before .before .before .before .before .before .before .before .args .explicit) (c .before .before .before .before .before .before .before .before .before .before .before .args .line .0)))
 
--- src/resolve.rt:138:33
 grid-line-requires : tie.Need-grid-line-requires
 grid-line-requires c κs = let a = c .before .before .before .before .before .before .before .before .before .before .before .before .args in (c .before .before .before .before .before .before .before .before .before .before .before .before .pre, rw (c .span-line .ensures) (span-within (a .explicit) (bearsIn (a .axis) (a .entries .now) (a .store .now) (a .edges .now) (a .areas .now) (a .areastore .now)) (sideOf (a .end)) (a .name .now) (a .span) (c .before .into-origin-zero-line .result .line .0)))
 
--- src/resolve.rt:104:1
 returns-2 : tie.Need-returns-2
 returns-2 c = let a = c .before .before .before .before .before .before .before .before .before .before .before .before .before .args in let e : toZ w16 (ofZ w16 (c .before .before .before .before .before .before .before .before .before .before .before .before .before .args .line .0)) ≡ c .before .before .before .before .before .before .before .before .before .before .before .before .before .args .line .0 = toZ-ofZ {w = w16} {z = c .before .before .before .before .before .before .before .before .before .before .before .before .before .args .line .0} (record { sfits = c .before .before .before .before .before .before .struct-told .given .0 .1 }) in let z : integerOf (c .before .before .before .before .before .split-16-bits .result) ≡ c .before .before .before .before .before .before .before .before .before .before .before .before .before .args .line .0 = c .before .before .before .before .before .split-16-bits .ensures .is ∙ e in let nz : c .before .before .before .before .before .before .before .before .before .before .before .before .before .args .line .0 ≡ pos 0 → ⊥ = zero-not (c .before .before .before .before .before .before .before .before .before .before .before .before .before .args .line .0) (rw z at (sym (c .before .before .before .before .is-zero .ensures) ∙ c .before .before .before .if1 .left)) in let o : c .before .before .into-origin-zero-line .result .line ≡ record { 0 = toOriginZero (c .before .before .before .before .before .before .before .before .before .before .before .before .before .args .explicit) (c .before .before .before .before .before .before .before .before .before .before .before .before .before .args .line .0) } = ap (λ (r : OriginZeroAnswer). r .line) (c .before .before .into-origin-zero-line .ensures) ∙ origin-zero-answer (c .before .before .before .before .before .before .before .before .before .before .before .before .before .args .explicit) (c .before .before .before .before .before .before .before .before .before .before .before .before .before .args .line .0) (c .before .before .before .before .before .before .before .before .before .before .before .before .before .pre) nz in
     rw (c .grid-line .ensures, c .before .span-line .ensures, o) (ap answerOf (beside-line (a .explicit) (bearsIn (a .axis) (a .entries .now) (a .store .now) (a .edges .now) (a .areas .now) (a .areastore .now)) (a .line .0) (spanFrom (a .explicit) (bearsIn (a .axis) (a .entries .now) (a .store .now) (a .edges .now) (a .areas .now) (a .areastore .now)) (sideOf (a .end)) (a .name .now) (a .span)) nz))

@@ -1,5 +1,5 @@
 use borrow.Author.Needs.{needs}
-use mathlib.Core.Path.{_≡_, refl, sym, _∙_, ap}
+use mathlib.Core.Path.{_≡_}
 use Rattle.named.specs.Areas.{sideOf, bearsIn}
 use Rattle.named.proofs.Finding.{find-within}
 use Rattle.coordinates.specs.Signed.{integerOf}
@@ -8,67 +8,47 @@ use mir.Val.{toZ, ofZ}
 use mir.Facts.{toZ-ofZ}
 use Rattle.named.proofs.ends.numbered_end.Statement.{statement}
 use Rattle.named.proofs.ends.numbered_end.Tie as tie
-use Rattle.named.proofs.ends.numbered_end.Reads as reads
-use Rattle.named.proofs.ends.numbered_end.Lts as lts
-use Rattle.coordinates.proofs.signed.split_16_bits.Reads as split-16-bits-reads
-use Rattle.named.proofs.find.find_named_line.Reads as find-named-line-reads
-use Rattle.named.proofs.ends.grid_line.Reads as grid-line-reads
-use Rattle.named.proofs.ends.name_of.Reads as name-of-reads
 
--- src/resolve.rt:58:32
 enum-told : tie.Need-enum-told
 enum-told c = search needs
 
--- src/resolve.rt:59:35
 enum-told-2 : tie.Need-enum-told-2
 enum-told-2 c = search needs
 
--- src/resolve.rt:60:34
 enum-known-placement : tie.Need-enum-known-placement
 enum-known-placement c = search needs
 
--- src/resolve.rt:61:104
 name-of-requires : tie.Need-name-of-requires
 name-of-requires c κs = search needs
 
--- src/resolve.rt:61:126
 split-16-bits-requires : tie.Need-split-16-bits-requires
 split-16-bits-requires c κs = search needs
 
--- src/resolve.rt:61:17
 find-named-line-requires : tie.Need-find-named-line-requires
 find-named-line-requires c κs = (c .before .before .before .before .before .before .before .before .before .before .before .pre, c .split-16-bits .ensures .small)
 
--- src/resolve.rt:62:33
 grid-line-requires : tie.Need-grid-line-requires
 grid-line-requires c κs = let a = c .before .before .before .before .before .before .before .before .before .before .before .before .args in (c .before .before .before .before .before .before .before .before .before .before .before .before .pre, rw (c .find-named-line .ensures) (find-within (a .explicit) (bearsIn (a .axis) (a .entries .now) (a .store .now) (a .edges .now) (a .areas .now) (a .areastore .now)) (c .before .before .name-of .result .now) (sideOf (a .end)) (integerOf (c .before .split-16-bits .result))))
 
--- src/resolve.rt:64:35
 enum-told-3 : tie.Need-enum-told-3
 enum-told-3 c = search needs
 
--- src/resolve.rt:65:43
 enum-told-4 : tie.Need-enum-told-4
 enum-told-4 c = search needs
 
--- src/resolve.rt:53:1
 returns : tie.Need-returns
 returns c = rw (c .enum-told .given .1)
 
--- src/resolve.rt:53:1
 returns-2 : tie.Need-returns-2
 returns-2 c = rw (c .enum-told2 .given .1)
 
--- src/resolve.rt:53:1
 returns-3 : tie.Need-returns-3
 returns-3 c = let e : toZ w16 (ofZ w16 (c .before .before .before .before .before .placement .given .0 .1 .0)) ≡ c .before .before .before .before .before .placement .given .0 .1 .0 = toZ-ofZ {w = w16} {z = c .before .before .before .before .before .placement .given .0 .1 .0} (record { sfits = c .before .before .before .before .known-told .given .1 .0 .1 }) in
     rw (c .before .before .before .before .before .placement .given .1, c .grid-line .ensures, c .before .find-named-line .ensures, c .before .before .before .name-of .ensures, c .before .before .split-16-bits .ensures .is, e)
 
--- src/resolve.rt:53:1
 returns-4 : tie.Need-returns-4
 returns-4 c = rw (c .enum-told3 .given .1)
 
--- src/resolve.rt:53:1
 returns-5 : tie.Need-returns-5
 returns-5 c = rw (c .enum-told4 .given .1)
 

@@ -1,56 +1,40 @@
 use borrow.Author.Needs.{needs}
 use Rattle.named.proofs.ends.resolved_end.Statement.{statement}
 use Rattle.named.proofs.ends.resolved_end.Tie as tie
-use Rattle.named.proofs.ends.resolved_end.Reads as reads
-use Rattle.named.proofs.ends.resolved_end.Lts as lts
-use Rattle.named.proofs.ends.name_of.Reads as name-of-reads
-use Rattle.named.proofs.ends.named_span.Reads as named-span-reads
 
--- src/resolve.rt:115:32
 enum-told : tie.Need-enum-told
 enum-told c = search needs
 
--- src/resolve.rt:116:29
 enum-known-placement : tie.Need-enum-known-placement
 enum-known-placement c = search needs
 
--- src/resolve.rt:117:43
 enum-told-2 : tie.Need-enum-told-2
 enum-told-2 c = search needs
 
--- src/resolve.rt:118:29
 enum-known-placement-2 : tie.Need-enum-known-placement-2
 enum-known-placement-2 c = search needs
 
--- src/resolve.rt:119:34
 enum-known-placement-3 : tie.Need-enum-known-placement-3
 enum-known-placement-3 c = search needs
 
--- src/resolve.rt:119:117
 name-of-requires : tie.Need-name-of-requires
 name-of-requires c κs = search needs
 
--- src/resolve.rt:119:49
 named-span-requires : tie.Need-named-span-requires
 named-span-requires c κs = search needs
 
--- src/resolve.rt:110:1
 returns : tie.Need-returns
 returns c = rw (c .enum-told .given .1)
 
--- src/resolve.rt:110:1
 returns-2 : tie.Need-returns-2
 returns-2 c = rw (c .before .placement .given .1)
 
--- src/resolve.rt:110:1
 returns-3 : tie.Need-returns-3
 returns-3 c = rw (c .enum-told2 .given .1)
 
--- src/resolve.rt:110:1
 returns-4 : tie.Need-returns-4
 returns-4 c = rw (c .before .placement2 .given .1)
 
--- src/resolve.rt:110:1
 returns-5 : tie.Need-returns-5
 returns-5 c = rw (c .before .before .before .placement3 .given .1, ← (c .before .name-of .ensures)) (c .named-span .ensures)
 

@@ -1,4 +1,4 @@
-use mathlib.Core.Path.{_≡_, refl, sym, _∙_, ap}
+use mathlib.Core.Path.{_∙_}
 use mathlib.Core.List.{_++_}
 use Rattle.line_placement.specs.Css.{suffix}
 use Rattle.line_placement.specs.Rule.{marks}
@@ -9,20 +9,13 @@ use Rattle.named.proofs.Walk.{seek-same}
 use borrow.Author.Needs.{needs}
 use Rattle.named.proofs.find.area_line.Statement.{statement}
 use Rattle.named.proofs.find.area_line.Tie as tie
-use Rattle.named.proofs.find.area_line.Reads as reads
-use Rattle.named.proofs.find.area_line.Lts as lts
-use Rattle.named.proofs.marks.mark_edges.Reads as mark-edges-reads
-use Rattle.named.proofs.search.seek_up.Reads as seek-up-reads
 
--- src/find.rt:46:5
 mark-edges-requires : tie.Need-mark-edges-requires
 mark-edges-requires c κs = search needs
 
--- src/find.rt:47:5
 seek-up-requires : tie.Need-seek-up-requires
 seek-up-requires c κs = search needs
 
--- src/find.rt:42:1
 returns : tie.Need-returns
 returns c = let a = c .before .before .before .before .before .before .before .before .before .before .args in let ms = c .before .before .mark-edges .last .0 in let q = marks 0 (bearsIn (a .axis) (a .entries .now) (a .store .now) (a .edges .now) (a .areas .now) (a .areastore .now)) (a .name .now ++ suffix (sideOf (a .end))) in
     c .seek-up .ensures ∙ seek-same (marked ms) q 20000 0 0 (λ k h. fresh 20000 ms q (c .before .before .mark-edges .ensures) k h h)

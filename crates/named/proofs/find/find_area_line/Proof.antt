@@ -1,4 +1,4 @@
-use mathlib.Core.Path.{_≡_, refl, sym, _∙_, ap}
+use mathlib.Core.Path.{_≡_}
 use mathlib.Core.List.{_++_}
 use Rattle.line_placement.specs.Css.{suffix}
 use Rattle.line_placement.specs.Rule.{seek, marks}
@@ -9,38 +9,26 @@ use Rattle.named.proofs.Finding.{find-at, find-left}
 use borrow.Author.Needs.{needs}
 use Rattle.named.proofs.find.find_area_line.Statement.{statement}
 use Rattle.named.proofs.find.find_area_line.Tie as tie
-use Rattle.named.proofs.find.find_area_line.Reads as reads
-use Rattle.named.proofs.find.find_area_line.Lts as lts
-use Rattle.coordinates.proofs.signed.hold.Reads as hold-reads
-use Rattle.named.proofs.find.area_line.Reads as area-line-reads
-use Rattle.named.proofs.find.find_line.Reads as find-line-reads
 
--- src/find.rt:95:11
 area-line-requires : tie.Need-area-line-requires
 area-line-requires c κs = search needs
 
--- src/find.rt:96:19
 enum-known-l : tie.Need-enum-known-l
 enum-known-l c = search needs
 
--- src/find.rt:96:25
 hold-requires : tie.Need-hold-requires
 hold-requires c κs = search needs
 
--- src/find.rt:106:29
 enum-told : tie.Need-enum-told
 enum-told c = search needs
 
--- src/find.rt:97:27
 find-line-requires : tie.Need-find-line-requires
 find-line-requires c κs = search needs
 
--- src/find.rt:81:1
 returns : tie.Need-returns
 returns c = let a = c .before .before .before .before .before .before .before .before .before .before .before .args in let found : seekOf (At (c .before .before .l .given .0 .0)) ≡ seek (marks (a .explicit) (bearsIn (a .axis) (a .entries .now) (a .store .now) (a .edges .now) (a .areas .now) (a .areastore .now)) (a .name .now ++ suffix (sideOf (a .end)))) 20000 0 0 = rw (c .before .before .l .given .1) at (c .before .before .before .before .area-line .ensures) in
     find-at (a .explicit) (bearsIn (a .axis) (a .entries .now) (a .store .now) (a .edges .now) (a .areas .now) (a .areastore .now)) (a .name .now) (sideOf (a .end)) _ (c .before .before .l .given .0 .0) found (c .hold .ensures)
 
--- src/find.rt:81:1
 returns-2 : tie.Need-returns-2
 returns-2 c = let a = c .before .before .before .before .before .before .before .before .before .before .args in let found : seekOf (Left (c .before .enum-told .given .0 .0)) ≡ seek (marks (a .explicit) (bearsIn (a .axis) (a .entries .now) (a .store .now) (a .edges .now) (a .areas .now) (a .areastore .now)) (a .name .now ++ suffix (sideOf (a .end)))) 20000 0 0 = rw (c .before .enum-told .given .1) at (c .before .before .before .area-line .ensures) in
     find-left (a .explicit) (bearsIn (a .axis) (a .entries .now) (a .store .now) (a .edges .now) (a .areas .now) (a .areastore .now)) (a .name .now) (sideOf (a .end)) _ (c .before .enum-told .given .0 .0) found (c .find-line .ensures)

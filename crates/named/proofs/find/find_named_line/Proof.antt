@@ -1,4 +1,4 @@
-use mathlib.Core.Path.{_≡_, refl, sym, _∙_, ap}
+use mathlib.Core.Path.{sym, _∙_, ap}
 use Rattle.line_placement.specs.Rule.{marks}
 use Rattle.coordinates.specs.Signed.{integerOf}
 use Rattle.named.specs.Areas.{sideOf, bearsIn}
@@ -7,34 +7,22 @@ use Rattle.named.proofs.Finding.{zero-is, find-count}
 use borrow.Author.Needs.{needs}
 use Rattle.named.proofs.find.find_named_line.Statement.{statement}
 use Rattle.named.proofs.find.find_named_line.Tie as tie
-use Rattle.named.proofs.find.find_named_line.Reads as reads
-use Rattle.named.proofs.find.find_named_line.Lts as lts
-use Rattle.named.proofs.find.find_area_line.Reads as find-area-line-reads
-use Rattle.named.proofs.find.find_line.Reads as find-line-reads
-use Rattle.named.proofs.find.index_count.Reads as index-count-reads
-use Rattle.named.proofs.find.is_zero.Reads as is-zero-reads
 
--- src/find.rt:153:8
 is-zero-requires : tie.Need-is-zero-requires
 is-zero-requires c κs = search needs
 
--- src/find.rt:154:9
 find-area-line-requires : tie.Need-find-area-line-requires
 find-area-line-requires c κs = search needs
 
--- src/find.rt:154:9
 returns : tie.Need-returns
 returns c = rw (zero-is (integerOf (c .before .before .before .before .before .before .before .before .before .args .index)) (sym (c .before .before .is-zero .ensures) ∙ c .before .if1 .taken)) (c .find-area-line .ensures)
 
--- src/find.rt:175:9
 index-count-requires : tie.Need-index-count-requires
 index-count-requires c κs = search needs
 
--- src/find.rt:166:5
 find-line-requires : tie.Need-find-line-requires
 find-line-requires c κs = search needs
 
--- src/find.rt:138:1
 returns-2 : tie.Need-returns-2
 returns-2 c = let a = c .before .before .before .before .before .before .before .before .before .before .args in
     c .find-line .ensures ∙ ap (countedLine (a .explicit) (marks (a .explicit) (bearsIn (a .axis) (a .entries .now) (a .store .now) (a .edges .now) (a .areas .now) (a .areastore .now)) (a .name .now))) (c .before .index-count .ensures .1)

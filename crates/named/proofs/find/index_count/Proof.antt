@@ -1,4 +1,4 @@
-use mathlib.Core.Path.{_≡_, refl, sym, _∙_, ap}
+use mathlib.Core.Path.{refl}
 use native.Mathlib.Omega.{arith}
 use Rattle.coordinates.specs.declared.signed.Signed.the-variants.{NonNegative, Negative}
 use Rattle.coordinates.specs.Signed.{Small}
@@ -6,30 +6,22 @@ use Rattle.named.proofs.Finding.{index-pos}
 use borrow.Author.Needs.{needs}
 use Rattle.named.proofs.find.index_count.Statement.{statement}
 use Rattle.named.proofs.find.index_count.Tie as tie
-use Rattle.named.proofs.find.index_count.Reads as reads
-use Rattle.named.proofs.find.index_count.Lts as lts
 
--- src/find.rt:127:29
 enum-known-index : tie.Need-enum-known-index
 enum-known-index c = search needs
 
--- src/find.rt:129:17
 returns : tie.Need-returns
 returns c = rw (c .before .before .index .given .1, c .if1 .taken) ((omega arith, omega arith), refl)
 
--- src/find.rt:131:53
 sub-t9 : tie.Need-sub-t9
 sub-t9 c = search needs
 
--- src/find.rt:133:26
 enum-known-index-2 : tie.Need-enum-known-index-2
 enum-known-index-2 c = search needs
 
--- src/find.rt:122:1
 returns-2 : tie.Need-returns-2
 returns-2 c = let h : Small (NonNegative (c .before .before .index .given .0 .0)) = rw (c .before .before .index .given .1) at (c .before .before .before .before .pre .1) in rw (c .before .before .index .given .1) ((omega arith, omega arith), index-pos (c .before .before .before .before .args .explicit) (c .before .before .index .given .0 .0) (c .if1 .left))
 
--- src/find.rt:122:1
 returns-3 : tie.Need-returns-3
 returns-3 c = let h : Small (Negative (c .before .index2 .given .0 .0)) = rw (c .before .index2 .given .1) at (c .before .before .before .pre .1) in rw (c .before .index2 .given .1) ((omega (arith, c .before .before .before .pre .0), omega arith), refl)
 

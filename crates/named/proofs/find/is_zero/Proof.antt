@@ -2,22 +2,16 @@ use Rattle.named.proofs.Finding.{zero-test}
 use borrow.Author.Needs.{needs}
 use Rattle.named.proofs.find.is_zero.Statement.{statement}
 use Rattle.named.proofs.find.is_zero.Tie as tie
-use Rattle.named.proofs.find.is_zero.Reads as reads
-use Rattle.named.proofs.find.is_zero.Lts as lts
 
--- src/find.rt:116:29
 enum-known-number : tie.Need-enum-known-number
 enum-known-number c = search needs
 
--- src/find.rt:117:32
 enum-told : tie.Need-enum-told
 enum-told c = search needs
 
--- src/find.rt:112:1
 returns : tie.Need-returns
 returns c = rw (c .before .number .given .1) (zero-test (c .before .number .given .0 .0))
 
--- src/find.rt:112:1
 returns-2 : tie.Need-returns-2
 returns-2 c = search needs
 

@@ -1,4 +1,4 @@
-use mathlib.Core.Path.{_≡_, refl, sym, _∙_, ap}
+use mathlib.Core.Path.{_≡_, _∙_, ap}
 use lib.IntN.{ℤ, pos, _+ℤ_, _-ℤ_}
 use Rattle.coordinates.specs.Signed.{integerOf}
 use Rattle.named.proofs.Integers.{minus-small, plus-small}
@@ -8,39 +8,27 @@ use mir.Facts.{toZ-ofZ}
 use borrow.Author.Needs.{needs}
 use Rattle.named.proofs.find.span_count.Statement.{statement}
 use Rattle.named.proofs.find.span_count.Tie as tie
-use Rattle.named.proofs.find.span_count.Reads as reads
-use Rattle.named.proofs.find.span_count.Lts as lts
-use Rattle.coordinates.proofs.signed.minus.Reads as minus-reads
-use Rattle.coordinates.proofs.signed.plus.Reads as plus-reads
-use Rattle.named.proofs.find.passed_over.Reads as passed-over-reads
 
--- src/find.rt:194:9
 passed-over-requires : tie.Need-passed-over-requires
 passed-over-requires c κs = search needs
 
--- src/find.rt:197:48
 enum-told : tie.Need-enum-told
 enum-told c = search needs
 
--- src/find.rt:197:48
 minus-requires : tie.Need-minus-requires
 minus-requires c κs = search needs
 
--- src/find.rt:198:45
 enum-told-2 : tie.Need-enum-told-2
 enum-told-2 c = search needs
 
--- src/find.rt:198:45
 plus-requires : tie.Need-plus-requires
 plus-requires c κs = search needs
 
--- src/find.rt:190:1
 returns : tie.Need-returns
 returns c = let e : toZ w16 (ofZ w16 (c .before .before .before .before .before .args .beside .0)) ≡ c .before .before .before .before .before .args .beside .0 = toZ-ofZ {w = w16} {z = c .before .before .before .before .before .args .beside .0} (record { sfits = c .before .before .before .struct-told .given .0 .1 }) in
     let m : integerOf (c .minus .result) ≡ c .before .before .before .before .before .args .beside .0 -ℤ pos 1 = c .minus .ensures ∙ ap (λ (z : ℤ). z -ℤ pos 1) e in
     rw (c .before .enum-told .given .1) ((minus-small (c .minus .result) (c .before .before .before .before .before .args .beside .0) (c .before .before .before .before .before .pre) m, c .before .before .before .before .passed-over .ensures .1), (m, c .before .before .before .before .passed-over .ensures .0))
 
--- src/find.rt:190:1
 returns-2 : tie.Need-returns-2
 returns-2 c = let e : toZ w16 (ofZ w16 (c .before .before .before .before .before .args .beside .0)) ≡ c .before .before .before .before .before .args .beside .0 = toZ-ofZ {w = w16} {z = c .before .before .before .before .before .args .beside .0} (record { sfits = c .before .before .before .struct-told .given .0 .1 }) in
     let m : integerOf (c .plus .result) ≡ c .before .before .before .before .before .args .beside .0 +ℤ pos 1 = c .plus .ensures ∙ ap (λ (z : ℤ). z +ℤ pos 1) e in

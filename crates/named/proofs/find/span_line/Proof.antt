@@ -1,23 +1,16 @@
-use mathlib.Core.Path.{_≡_, refl, sym, _∙_, ap}
+use mathlib.Core.Path.{_∙_}
 use Rattle.named.specs.Areas.{sideOf, bearsIn}
 use Rattle.named.proofs.Finding.{span-counted}
 use borrow.Author.Needs.{needs}
 use Rattle.named.proofs.find.span_line.Statement.{statement}
 use Rattle.named.proofs.find.span_line.Tie as tie
-use Rattle.named.proofs.find.span_line.Reads as reads
-use Rattle.named.proofs.find.span_line.Lts as lts
-use Rattle.named.proofs.find.find_line.Reads as find-line-reads
-use Rattle.named.proofs.find.span_count.Reads as span-count-reads
 
--- src/find.rt:228:9
 span-count-requires : tie.Need-span-count-requires
 span-count-requires c κs = search needs
 
--- src/find.rt:219:5
 find-line-requires : tie.Need-find-line-requires
 find-line-requires c κs = search needs
 
--- src/find.rt:203:1
 returns : tie.Need-returns
 returns c = let a = c .before .before .before .before .before .before .before .before .args in c .find-line .ensures ∙ span-counted (a .explicit) (bearsIn (a .axis) (a .entries .now) (a .store .now) (a .edges .now) (a .areas .now) (a .areastore .now)) (sideOf (a .end)) (a .name .now) (a .span) (a .beside .0) (c .before .span-count .result) (c .before .span-count .ensures .1)
 

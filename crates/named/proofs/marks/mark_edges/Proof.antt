@@ -1,25 +1,18 @@
 use Prim.Native.Nat.{suc}
 use Rattle.named.proofs.Marking.{mark-both, mark-same}
 use Rattle.name_store.specs.Entries.{entriesOf}
-use Rattle.named.specs.Areas.{areasOf, edged?, bears, sideOf}
+use Rattle.named.specs.Areas.{areasOf, sideOf}
 use Rattle.named.proofs.Tables.{bears-edge}
 use borrow.Author.Needs.{needs}
 use Rattle.named.proofs.marks.mark_edges.Statement.{statement}
 use Rattle.named.proofs.marks.mark_edges.Tie as tie
-use Rattle.named.proofs.marks.mark_edges.Reads as reads
-use Rattle.named.proofs.marks.mark_edges.Lts as lts
-use Rattle.named.proofs.areas.mark_areas.Reads as mark-areas-reads
-use Rattle.named.proofs.marks.mark_suffixed.Reads as mark-suffixed-reads
 
--- src/marks.rt:120:5
 mark-suffixed-requires : tie.Need-mark-suffixed-requires
 mark-suffixed-requires c κs = search needs
 
--- src/marks.rt:121:5
 mark-areas-requires : tie.Need-mark-areas-requires
 mark-areas-requires c κs = search needs
 
--- src/marks.rt:117:1
 returns : tie.Need-returns
 returns c = let a = c .before .before .before .before .before .before .before .before .before .before .args in
     mark-same (a .marks .now) (c .mark-areas .last .0) _ _ (λ k. bears-edge (entriesOf (a .entries .now) (a .store .now)) (areasOf (a .axis) (a .edges .now) (a .areas .now) (a .areastore .now)) (a .stem .now) (sideOf (a .end)) (suc k))

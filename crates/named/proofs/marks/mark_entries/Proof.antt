@@ -1,5 +1,6 @@
-use Prim.Native.Nat.{ℕ, suc, _+_, _-_}
-use mathlib.Core.Path.{_≡_, refl, sym, _∙_, ap}
+-- The loop's invariant says what is still to be marked: the lines of the entries from i on.
+use Prim.Native.Nat.{suc, _+_, _-_}
+use mathlib.Core.Path.{refl}
 use native.Mathlib.Omega.{arith}
 use borrow.Author.Needs.{needs}
 use mathlib.Core.List.{_++_}
@@ -10,9 +11,6 @@ use Rattle.named.proofs.Marking.{Rest, rest-start, rest-step, rest-end}
 use Rattle.named.proofs.Tables.{entries-step, entries-end}
 use Rattle.named.proofs.marks.mark_entries.Statement.{statement}
 use Rattle.named.proofs.marks.mark_entries.Tie as tie
-use Rattle.named.proofs.marks.mark_entries.Reads as reads
-use Rattle.named.proofs.marks.mark_entries.Lts as lts
-use Rattle.named.proofs.marks.mark_entry.Reads as mark-entry-reads
 
 abbrev Inv-loop : tie.InvT-loop
 Inv-loop marks₀ entries store stem tail i₀ marks i = Rest marks₀ marks (λ k. any (written? (stem ++ tail) (suc k)) (entriesOf (drop i entries) store)) (λ k. any (written? (stem ++ tail) (suc k)) (entriesOf entries store))
@@ -20,37 +18,29 @@ Inv-loop marks₀ entries store stem tail i₀ marks i = Rest marks₀ marks (λ
 abbrev μ-loop : tie.MeasureT-loop
 μ-loop marks₀ entries store stem tail i₀ marks i = length entries - i
 
--- src/marks.rt:48:5
 loop-holds : tie.Need-loop-holds Inv-loop μ-loop
 loop-holds c = rest-start _ _ _ (λ k. refl)
 
--- src/marks.rt:49:27
 mul-mark-entry : tie.Need-mul-mark-entry Inv-loop μ-loop
 mul-mark-entry c = search needs
 
--- src/marks.rt:49:27
 shared-slice-read-mark-entry : tie.Need-shared-slice-read-mark-entry Inv-loop μ-loop
 shared-slice-read-mark-entry c = search needs
 
--- src/marks.rt:49:9
 mark-entry-requires : tie.Need-mark-entry-requires Inv-loop μ-loop
 mark-entry-requires c κs = search needs
 
--- src/marks.rt:50:9
 add-i : tie.Need-add-i Inv-loop μ-loop
 add-i c = search needs
 
--- src/marks.rt:48:5
 loop-less : tie.Need-loop-less Inv-loop μ-loop
 loop-less c = omega arith
 
--- src/marks.rt:48:5
 loop-again : tie.Need-loop-again Inv-loop μ-loop
 loop-again c = let a = c .before .before .before .before .before .before .before .before .before .args in let l = c .before .before .before .before .loop in
     rest-step (a .marks .now) (l .marks) (c .mark-entry .last .0) (λ k. any (written? (a .stem .now ++ a .tail .now) (suc k)) (entriesOf (drop (l .i) (a .entries .now)) (a .store .now))) (λ k. written? (a .stem .now ++ a .tail .now) (suc k) (namedEntry (a .store .now) (entryOf (getD (a .entries .now) (l .i) 0)))) (λ k. any (written? (a .stem .now ++ a .tail .now) (suc k)) (entriesOf (drop (l .i + 1) (a .entries .now)) (a .store .now))) (λ k. any (written? (a .stem .now ++ a .tail .now) (suc k)) (entriesOf (a .entries .now) (a .store .now)))
     (λ k. entries-step (written? (a .stem .now ++ a .tail .now) (suc k)) (a .entries .now) (a .store .now) (l .i) (c .before .before .before .loop-test .taken)) (l .inv) (c .mark-entry .ensures)
 
--- src/marks.rt:44:1
 returns : tie.Need-returns Inv-loop μ-loop
 returns c = let a = c .before .before .before .before .before .before .args in let l = c .before .loop in
     rest-end (a .marks .now) (l .marks) (λ k. any (written? (a .stem .now ++ a .tail .now) (suc k)) (entriesOf (drop (l .i) (a .entries .now)) (a .store .now))) (λ k. any (written? (a .stem .now ++ a .tail .now) (suc k)) (entriesOf (a .entries .now) (a .store .now))) (λ k. entries-end (written? (a .stem .now ++ a .tail .now) (suc k)) (a .entries .now) (a .store .now) (l .i) (omega arith)) (l .inv)

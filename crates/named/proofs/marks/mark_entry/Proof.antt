@@ -1,4 +1,4 @@
-use mathlib.Core.Path.{_≡_, refl, sym, _∙_, ap}
+use mathlib.Core.Path.{sym, _∙_}
 use Rattle.named.proofs.Marking.{mark-if, mark-not}
 use mathlib.Core.List.{_++_}
 use Rattle.line_placement.specs.Rule.{eqBytes}
@@ -6,37 +6,25 @@ use Rattle.name_store.specs.Entries.{nameIn}
 use borrow.Author.Needs.{needs}
 use Rattle.named.proofs.marks.mark_entry.Statement.{statement}
 use Rattle.named.proofs.marks.mark_entry.Tie as tie
-use Rattle.named.proofs.marks.mark_entry.Reads as reads
-use Rattle.named.proofs.marks.mark_entry.Lts as lts
-use Rattle.name_store.proofs.entry.entry_of.Reads as entry-of-reads
-use Rattle.name_store.proofs.entry.name_in.Reads as name-in-reads
-use Rattle.named.proofs.marks.mark_line.Reads as mark-line-reads
-use Rattle.named.proofs.suffix.is_joined.Reads as is-joined-reads
 
--- src/marks.rt:36:9
 entry-of-requires : tie.Need-entry-of-requires
 entry-of-requires c κs = search needs
 
--- src/marks.rt:37:9
 name-in-requires : tie.Need-name-in-requires
 name-in-requires c κs = search needs
 
--- src/marks.rt:38:8
 is-joined-requires : tie.Need-is-joined-requires
 is-joined-requires c κs = search needs
 
--- src/marks.rt:39:9
 mark-line-requires : tie.Need-mark-line-requires
 mark-line-requires c κs = search needs
 
--- src/marks.rt:33:1
 returns : tie.Need-returns
 returns c = let a = c .before .before .before .before .before .before .before .before .before .args in let e = c .before .before .before .before .before .entry-of .result in let n = c .before .before .before .before .name-in in
     rw (← (c .before .before .before .before .before .entry-of .ensures))
     (mark-if (a .marks .now) (c .mark-line .last .0) (e .line) (eqBytes (nameIn (a .store .now) e) (a .stem .now ++ a .tail .now))
     (rw (← (n .ensures)) (sym (c .before .before .before .is-joined .ensures) ∙ c .before .before .if1 .taken)) (c .mark-line .ensures))
 
--- src/marks.rt:33:1
 returns-2 : tie.Need-returns-2
 returns-2 c = let a = c .before .before .before .before .before .before .before .args in let e = c .before .before .before .entry-of .result in let n = c .before .before .name-in in
     rw (← (c .before .before .before .entry-of .ensures))

@@ -1,32 +1,23 @@
-use native.Mathlib.Omega.{arith}
 use Rattle.named.proofs.Marking.{mark-zero, mark-one, mark-far}
 use borrow.Author.Needs.{needs}
 use Rattle.named.proofs.marks.mark_line.Statement.{statement}
 use Rattle.named.proofs.marks.mark_line.Tie as tie
-use Rattle.named.proofs.marks.mark_line.Reads as reads
-use Rattle.named.proofs.marks.mark_line.Lts as lts
 
--- src/marks.rt:12:9
 returns : tie.Need-returns
 returns c = mark-zero (c .before .args .marks .now) (c .before .args .number) (c .if1 .taken)
 
--- src/marks.rt:14:15
 sub-at : tie.Need-sub-at
 sub-at c = search needs
 
--- src/marks.rt:14:14
 cast-at : tie.Need-cast-at
 cast-at c = search needs
 
--- src/marks.rt:16:9
 element-write-marks : tie.Need-element-write-marks
 element-write-marks c = search needs
 
--- src/marks.rt:8:1
 returns-2 : tie.Need-returns-2
 returns-2 c = mark-one (c .before .before .args .marks .now) (c .before .before .args .number) (c .before .if1 .left)
 
--- src/marks.rt:8:1
 returns-3 : tie.Need-returns-3
 returns-3 c = mark-far (c .before .before .args .marks .now) (c .before .before .args .number) (c .if2 .left)
 

@@ -1,4 +1,4 @@
-use mathlib.Core.Path.{_≡_, refl, sym, _∙_, ap}
+use mathlib.Core.Path.{sym, ap}
 use Prim.Native.Nat.{suc}
 use Rattle.named.proofs.Marking.{mark-same}
 use Rattle.line_placement.specs.Css.{Bytes}
@@ -10,79 +10,57 @@ use Rattle.named.proofs.Tables.{bears-plain}
 use borrow.Author.Needs.{needs}
 use Rattle.named.proofs.marks.mark_name.Statement.{statement}
 use Rattle.named.proofs.marks.mark_name.Tie as tie
-use Rattle.named.proofs.marks.mark_name.Reads as reads
-use Rattle.named.proofs.marks.mark_name.Lts as lts
-use Rattle.named.proofs.marks.mark_edges.Reads as mark-edges-reads
-use Rattle.named.proofs.marks.mark_entries.Reads as mark-entries-reads
-use Rattle.named.proofs.suffix.edge_of.Reads as edge-of-reads
 
--- src/marks.rt:128:11
 edge-of-requires : tie.Need-edge-of-requires
 edge-of-requires c κs = search needs
 
--- src/marks.rt:129:25
 enum-known-n : tie.Need-enum-known-n
 enum-known-n c = search needs
 
--- src/marks.rt:129:96
 sub-mark-edges : tie.Need-sub-mark-edges
 sub-mark-edges c = search needs
 
--- src/marks.rt:129:96
 part-mark-edges-start : tie.Need-part-mark-edges-start
 part-mark-edges-start c = search needs
 
--- src/marks.rt:129:96
 part-mark-edges-end : tie.Need-part-mark-edges-end
 part-mark-edges-end c = let a = c .before .before .before .before .before .before .before .before .before .before .before .args in let q : StemOf (a .name .now) (Start (c .before .before .n .given .0 .0)) = rw (← (c .before .before .before .before .edge-of .ensures), c .before .before .n .given .1) at (stem-of (a .name .now)) in q .0
 
--- src/marks.rt:129:31
 mark-edges-requires : tie.Need-mark-edges-requires
 mark-edges-requires c κs = search needs
 
--- src/marks.rt:130:23
 enum-known-n-2 : tie.Need-enum-known-n-2
 enum-known-n-2 c = search needs
 
--- src/marks.rt:130:94
 sub-mark-edges-2 : tie.Need-sub-mark-edges-2
 sub-mark-edges-2 c = search needs
 
--- src/marks.rt:130:94
 part-mark-edges-start-2 : tie.Need-part-mark-edges-start-2
 part-mark-edges-start-2 c = search needs
 
--- src/marks.rt:130:94
 part-mark-edges-end-2 : tie.Need-part-mark-edges-end-2
 part-mark-edges-end-2 c = let a = c .before .before .before .before .before .before .before .before .before .before .before .args in let q : StemOf (a .name .now) (End (c .before .before .n2 .given .0 .0)) = rw (← (c .before .before .before .before .edge-of .ensures), c .before .before .n2 .given .1) at (stem-of (a .name .now)) in q .0
 
--- src/marks.rt:130:29
 mark-edges-requires-2 : tie.Need-mark-edges-requires-2
 mark-edges-requires-2 c κs = search needs
 
--- src/marks.rt:131:43
 enum-told : tie.Need-enum-told
 enum-told c = search needs
 
--- src/marks.rt:131:72
 slice-aggregate-mark-entries : tie.Need-slice-aggregate-mark-entries
 slice-aggregate-mark-entries c = search needs
 
--- src/marks.rt:131:30
 mark-entries-requires : tie.Need-mark-entries-requires
 mark-entries-requires c κs = search needs
 
--- src/marks.rt:125:1
 returns : tie.Need-returns
 returns c = let a = c .before .before .before .before .before .before .before .before .before .before .before .before .before .args in let q : StemOf (a .name .now) (Start (c .before .before .before .before .n .given .0 .0)) = rw (← (c .before .before .before .before .before .before .edge-of .ensures), c .before .before .before .before .n .given .1) at (stem-of (a .name .now)) in
     mark-same (a .marks .now) (c .mark-edges .last .0) _ _ (λ k. ap (λ (l : Bytes). bears (entriesOf (a .entries .now) (a .store .now)) (areasOf (a .axis) (a .edges .now) (a .areas .now) (a .areastore .now)) l (suc k)) (sym (q .1))) (c .mark-edges .ensures)
 
--- src/marks.rt:125:1
 returns-2 : tie.Need-returns-2
 returns-2 c = let a = c .before .before .before .before .before .before .before .before .before .before .before .before .before .args in let q : StemOf (a .name .now) (End (c .before .before .before .before .n2 .given .0 .0)) = rw (← (c .before .before .before .before .before .before .edge-of .ensures), c .before .before .before .before .n2 .given .1) at (stem-of (a .name .now)) in
     mark-same (a .marks .now) (c .mark-edges2 .last .0) _ _ (λ k. ap (λ (l : Bytes). bears (entriesOf (a .entries .now) (a .store .now)) (areasOf (a .axis) (a .edges .now) (a .areas .now) (a .areastore .now)) l (suc k)) (sym (q .1))) (c .mark-edges2 .ensures)
 
--- src/marks.rt:125:1
 returns-3 : tie.Need-returns-3
 returns-3 c = let a = c .before .before .before .before .before .before .before .before .before .before .before .before .args in let q : StemOf (a .name .now) (Neither) = rw (← (c .before .before .before .before .before .edge-of .ensures), c .before .before .before .enum-told .given .1) at (stem-of (a .name .now)) in
     mark-same (a .marks .now) (c .mark-entries .last .0) _ _ (λ k. bears-plain (entriesOf (a .entries .now) (a .store .now)) (areasOf (a .axis) (a .edges .now) (a .areas .now) (a .areastore .now)) (a .name .now) (suc k) (q .0) (q .1)) (c .mark-entries .ensures)

@@ -1,39 +1,28 @@
 use borrow.Author.Needs.{needs}
 use Rattle.named.proofs.marks.mark_suffixed.Statement.{statement}
 use Rattle.named.proofs.marks.mark_suffixed.Tie as tie
-use Rattle.named.proofs.marks.mark_suffixed.Reads as reads
-use Rattle.named.proofs.marks.mark_suffixed.Lts as lts
-use Rattle.named.proofs.marks.mark_entries.Reads as mark-entries-reads
 
--- src/marks.rt:111:44
 enum-told : tie.Need-enum-told
 enum-told c = search needs
 
--- src/marks.rt:111:73
 slice-aggregate-mark-entries : tie.Need-slice-aggregate-mark-entries
 slice-aggregate-mark-entries c = search needs
 
--- src/marks.rt:111:31
 mark-entries-requires : tie.Need-mark-entries-requires
 mark-entries-requires c κs = search needs
 
--- src/marks.rt:112:42
 enum-told-2 : tie.Need-enum-told-2
 enum-told-2 c = search needs
 
--- src/marks.rt:112:71
 slice-aggregate-mark-entries-2 : tie.Need-slice-aggregate-mark-entries-2
 slice-aggregate-mark-entries-2 c = search needs
 
--- src/marks.rt:112:29
 mark-entries-requires-2 : tie.Need-mark-entries-requires-2
 mark-entries-requires-2 c κs = search needs
 
--- src/marks.rt:107:1
 returns : tie.Need-returns
 returns c = rw (c .before .before .before .enum-told .given .1) (c .mark-entries .ensures)
 
--- src/marks.rt:107:1
 returns-2 : tie.Need-returns-2
 returns-2 c = rw (c .before .before .before .enum-told2 .given .1) (c .mark-entries2 .ensures)
 

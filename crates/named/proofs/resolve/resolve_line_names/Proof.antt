@@ -5,35 +5,23 @@ use Rattle.named.proofs.Resolving.{numbered-ends, named-bears}
 use borrow.Author.Needs.{needs}
 use Rattle.named.proofs.resolve.resolve_line_names.Statement.{statement}
 use Rattle.named.proofs.resolve.resolve_line_names.Tie as tie
-use Rattle.named.proofs.resolve.resolve_line_names.Reads as reads
-use Rattle.named.proofs.resolve.resolve_line_names.Lts as lts
-use Rattle.coordinates.proofs.refusal.no_refusal.Reads as no-refusal-reads
-use Rattle.named.proofs.resolve.numbered_line.Reads as numbered-line-reads
-use Rattle.named.proofs.resolve.refused.Reads as refused-reads
-use Rattle.named.proofs.resolve.resolved_line.Reads as resolved-line-reads
 
--- src/resolve.rt:304:9
 refused-requires : tie.Need-refused-requires
 refused-requires c κs = search needs
 
--- src/resolve.rt:304:9
 returns : tie.Need-returns
 unfolding resolutionOf
 returns c = rw (lt-leb (c .before .before .before .before .before .before .before .before .args .explicit) 10000 (c .before .if1 .taken), c .refused .ensures)
 
--- src/resolve.rt:306:9
 numbered-line-requires : tie.Need-numbered-line-requires
 numbered-line-requires c κs = search needs
 
--- src/resolve.rt:317:9
 resolved-line-requires : tie.Need-resolved-line-requires
 resolved-line-requires c κs = search needs
 
--- src/resolve.rt:329:18
 no-refusal-requires : tie.Need-no-refusal-requires
 no-refusal-requires c κs = search needs
 
--- src/resolve.rt:290:1
 returns-2 : tie.Need-returns-2
 unfolding resolutionOf
 returns-2 c = let a = c .before .before .before .before .before .before .before .before .before .before .args in

@@ -3,32 +3,22 @@ use Rattle.named.specs.Marks.{CountFits}
 use borrow.Author.Needs.{needs}
 use Rattle.named.proofs.search.counted_line.Statement.{statement}
 use Rattle.named.proofs.search.counted_line.Tie as tie
-use Rattle.named.proofs.search.counted_line.Reads as reads
-use Rattle.named.proofs.search.counted_line.Lts as lts
-use Rattle.named.proofs.search.nth_line_backwards.Reads as nth-line-backwards-reads
-use Rattle.named.proofs.search.nth_line_forwards.Reads as nth-line-forwards-reads
 
--- src/search.rt:127:25
 enum-known-count : tie.Need-enum-known-count
 enum-known-count c = search needs
 
--- src/search.rt:127:41
 nth-line-forwards-requires : tie.Need-nth-line-forwards-requires
 nth-line-forwards-requires c κs = let h : CountFits (Forwards (c .before .count .given .0 .0) (c .before .count .given .0 .1 .0)) = rw (c .before .count .given .1) at (c .before .before .before .pre .1) in (c .before .before .before .pre .0, h .0, h .1)
 
--- src/search.rt:128:26
 enum-known-count-2 : tie.Need-enum-known-count-2
 enum-known-count-2 c = search needs
 
--- src/search.rt:128:41
 nth-line-backwards-requires : tie.Need-nth-line-backwards-requires
 nth-line-backwards-requires c κs = let h : CountFits (Backwards (c .before .count2 .given .0 .0) (c .before .count2 .given .0 .1 .0)) = rw (c .before .count2 .given .1) at (c .before .before .before .pre .1) in (c .before .before .before .pre .0, h .0, h .1)
 
--- src/search.rt:122:1
 returns : tie.Need-returns
 returns c = rw (c .before .before .count .given .1) (c .nth-line-forwards .ensures)
 
--- src/search.rt:122:1
 returns-2 : tie.Need-returns-2
 returns-2 c = rw (c .before .before .count2 .given .1) (c .nth-line-backwards .ensures)
 

@@ -1,4 +1,4 @@
-use mathlib.Core.Path.{_≡_, refl, sym, _∙_, ap}
+use mathlib.Core.Path.{_≡_}
 use Prim.Native.Nat.{_+_, _-_}
 use Rattle.line_placement.specs.Rule.{seek}
 use Rattle.named.specs.declared.search.Found.the-variants.{At, Left}
@@ -7,31 +7,22 @@ use Rattle.named.proofs.Finding.{down-at, down-left, down-below}
 use borrow.Author.Needs.{needs}
 use Rattle.named.proofs.search.down_from.Statement.{statement}
 use Rattle.named.proofs.search.down_from.Tie as tie
-use Rattle.named.proofs.search.down_from.Reads as reads
-use Rattle.named.proofs.search.down_from.Lts as lts
-use Rattle.named.proofs.search.seek_down.Reads as seek-down-reads
 
--- src/search.rt:87:11
 seek-down-requires : tie.Need-seek-down-requires
 seek-down-requires c κs = search needs
 
--- src/search.rt:88:19
 enum-known-d : tie.Need-enum-known-d
 enum-known-d c = search needs
 
--- src/search.rt:88:45
 sub-t8 : tie.Need-sub-t8
 sub-t8 c = let a = c .before .before .before .before .args in let found : seekOf (At (c .before .d .given .0 .0)) ≡ seek (λ d. marked (a .marks .now) (a .last - d)) (a .last + 1) 0 (a .over) = rw (c .before .d .given .1) at (c .before .before .before .seek-down .ensures) in down-below (a .last) (a .over) (marked (a .marks .now)) (c .before .d .given .0 .0) found
 
--- src/search.rt:89:21
 enum-known-m : tie.Need-enum-known-m
 enum-known-m c = search needs
 
--- src/search.rt:83:1
 returns : tie.Need-returns
 returns c = let a = c .before .before .before .before .args in let found : seekOf (At (c .before .d .given .0 .0)) ≡ seek (λ d. marked (a .marks .now) (a .last - d)) (a .last + 1) 0 (a .over) = rw (c .before .d .given .1) at (c .before .before .before .seek-down .ensures) in down-at (a .last) (a .over) (marked (a .marks .now)) (c .before .d .given .0 .0) found
 
--- src/search.rt:83:1
 returns-2 : tie.Need-returns-2
 returns-2 c = let a = c .before .before .before .before .args in let found : seekOf (Left (c .before .m .given .0 .0)) ≡ seek (λ d. marked (a .marks .now) (a .last - d)) (a .last + 1) 0 (a .over) = rw (c .before .m .given .1) at (c .before .before .before .seek-down .ensures) in down-left (a .last) (a .over) (marked (a .marks .now)) (c .before .m .given .0 .0) found
 

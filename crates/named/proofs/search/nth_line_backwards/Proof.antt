@@ -1,59 +1,44 @@
-use mathlib.Core.Path.{_≡_, refl, sym, _∙_, ap}
+use mathlib.Core.Path.{_∙_, ap}
 use native.Mathlib.Omega.{arith}
 use Rattle.coordinates.specs.Lines.{held}
-use Rattle.coordinates.specs.Signed.{integerOf, Small}
-use Rattle.coordinates.specs.declared.signed.Signed.the-variants.{NonNegative, Negative}
+use Rattle.coordinates.specs.Signed.{Small}
+use Rattle.coordinates.specs.declared.signed.Signed.the-variants.{Negative}
 use Rattle.named.specs.Marks.{marked}
 use Rattle.named.proofs.Finding.{back-in, back-out}
 use borrow.Author.Needs.{needs}
 use Rattle.named.proofs.search.nth_line_backwards.Statement.{statement}
 use Rattle.named.proofs.search.nth_line_backwards.Tie as tie
-use Rattle.named.proofs.search.nth_line_backwards.Reads as reads
-use Rattle.named.proofs.search.nth_line_backwards.Lts as lts
-use Rattle.coordinates.proofs.signed.hold.Reads as hold-reads
-use Rattle.named.proofs.search.down_from.Reads as down-from-reads
 
--- src/search.rt:100:29
 enum-known-last : tie.Need-enum-known-last
 enum-known-last c = search needs
 
--- src/search.rt:102:37
 down-from-requires : tie.Need-down-from-requires
 down-from-requires c κs = search needs
 
--- src/search.rt:102:17
 hold-requires : tie.Need-hold-requires
 hold-requires c κs = search needs
 
--- src/search.rt:102:17
 returns : tie.Need-returns
 returns c = let a = c .before .before .before .before .before .before .args in rw (c .before .before .before .before .last .given .1) (c .hold .ensures ∙ ap held (c .before .down-from .ensures ∙ back-in (c .before .before .before .before .last .given .0 .0) (a .over) (marked (a .marks .now)) (a .explicit) (c .before .before .if1 .taken)))
 
--- src/search.rt:104:26
 down-from-requires-2 : tie.Need-down-from-requires-2
 down-from-requires-2 c κs = search needs
 
--- src/search.rt:104:13
 hold-requires-2 : tie.Need-hold-requires-2
 hold-requires-2 c κs = search needs
 
--- src/search.rt:106:26
 enum-known-last-2 : tie.Need-enum-known-last-2
 enum-known-last-2 c = search needs
 
--- src/search.rt:106:62
 add-t12 : tie.Need-add-t12
 add-t12 c = let h : Small (Negative (c .before .last2 .given .0 .0)) = rw (c .before .last2 .given .1) at (c .before .before .before .pre .1) in record { fits = omega (arith, c .before .before .before .pre .2) }
 
--- src/search.rt:106:32
 hold-requires-3 : tie.Need-hold-requires-3
 hold-requires-3 c κs = search needs
 
--- src/search.rt:94:1
 returns-2 : tie.Need-returns-2
 returns-2 c = let a = c .before .before .before .before .before .before .args in rw (c .before .before .before .before .last .given .1) (c .hold2 .ensures ∙ ap held (c .before .down-from2 .ensures ∙ back-out (c .before .before .before .before .last .given .0 .0) (a .over) (marked (a .marks .now)) (a .explicit) (c .before .before .if1 .left)))
 
--- src/search.rt:94:1
 returns-3 : tie.Need-returns-3
 returns-3 c = rw (c .before .before .last2 .given .1) (c .hold3 .ensures)
 

@@ -1,6 +1,6 @@
-use mathlib.Core.Path.{_≡_, refl, sym, _∙_, ap}
+use mathlib.Core.Path.{_≡_}
 use native.Mathlib.Omega.{arith}
-use Prim.Native.Nat.{_+_, _-_}
+use Prim.Native.Nat.{_-_}
 use Rattle.line_placement.specs.Rule.{seek}
 use Rattle.named.specs.declared.search.Found.the-variants.{At, Left}
 use Rattle.named.specs.Marks.{marked, seekOf}
@@ -9,43 +9,31 @@ use Rattle.named.proofs.Walk.{left-le}
 use borrow.Author.Needs.{needs}
 use Rattle.named.proofs.search.up_from.Statement.{statement}
 use Rattle.named.proofs.search.up_from.Tie as tie
-use Rattle.named.proofs.search.up_from.Reads as reads
-use Rattle.named.proofs.search.up_from.Lts as lts
-use Rattle.named.proofs.search.seek_up.Reads as seek-up-reads
 
--- src/search.rt:60:11
 seek-up-requires : tie.Need-seek-up-requires
 seek-up-requires c κs = search needs
 
--- src/search.rt:61:19
 enum-known-l : tie.Need-enum-known-l
 enum-known-l c = search needs
 
--- src/search.rt:62:21
 enum-known-m : tie.Need-enum-known-m
 enum-known-m c = search needs
 
--- src/search.rt:64:24
 add-result : tie.Need-add-result
 add-result c = search needs
 
--- src/search.rt:64:24
 add-result-2 : tie.Need-add-result-2
 add-result-2 c = let a = c .before .before .before .before .before .args in let found : seekOf (Left (c .before .before .m .given .0 .0)) ≡ seek (marked (a .marks .now)) (20000 - a .first) (a .first) (a .over) = rw (c .before .before .m .given .1) at (c .before .before .before .before .seek-up .ensures) in record { fits = omega (arith, left-le (marked (a .marks .now)) (20000 - a .first) (a .first) (a .over) (c .before .before .m .given .0 .0) found) }
 
--- src/search.rt:64:17
 returns : tie.Need-returns
 returns c = let a = c .before .before .before .before .before .args in let found : seekOf (Left (c .before .before .m .given .0 .0)) ≡ seek (marked (a .marks .now)) (20000 - a .first) (a .first) (a .over) = rw (c .before .before .m .given .1) at (c .before .before .before .before .seek-up .ensures) in up-left (a .explicit) (a .first) (a .over) (marked (a .marks .now)) (c .before .before .m .given .0 .0) found (c .if1 .taken)
 
--- src/search.rt:66:13
 add-result-3 : tie.Need-add-result-3
 add-result-3 c = let a = c .before .before .before .before .before .args in let found : seekOf (Left (c .before .before .m .given .0 .0)) ≡ seek (marked (a .marks .now)) (20000 - a .first) (a .first) (a .over) = rw (c .before .before .m .given .1) at (c .before .before .before .before .seek-up .ensures) in record { fits = omega (arith, left-le (marked (a .marks .now)) (20000 - a .first) (a .first) (a .over) (c .before .before .m .given .0 .0) found) }
 
--- src/search.rt:55:1
 returns-2 : tie.Need-returns-2
 returns-2 c = let a = c .before .before .before .before .args in let found : seekOf (At (c .before .l .given .0 .0)) ≡ seek (marked (a .marks .now)) (20000 - a .first) (a .first) (a .over) = rw (c .before .l .given .1) at (c .before .before .before .seek-up .ensures) in up-at (a .explicit) (a .first) (a .over) (marked (a .marks .now)) (c .before .l .given .0 .0) found
 
--- src/search.rt:55:1
 returns-3 : tie.Need-returns-3
 returns-3 c = let a = c .before .before .before .before .before .args in let found : seekOf (Left (c .before .before .m .given .0 .0)) ≡ seek (marked (a .marks .now)) (20000 - a .first) (a .first) (a .over) = rw (c .before .before .m .given .1) at (c .before .before .before .before .seek-up .ensures) in up-past (a .explicit) (a .first) (a .over) (marked (a .marks .now)) (c .before .before .m .given .0 .0) found (c .if1 .left)
 

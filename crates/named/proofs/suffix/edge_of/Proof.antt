@@ -1,51 +1,38 @@
-use mathlib.Core.Path.{_≡_, refl, sym, _∙_}
+use mathlib.Core.Path.{_≡_, sym, _∙_}
 use mathlib.Core.Bool.{true, false}
-use native.Mathlib.Omega.{arith}
 use Rattle.line_placement.specs.Css.{suffix, start, end}
 use Rattle.named.specs.Suffixes.{endsWith, edgeOf}
 use Rattle.named.proofs.Suffixes.{ends-length}
 use borrow.Author.Needs.{needs}
 use Rattle.named.proofs.suffix.edge_of.Statement.{statement}
 use Rattle.named.proofs.suffix.edge_of.Tie as tie
-use Rattle.named.proofs.suffix.edge_of.Reads as reads
-use Rattle.named.proofs.suffix.edge_of.Lts as lts
-use Rattle.named.proofs.suffix.ends_with.Reads as ends-with-reads
 
--- src/suffix.rt:31:24
 slice-aggregate-ends-with : tie.Need-slice-aggregate-ends-with
 slice-aggregate-ends-with c = search needs
 
--- src/suffix.rt:31:8
 ends-with-requires : tie.Need-ends-with-requires
 ends-with-requires c κs = search needs
 
--- src/suffix.rt:32:32
 sub-t8 : tie.Need-sub-t8
 sub-t8 c = let n = c .before .before .before .before .args .name .now in let y : endsWith n (suffix start) ≡ true = sym (c .before .ends-with .ensures) ∙ c .if1 .taken in ends-length n (suffix start) y
 
--- src/suffix.rt:32:9
 returns : tie.Need-returns
 unfolding edgeOf
 returns c = let n = c .before .before .before .before .args .name .now in let y : endsWith n (suffix start) ≡ true = sym (c .before .ends-with .ensures) ∙ c .if1 .taken in rw y
 
--- src/suffix.rt:34:24
 slice-aggregate-ends-with-2 : tie.Need-slice-aggregate-ends-with-2
 slice-aggregate-ends-with-2 c = search needs
 
--- src/suffix.rt:34:8
 ends-with-requires-2 : tie.Need-ends-with-requires-2
 ends-with-requires-2 c κs = search needs
 
--- src/suffix.rt:35:30
 sub-t13 : tie.Need-sub-t13
 sub-t13 c = let n = c .before .before .before .before .before .before .before .args .name .now in let y : endsWith n (suffix end) ≡ true = sym (c .before .ends-with2 .ensures) ∙ c .if2 .taken in ends-length n (suffix end) y
 
--- src/suffix.rt:35:9
 returns-2 : tie.Need-returns-2
 unfolding edgeOf
 returns-2 c = let n = c .before .before .before .before .before .before .before .args .name .now in let no : endsWith n (suffix start) ≡ false = sym (c .before .before .before .before .ends-with .ensures) ∙ c .before .before .before .if1 .left in let y : endsWith n (suffix end) ≡ true = sym (c .before .ends-with2 .ensures) ∙ c .if2 .taken in rw (no, y)
 
--- src/suffix.rt:28:1
 returns-3 : tie.Need-returns-3
 unfolding edgeOf
 returns-3 c = let n = c .before .before .before .before .before .before .before .args .name .now in let no : endsWith n (suffix start) ≡ false = sym (c .before .before .before .before .ends-with .ensures) ∙ c .before .before .before .if1 .left in let none : endsWith n (suffix end) ≡ false = sym (c .before .ends-with2 .ensures) ∙ c .if2 .left in rw (no, none)

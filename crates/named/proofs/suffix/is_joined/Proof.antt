@@ -1,5 +1,5 @@
-use mathlib.Core.Path.{_≡_, refl, sym, _∙_}
-use mathlib.Core.Bool.{true, false}
+use mathlib.Core.Path.{_≡_, sym, _∙_}
+use mathlib.Core.Bool.{true}
 use native.Mathlib.Omega.{arith}
 use borrow.Author.Tests.{not-true, not-false}
 use Rattle.named.specs.Suffixes.{endsWith}
@@ -7,40 +7,28 @@ use Rattle.named.proofs.Suffixes.{ends-length, joined-no, joined-yes}
 use borrow.Author.Needs.{needs}
 use Rattle.named.proofs.suffix.is_joined.Statement.{statement}
 use Rattle.named.proofs.suffix.is_joined.Tie as tie
-use Rattle.named.proofs.suffix.is_joined.Reads as reads
-use Rattle.named.proofs.suffix.is_joined.Lts as lts
-use Rattle.name_store.proofs.bytes.same_bytes.Reads as same-bytes-reads
-use Rattle.named.proofs.suffix.ends_with.Reads as ends-with-reads
 
--- src/suffix.rt:44:9
 ends-with-requires : tie.Need-ends-with-requires
 ends-with-requires c κs = search needs
 
--- src/suffix.rt:45:9
 returns : tie.Need-returns
 returns c = let a = c .before .before .before .before .before .args in sym (joined-no (a .name .now) (a .stem .now) (a .suffix .now) (sym (c .before .ends-with .ensures) ∙ not-true (c .before .ends-with .result) (c .if1 .taken)))
 
--- src/suffix.rt:47:14
 sub-at : tie.Need-sub-at
 sub-at c = let a = c .before .before .before .before .before .args in let y : endsWith (a .name .now) (a .suffix .now) ≡ true = sym (c .before .ends-with .ensures) ∙ not-false (c .before .ends-with .result) (c .if1 .left) in ends-length (a .name .now) (a .suffix .now) y
 
--- src/suffix.rt:48:23
 sub-same-bytes : tie.Need-sub-same-bytes
 sub-same-bytes c = omega arith
 
--- src/suffix.rt:48:23
 part-same-bytes-start : tie.Need-part-same-bytes-start
 part-same-bytes-start c = omega arith
 
--- src/suffix.rt:48:23
 part-same-bytes-end : tie.Need-part-same-bytes-end
 part-same-bytes-end c = omega arith
 
--- src/suffix.rt:48:5
 same-bytes-requires : tie.Need-same-bytes-requires
 same-bytes-requires c κs = search needs
 
--- src/suffix.rt:41:1
 returns-2 : tie.Need-returns-2
 returns-2 c = let a = c .before .before .before .before .before .before .before .args in let y : endsWith (a .name .now) (a .suffix .now) ≡ true = sym (c .before .before .before .ends-with .ensures) ∙ not-false (c .before .before .before .ends-with .result) (c .before .before .if1 .left) in c .same-bytes .ensures ∙ joined-yes (a .name .now) (a .stem .now) (a .suffix .now) y
 
