@@ -105,7 +105,7 @@ fn held_repetitions(before: u64, repeated: u64, repetitions: u64) -> u64
 }
 
 // The repetitions of a valid template with one automatic repeat: without an inner size, 1.
-pub fn automatic_repetitions(
+pub(crate) fn automatic_repetitions(
     summary: TemplateSummary,
     inner: InnerSize,
     strategy: AutoRepeatStrategy,

@@ -130,7 +130,7 @@ fn add_component(
 }
 
 // The walk over the components, in template order.
-pub fn template_summary(
+pub(crate) fn template_summary(
     components: &[u64],
     minimums: &[u64],
     maximums: &[u64],

@@ -85,7 +85,7 @@ fn repeat_totals(
 }
 
 // The tracks of a component: of a single its one track.
-pub fn component_totals(
+pub(crate) fn component_totals(
     minimums: &[u64],
     maximums: &[u64],
     component: GridTemplateComponent,

@@ -44,7 +44,7 @@ fn grid_line(line: Signed, explicit: u16) -> GridLine
 }
 
 // A named line becomes a line.
-pub fn numbered_end(
+pub(crate) fn numbered_end(
     explicit: u16,
     axis: Axis,
     entries: &[u64],
@@ -134,7 +134,7 @@ fn named_span(
 }
 
 // One end, beside the grid line of the other. Written lines and plain spans pass through.
-pub fn resolved_end(
+pub(crate) fn resolved_end(
     explicit: u16,
     axis: Axis,
     entries: &[u64],

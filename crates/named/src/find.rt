@@ -135,7 +135,7 @@ fn index_count(index: Signed, explicit: u16) -> Count
 }
 
 // The line of a name with an index, 0 where none is written: positive from line 0 on, negative from the last explicit line back.
-pub fn find_named_line(
+pub(crate) fn find_named_line(
     explicit: u16,
     axis: Axis,
     entries: &[u64],
@@ -200,7 +200,7 @@ fn span_count(span: u16, beside: OriginZeroLine, end: GridAreaEnd) -> Count
 }
 
 // The line at which a span of a name ends beside line `beside`.
-pub fn span_line(
+pub(crate) fn span_line(
     explicit: u16,
     axis: Axis,
     entries: &[u64],

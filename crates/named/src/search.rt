@@ -39,7 +39,7 @@ pub fn seek_up(marks: &[u8; 20000], first: u32, over: u32) -> Found
 }
 
 // As `seek_up`, counting back from `last`: distances from it.
-pub fn seek_down(marks: &[u8; 20000], last: u32, over: u32) -> Found
+pub(crate) fn seek_down(marks: &[u8; 20000], last: u32, over: u32) -> Found
     requires { ⌜ last < 20000 ⌝ }
     ensures { λ r. ⌜ seekOf r ≡ seek (λ d. marked (now (marks .entry)) (last - d)) (last + 1) 0 over ⌝ }
 {
@@ -75,7 +75,12 @@ fn up_from(marks: &[u8; 20000], explicit: u16, first: u32, over: u32) -> u32
 }
 
 // The marked line after `over` marked lines that are not before `first`; missing lines are counted on past the explicit grid.
-pub fn nth_line_forwards(marks: &[u8; 20000], explicit: u16, first: Signed, over: u32) -> Signed
+pub(crate) fn nth_line_forwards(
+    marks: &[u8; 20000],
+    explicit: u16,
+    first: Signed,
+    over: u32,
+) -> Signed
     requires { ⌜ (explicit ≤ 10000) × Small first × (over < 65536) ⌝ }
     ensures { λ r. ⌜ integerOf r ≡ held (forwards explicit (marked (now (marks .entry))) (integerOf first) over) ⌝ }
 {
@@ -102,7 +107,12 @@ fn down_from(marks: &[u8; 20000], last: u32, over: u32) -> Signed
 }
 
 // The marked line after `over` marked lines that are not after `last`; missing lines are counted on before the explicit grid.
-pub fn nth_line_backwards(marks: &[u8; 20000], explicit: u16, last: Signed, over: u32) -> Signed
+pub(crate) fn nth_line_backwards(
+    marks: &[u8; 20000],
+    explicit: u16,
+    last: Signed,
+    over: u32,
+) -> Signed
     requires { ⌜ (explicit ≤ 10000) × Small last × (over < 65536) ⌝ }
     ensures { λ r. ⌜ integerOf r ≡ held (backwards explicit (marked (now (marks .entry))) (integerOf last) over) ⌝ }
 {
@@ -119,7 +129,7 @@ pub fn nth_line_backwards(marks: &[u8; 20000], explicit: u16, last: Signed, over
 }
 
 // The marked line that a count comes to.
-pub fn counted_line(marks: &[u8; 20000], explicit: u16, count: Count) -> Signed
+pub(crate) fn counted_line(marks: &[u8; 20000], explicit: u16, count: Count) -> Signed
     requires { ⌜ (explicit ≤ 10000) × CountFits count ⌝ }
     ensures { λ r. ⌜ integerOf r ≡ countedLine explicit (marked (now (marks .entry))) count ⌝ }
 {

@@ -11,7 +11,7 @@ use crate::repeat::repetitions_written;
 use crate::repeat::times_of;
 
 // The end of the records from a place on that stand before a component, or inside it.
-pub fn end_of_names(names: &[u64], at: usize, component: u64, inside: bool) -> usize
+pub(crate) fn end_of_names(names: &[u64], at: usize, component: u64, inside: bool) -> usize
     requires { ⌜ at ≤ length (now names) ⌝ }
     ensures { λ r. ⌜ r ≡ at + leading inside component (drop at (now (names .entry))) ⌝ }
 {
@@ -26,7 +26,7 @@ pub fn end_of_names(names: &[u64], at: usize, component: u64, inside: bool) -> u
 }
 
 // The names of a component that begins on a line, from a place of the records on.
-pub fn component_names(
+pub(crate) fn component_names(
     names: &[u64],
     at: usize,
     word: u64,

@@ -48,7 +48,7 @@ pub fn repetitions_written(times: u64, line: u64, tracks: u64) -> u64
 }
 
 // The line after a component. Tracks and lines are small, as words hold them.
-pub fn line_after(times: u64, line: u64, tracks: u64) -> u64
+pub(crate) fn line_after(times: u64, line: u64, tracks: u64) -> u64
     requires { ⌜ (line ≤ 4294967296) × (tracks ≤ 65535) ⌝ }
     ensures { λ r. ⌜ r ≡ lineAfter times line tracks ⌝ }
 {
