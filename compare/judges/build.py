@@ -3,6 +3,7 @@ import hashlib
 import os
 import shutil
 import subprocess
+import sys
 
 COMPARE = os.path.dirname(os.path.dirname(os.path.abspath(__file__)))
 REPOSITORY = os.path.dirname(COMPARE)
@@ -20,6 +21,15 @@ APPENDED = {
 
 class CannotCompare(Exception):
     """The comparison can't happen; the text is one line that says why."""
+
+
+def exit_with(main):
+    """Run a command; where the comparison can't happen, say why in one line and end with status 2."""
+    try:
+        sys.exit(main())
+    except CannotCompare as reason:
+        print(reason, file=sys.stderr)
+        sys.exit(2)
 
 
 def read_bytes(path):

@@ -4,7 +4,6 @@ The measuring copy is no judge: it is the unchanged text with a counter put at t
 branch. It is built beside the harness and used for nothing else."""
 import os
 import re
-import sys
 
 import build
 import model
@@ -251,8 +250,4 @@ def main():
 
 
 if __name__ == "__main__":
-    try:
-        sys.exit(main())
-    except build.CannotCompare as reason_text:
-        print(reason_text, file=sys.stderr)
-        sys.exit(2)
+    build.exit_with(main)

@@ -2,7 +2,6 @@
 import argparse
 import os
 import random
-import sys
 
 import build
 import damage
@@ -278,8 +277,4 @@ def main():
 
 
 if __name__ == "__main__":
-    try:
-        main()
-    except build.CannotCompare as reason:
-        print(reason, file=sys.stderr)
-        sys.exit(2)
+    build.exit_with(main)

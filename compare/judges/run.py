@@ -2,7 +2,6 @@
 import argparse
 import collections
 import os
-import sys
 
 import build
 import maker
@@ -100,8 +99,4 @@ def main():
 
 
 if __name__ == "__main__":
-    try:
-        sys.exit(main())
-    except build.CannotCompare as reason:
-        print(reason, file=sys.stderr)
-        sys.exit(2)
+    build.exit_with(main)

@@ -1,5 +1,4 @@
 """Puts each wrong reading into the model and shows that the comparison finds it."""
-import sys
 
 import build
 import maker
@@ -90,8 +89,4 @@ def main():
 
 
 if __name__ == "__main__":
-    try:
-        sys.exit(main())
-    except build.CannotCompare as reason:
-        print(reason, file=sys.stderr)
-        sys.exit(2)
+    build.exit_with(main)
