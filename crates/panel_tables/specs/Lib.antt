@@ -1,0 +1,7 @@
+-- What the contracts on the tables of a panel cite.
+pub mod View
+pub mod Numbers
+pub mod Areas
+pub mod Placements
+pub mod Written
+pub mod Axes

@@ -1,0 +1,163 @@
+-- What the state and the tables of a panel hold for a view.
+use Prim.Native.Nat.{ℕ, _+_}
+use mathlib.Core.List.{List, [], _∷_, _++_, map}
+use lib.ListN.{length}
+use Rattle.coordinates.specs.declared.axis.Axis.{Axis}
+use Rattle.tables.specs.Lay.{pad, Region, region, lay}
+use Rattle.tables.specs.Runs.{bytesOf, wordsFrom}
+use Rattle.tables.specs.View.{AxisView, AxisOutcome}
+use Rattle.tables.specs.Store.{nameWord, zeroState, zeroReading}
+use Rattle.tables.specs.Written.{stateOf, readingOf, axisWords, namesStore}
+use Rattle.panel_tables.specs.declared.Panel.{Panel}
+use Rattle.panel_tables.specs.declared.Reading.{Reading}
+use Rattle.panel_tables.specs.View.{Area, End, Placement, PanelView, PanelOutcome}
+use Rattle.panel_tables.specs.Areas.{edgesWord, InAreas, put}
+use Rattle.panel_tables.specs.Placements.{axisNumber, endWord}
+
+abbrev pub zeroPanel : Panel
+zeroPanel = record { columns = zeroState; rows = zeroState; areas = 0; areabytes = 0; placements = 0; placementbytes = 0 }
+
+abbrev pub zeroPanelReading : Reading
+zeroPanelReading = record { stage = 0; columns = zeroReading; rows = zeroReading }
+
+-- ---- areas
+abbrev pub areaNameOf : Area → List ℕ
+areaNameOf a = a .name
+
+abbrev pub areaEdgesWord : Area → ℕ
+areaEdgesWord a = edgesWord (a .edges)
+
+abbrev pub areaNameWord : Area → ℕ → ℕ
+areaNameWord a offset = nameWord 0 0 offset (length (a .name))
+
+abbrev pub areaBytesOf : List Area → List ℕ
+areaBytesOf list = bytesOf areaNameOf list
+
+unfoldable pub areaRegions : List Area → List Region
+areaRegions list = region 64 (map areaEdgesWord list) ∷ region 64 (wordsFrom areaNameWord areaNameOf 0 list) ∷ []
+
+unfoldable pub areaWords : List Area → List ℕ
+areaWords list = lay (areaRegions list)
+
+unfoldable pub areaStore : List Area → List ℕ
+areaStore list = pad 2048 (areaBytesOf list)
+
+-- ---- placements: the ends one after the other, the start with its axis
+pub record AxisEnd : Type 0 where
+  pub axis : ℕ
+  pub end : End
+
+abbrev pub endsOf : List Placement → List AxisEnd
+endsOf [] = []
+endsOf (p ∷ ps) = record { axis = axisNumber (p .axis); end = p .start } ∷ record { axis = 0; end = p .end } ∷ endsOf ps
+
+abbrev pub endNameOf : AxisEnd → List ℕ
+endNameOf e = e .end .name
+
+abbrev pub axisEndWord : AxisEnd → ℕ → ℕ
+axisEndWord e offset = endWord (e .axis) (e .end .end) offset (length (e .end .name))
+
+abbrev pub placementBytesOf : List Placement → List ℕ
+placementBytesOf ps = bytesOf endNameOf (endsOf ps)
+
+unfoldable pub placementWords : List Placement → List ℕ
+placementWords ps = pad 512 (wordsFrom axisEndWord endNameOf 0 (endsOf ps))
+
+unfoldable pub placementStore : List Placement → List ℕ
+placementStore ps = pad 16384 (placementBytesOf ps)
+
+-- ---- the panel
+abbrev pub panelOf : PanelView → Panel
+panelOf v =
+    record {
+      columns = stateOf (v .columns);
+      rows = stateOf (v .rows);
+      areas = length (v .areas);
+      areabytes = length (areaBytesOf (v .areas));
+      placements = length (v .placements);
+      placementbytes = length (placementBytesOf (v .placements));
+    }
+
+abbrev pub panelReadingOf : PanelView → Reading
+panelReadingOf v = record { stage = v .stage; columns = readingOf (v .columns); rows = readingOf (v .rows) }
+
+-- state and tables together
+pub record PanelHeld : Type 0 where
+  pub panel : Panel
+  pub reading : Reading
+  pub columns : List ℕ
+  pub rows : List ℕ
+  pub columnMarks : List ℕ
+  pub rowMarks : List ℕ
+  pub columnBytes : List ℕ
+  pub rowBytes : List ℕ
+  pub areas : List ℕ
+  pub areaBytes : List ℕ
+  pub placements : List ℕ
+  pub placementBytes : List ℕ
+
+unfoldable pub heldPanel : PanelView → PanelHeld
+heldPanel v =
+    record {
+      panel = panelOf v;
+      reading = panelReadingOf v;
+      columns = axisWords (v .columns);
+      rows = axisWords (v .rows);
+      columnMarks = v .columns .marks;
+      rowMarks = v .rows .marks;
+      columnBytes = namesStore (v .columns);
+      rowBytes = namesStore (v .rows);
+      areas = areaWords (v .areas);
+      areaBytes = areaStore (v .areas);
+      placements = placementWords (v .placements);
+      placementBytes = placementStore (v .placements);
+    }
+
+-- a fault with what is held
+pub record PanelStepped : Type 0 where
+  pub fault : ℕ
+  pub held : PanelHeld
+
+abbrev pub stepped : PanelOutcome → PanelStepped
+stepped o = record { fault = o .fault; held = heldPanel (o .panel) }
+
+-- what `area` and `place` leave beside the tables that they do not touch
+abbrev pub ofAreas : PanelHeld → InAreas → PanelStepped
+ofAreas h x =
+    record {
+      fault = x .answer .fault;
+      held = record {
+        panel = x .answer .panel;
+        reading = h .reading;
+        columns = h .columns;
+        rows = h .rows;
+        columnMarks = h .columnMarks;
+        rowMarks = h .rowMarks;
+        columnBytes = h .columnBytes;
+        rowBytes = h .rowBytes;
+        areas = x .words;
+        areaBytes = x .bytes;
+        placements = h .placements;
+        placementBytes = h .placementBytes;
+      };
+    }
+
+abbrev pub ofPlacements : PanelHeld → InAreas → PanelStepped
+ofPlacements h x =
+    record {
+      fault = x .answer .fault;
+      held = record {
+        panel = x .answer .panel;
+        reading = h .reading;
+        columns = h .columns;
+        rows = h .rows;
+        columnMarks = h .columnMarks;
+        rowMarks = h .rowMarks;
+        columnBytes = h .columnBytes;
+        rowBytes = h .rowBytes;
+        areas = h .areas;
+        areaBytes = h .areaBytes;
+        placements = x .words;
+        placementBytes = x .bytes;
+      };
+    }

@@ -1,0 +1,82 @@
+// The tables of a panel beside those of its axes: the drawn areas and the placements, with the bytes of their names.
+pub mod area;
+pub mod axis;
+mod number;
+pub mod placement;
+pub mod state;
+
+use coordinates::Axis;
+use tables::AxisReading;
+use tables::AxisState;
+
+// A panel by value: its axes, how many areas and placements the tables hold, and how many bytes their names take.
+pub struct Panel {
+    pub columns: AxisState,
+    pub rows: AxisState,
+    pub areas: u32,
+    pub areabytes: u32,
+    pub placements: u32,
+    pub placementbytes: u32,
+}
+
+// What only reading needs: the kind order (0 where nothing but `axis` records was read, 1 after an `area`, 2 after any other),
+// and what each axis needs.
+pub struct Reading {
+    pub stage: u32,
+    pub columns: AxisReading,
+    pub rows: AxisReading,
+}
+
+// The answer of a record: its refusal's number, 0 where there is none, and the panel after it, on a refusal as it came.
+pub struct PanelPut {
+    pub fault: u32,
+    pub panel: Panel,
+}
+
+// The answer of a record of one axis, for the panel: its refusal's number, and the panel and the reading after it.
+pub struct PanelRead {
+    pub fault: u32,
+    pub panel: Panel,
+    pub reading: Reading,
+}
+
+// The edges of an area, as lines.
+pub struct AreaEdges {
+    pub rowstart: u32,
+    pub rowend: u32,
+    pub columnstart: u32,
+    pub columnend: u32,
+}
+
+// The two edges of an area in an axis.
+pub struct EdgePair {
+    pub start: u32,
+    pub end: u32,
+}
+
+// An area as its table holds it: its edges, and where the bytes of its name lie.
+pub struct AreaPlace {
+    pub edges: AreaEdges,
+    pub offset: u32,
+    pub length: u32,
+}
+
+// An end of a placement: kinds 0 to 4 are `auto line named span nspan`; the number is 0 where it is unused.
+pub struct PlacementEnd {
+    pub kind: u32,
+    pub number: i32,
+}
+
+// An end as its table holds it: with where the bytes of its name lie.
+pub struct EndPlace {
+    pub end: PlacementEnd,
+    pub offset: u32,
+    pub length: u32,
+}
+
+// A placement as its table holds it.
+pub struct PlacementPlace {
+    pub axis: Axis,
+    pub start: EndPlace,
+    pub end: EndPlace,
+}

@@ -1,0 +1,4 @@
+-- What the contracts on a sheet cite.
+pub mod Lines
+pub mod Sheet
+pub mod Rows

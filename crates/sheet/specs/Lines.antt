@@ -1,0 +1,108 @@
+-- What one line of a sheet does to the panel that the lines before it describe (document 01, panel sheet and the table of refusals).
+use Prim.Native.Nat.{ℕ}
+use mathlib.Core.List.{List, []}
+use mathlib.Core.Bool.{Bool, cond}
+use lib.Dec.{eqb, ltb}
+use Rattle.coordinates.specs.declared.axis.Axis.{Axis}
+use Rattle.coordinates.specs.declared.axis.Axis.the-variants.{Column, Row}
+use Rattle.records.specs.declared.Record.{Record}
+use Rattle.records.specs.declared.Record.the-variants.{Fault, Axis as AxisLine, Area, Name, Track, Repeat, End, Spare, Extra, Item, Place}
+use Rattle.records.specs.declared.AreaRecord.{AreaRecord}
+use Rattle.records.specs.declared.PlaceEnd.{PlaceEnd}
+use Rattle.records.specs.Words.{at}
+use Rattle.records.specs.Faults.{firstOf}
+use Rattle.records.specs.Ends.{usesName}
+use Rattle.records.specs.Records.{recordOf, faultOf}
+use Rattle.tables.specs.View.{AxisView, AxisOutcome, trackStep, repeatStep, endStep, nameStep, spareStep, itemStep, extraStep, axisStep}
+use Rattle.panel_tables.specs.declared.AreaEdges.{AreaEdges}
+use Rattle.panel_tables.specs.View.{PanelView, PanelOutcome, End as PlacedEnd, hasArea, refused, accepted, areaStep, placeStep}
+
+-- ---- one axis of a panel
+
+abbrev pub axisIn : PanelView → Axis → AxisView
+axisIn v Column = v .columns
+axisIn v Row = v .rows
+
+abbrev pub withAxis : PanelView → Axis → AxisView → PanelView
+withAxis v Column x = record { columns = x; rows = v .rows; areas = v .areas; placements = v .placements; stage = v .stage }
+withAxis v Row x = record { columns = v .columns; rows = x; areas = v .areas; placements = v .placements; stage = v .stage }
+
+abbrev pub onAxis : PanelView → Axis → AxisOutcome → PanelOutcome
+onAxis v a o = record { fault = o .fault; panel = withAxis v a (o .axis) }
+
+-- ---- what the record of a line writes, and the fault of its own: 1 by nesting, 8 by a limit
+
+abbrev pub bit : Bool → ℕ
+bit b = cond b 1 0
+
+abbrev pub edgesOf : AreaRecord → AreaEdges
+edgesOf a = record { rowstart = a .rowstart; rowend = a .rowend; columnstart = a .columnstart; columnend = a .columnend }
+
+-- an end with its name, which is empty where it is unused
+abbrev pub placedEnd : List ℕ → PlaceEnd → PlacedEnd
+placedEnd f e = record { end = record { kind = e .kind; number = e .number }; name = cond (usesName (e .kind)) f [] }
+
+unfoldable pub recordStep : PanelView → List (List ℕ) → Record → PanelOutcome
+recordStep v fs (Fault n) = accepted v
+recordStep v fs (AxisLine a) = onAxis v (a .axis) (axisStep (axisIn v (a .axis)) (bit (a .definite)) (a .inner) (a .rule) (a .gap))
+recordStep v fs (Area a) = areaStep v (at fs 1) (edgesOf a)
+recordStep v fs (Name a) = onAxis v a (nameStep (axisIn v a) (at fs 2))
+recordStep v fs (Track a min max) = onAxis v a (trackStep (axisIn v a) min max)
+recordStep v fs (Repeat a n) = onAxis v a (repeatStep (axisIn v a) (n .kind) (n .number))
+recordStep v fs (End a) = onAxis v a (endStep (axisIn v a))
+recordStep v fs (Spare a min max) = onAxis v a (spareStep (axisIn v a) min max)
+recordStep v fs (Extra a n p) = onAxis v a (extraStep (axisIn v a) n p)
+recordStep v fs (Item a i) = onAxis v a (itemStep (axisIn v a) i)
+recordStep v fs (Place a s e) = placeStep v a (placedEnd (at fs 3) s) (placedEnd (at fs 6) e)
+
+-- ---- faults by the lines before it
+
+-- twice: an area name or axis record again
+abbrev pub twiceFault : PanelView → List (List ℕ) → Record → ℕ
+twiceFault v fs (Fault n) = 0
+twiceFault v fs (AxisLine a) = cond (eqb (axisIn v (a .axis) .line .seen) 0) 0 6
+twiceFault v fs (Area a) = cond (hasArea (at fs 1) (v .areas)) 6 0
+twiceFault v fs (Name a) = 0
+twiceFault v fs (Track a min max) = 0
+twiceFault v fs (Repeat a n) = 0
+twiceFault v fs (End a) = 0
+twiceFault v fs (Spare a min max) = 0
+twiceFault v fs (Extra a n p) = 0
+twiceFault v fs (Item a i) = 0
+twiceFault v fs (Place a s e) = 0
+
+-- "kind order: `axis`, then `area`, then the rest, freely mixed"; a line that is no record has no place in it
+abbrev pub stageOf : PanelView → Record → ℕ
+stageOf v (Fault n) = v .stage
+stageOf v (AxisLine a) = 0
+stageOf v (Area a) = 1
+stageOf v (Name a) = 2
+stageOf v (Track a min max) = 2
+stageOf v (Repeat a n) = 2
+stageOf v (End a) = 2
+stageOf v (Spare a min max) = 2
+stageOf v (Extra a n p) = 2
+stageOf v (Item a i) = 2
+stageOf v (Place a s e) = 2
+
+-- late: a record earlier in kind than one before it
+abbrev pub lateFault : PanelView → Record → ℕ
+lateFault v r = cond (ltb (stageOf v r) (v .stage)) 7 0
+
+-- ---- the line
+
+-- of all its faults the one that comes first
+unfoldable pub recordFault : PanelView → List (List ℕ) → Record → ℕ
+recordFault v fs r = firstOf (faultOf r) (firstOf (twiceFault v fs r) (firstOf (lateFault v r) (recordStep v fs r .fault)))
+
+abbrev pub atStage : ℕ → PanelView → PanelView
+atStage n v = record { columns = v .columns; rows = v .rows; areas = v .areas; placements = v .placements; stage = n }
+
+-- a refused line changes nothing
+abbrev pub recordOutcome : PanelView → List (List ℕ) → Record → PanelOutcome
+recordOutcome v fs r =
+    cond (eqb (recordFault v fs r) 0) (accepted (atStage (stageOf v r) (recordStep v fs r .panel))) (refused (recordFault v fs r) v)
+
+-- a line as its fields
+unfoldable pub lineStep : PanelView → List (List ℕ) → PanelOutcome
+lineStep v fs = recordOutcome v fs (recordOf fs)
