@@ -4,3 +4,7 @@ pub mod Only
 pub mod LineRows
 pub mod LineTheorem
 pub mod Theorem
+pub mod Examples
+pub mod Limits
+pub mod Fits
+pub mod Same

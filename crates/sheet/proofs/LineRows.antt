@@ -27,7 +27,8 @@ use Rattle.records.proofs.Bounds.{Bounded}
 use Rattle.tables.specs.View.{Unended, none, inside, AxisView, AxisOutcome, refused as refusedAxis, accepted as acceptedAxis, withName, trackBy, trackStep, repeatBy, repeatStep, endBy, endStep, nameStep, spareStep, itemStep, extraStep, axisStep, tracksIn, componentsOf, axisNames, axisBytes, noRoom}
 use Rattle.panel_tables.specs.declared.AreaEdges.{AreaEdges}
 use Rattle.panel_tables.specs.View.{Area, PanelView, PanelOutcome, hasArea, refused, accepted, edgeOutside, edgesOutside, numberOutside, endOutside, areaStep, placeStep}
-use Rattle.sheet.specs.Lines.{axisIn, edgesOf, placedEnd, recordStep, twiceFault, stageOf, lateFault}
+use Rattle.panel_tables.specs.Axes.{viewIn}
+use Rattle.sheet.specs.Lines.{edgesOf, placedEnd, recordStep, twiceFault, stageOf, lateFault}
 use Rattle.sheet.specs.Rows.{OnAxis, OfAxis, Opened, Open, Seen, Drawn, MisnestedBy, TwiceBy, orderOf, LateBy, FullFor, NoRoomFor, CrowdedBy, AtKind, Row, unread, twice, late, crowded, numberOf, First}
 use Rattle.sheet.proofs.Says.{Says, one-axis}
 use Rattle.sheet.proofs.Only.{Only, only-no, only-yes, only-if, some-number}
@@ -89,8 +90,8 @@ module _ (v : PanelView) (fs : List (List ℕ)) where
   at-kind : (P : Kind → PanelView → List (List ℕ) → Type 0) (k : Kind) → Of fs k → AtKind P v fs → P k v fs
   at-kind P k o (j, p, x) = subst (λ (i : Kind). P i v fs) (same-kind fs j k (p .word) (o .word)) x
 
-  of-axis : (P : AxisView → Type 0) (a : Axis) → OnAxis fs a → OfAxis v fs P → P (axisIn v a)
-  of-axis P a o (b, p, x) = subst (λ (c : Axis). P (axisIn v c)) (one-axis fs b a p o) x
+  of-axis : (P : AxisView → Type 0) (a : Axis) → OnAxis fs a → OfAxis v fs P → P (viewIn v a)
+  of-axis P a o (b, p, x) = subst (λ (c : Axis). P (viewIn v c)) (one-axis fs b a p o) x
 
   -- twice
   abbrev pub TwiceRow : Row → Type 0
@@ -101,11 +102,11 @@ module _ (v : PanelView) (fs : List (List ℕ)) where
 
   pub twice-first : (r : Record) → IsRecord r → Says fs r → First TwiceRow (twiceFault v fs r)
   twice-first (Fault n) i s = absurd i
-  twice-first (AxisLine a) i (o, x) = go (eqb (axisIn v (a .axis) .line .seen) 0) refl
+  twice-first (AxisLine a) i (o, x) = go (eqb (viewIn v (a .axis) .line .seen) 0) refl
     where
-      go : (t : Bool) → eqb (axisIn v (a .axis) .line .seen) 0 ≡ t → First TwiceRow (cond t 0 6)
-      go true e = no-twice axis o (λ y. of-axis Seen (a .axis) x y (eqb-true (axisIn v (a .axis) .line .seen) 0 e))
-      go false e = only-yes twice refl (axis, o, (a .axis, x, eqb-false (axisIn v (a .axis) .line .seen) 0 e))
+      go : (t : Bool) → eqb (viewIn v (a .axis) .line .seen) 0 ≡ t → First TwiceRow (cond t 0 6)
+      go true e = no-twice axis o (λ y. of-axis Seen (a .axis) x y (eqb-true (viewIn v (a .axis) .line .seen) 0 e))
+      go false e = only-yes twice refl (axis, o, (a .axis, x, eqb-false (viewIn v (a .axis) .line .seen) 0 e))
   twice-first (AreaLine a) i o =
       only-if twice (hasArea (at fs 1) (v .areas)) (λ e. (area, o, drawn (at fs 1) (v .areas) e)) (λ e y. not-drawn (at fs 1) (v .areas) e (at-kind TwiceBy area o y))
   twice-first (Name a) i (o, x) = no-twice name o (λ y. y)
@@ -187,47 +188,47 @@ module _ (v : PanelView) (fs : List (List ℕ)) where
       go false false e q (inl y) = omega (arith, leb-false 4096 (length (axisNames x)) e, y)
       go false false e q (inr y) = omega (arith, ltb-false 32768 (length (axisBytes x) + length n) q, y)
 
-  track-first : (a : Axis) → Of fs track → OnAxis fs a → (min max : ℕ) → First StepRow (trackStep (axisIn v a) min max .fault)
+  track-first : (a : Axis) → Of fs track → OnAxis fs a → (min max : ℕ) → First StepRow (trackStep (viewIn v a) min max .fault)
   unfolding trackStep
-  track-first a o x min max = go (axisIn v a .unended) refl
+  track-first a o x min max = go (viewIn v a .unended) refl
     where
-      held : (u : Unended) → axisIn v a .unended ≡ u → FullFor u (axisIn v a) → CrowdedBy track v fs
-      held u e f = (a, x, subst (λ (w : Unended). FullFor w (axisIn v a)) (sym e) f)
+      held : (u : Unended) → viewIn v a .unended ≡ u → FullFor u (viewIn v a) → CrowdedBy track v fs
+      held u e f = (a, x, subst (λ (w : Unended). FullFor w (viewIn v a)) (sym e) f)
 
-      back : (u : Unended) → axisIn v a .unended ≡ u → CrowdedBy track v fs → FullFor u (axisIn v a)
-      back u e c = subst (λ (w : Unended). FullFor w (axisIn v a)) e (of-axis (λ y. FullFor (y .unended) y) a x c)
+      back : (u : Unended) → viewIn v a .unended ≡ u → CrowdedBy track v fs → FullFor u (viewIn v a)
+      back u e c = subst (λ (w : Unended). FullFor w (viewIn v a)) e (of-axis (λ y. FullFor (y .unended) y) a x c)
 
-      go : (u : Unended) → axisIn v a .unended ≡ u → First StepRow (trackBy (axisIn v a) u (record { min = min; max = max }) .fault)
+      go : (u : Unended) → viewIn v a .unended ≡ u → First StepRow (trackBy (viewIn v a) u (record { min = min; max = max }) .fault)
       go none e =
-          let n = length (componentsOf (axisIn v a .template)) in
+          let n = length (componentsOf (viewIn v a .template)) in
           crowded-on track o (λ y. y) (ltb 63 n) _ _ (λ t. held none e (ltb-true 63 n t)) (λ t c. omega (arith, ltb-false 63 n t, back none e c))
       go (inside r) e =
           let n = length (tracksIn (r .pieces)) in
           crowded-on track o (λ y. y) (ltb 31 n) _ _ (λ t. held (inside r) e (ltb-true 31 n t)) (λ t c. omega (arith, ltb-false 31 n t, back (inside r) e c))
 
-  repeat-first : (a : Axis) → Of fs repeat → OnAxis fs a → (kind number : ℕ) → number ≤ 65535 → First StepRow (repeatStep (axisIn v a) kind number .fault)
+  repeat-first : (a : Axis) → Of fs repeat → OnAxis fs a → (kind number : ℕ) → number ≤ 65535 → First StepRow (repeatStep (viewIn v a) kind number .fault)
   unfolding repeatStep
-  repeat-first a o x kind number h = go (axisIn v a .unended) refl
+  repeat-first a o x kind number h = go (viewIn v a .unended) refl
     where
-      go : (u : Unended) → axisIn v a .unended ≡ u → First StepRow (repeatBy (axisIn v a) u kind number .fault)
+      go : (u : Unended) → viewIn v a .unended ≡ u → First StepRow (repeatBy (viewIn v a) u kind number .fault)
       go (inside r) e =
-          let n = length (componentsOf (axisIn v a .template)) in
+          let n = length (componentsOf (viewIn v a .template)) in
           let c : ℕ = cond (ltb 63 n) 8 0 in
           both 1 c (only-yes unread refl (repeat, o, (a, x, subst Opened (sym e) tt)))
           (only-if crowded (ltb 63 n) (λ t. (repeat, o, (a, x, ltb-true 63 n t)))
           (λ t y. omega (arith, ltb-false 63 n t, of-axis (λ z. 64 ≤ length (componentsOf (z .template))) a x (at-kind CrowdedBy repeat o y))))
           (first-one 1 c refl)
       go none e =
-          let n = length (componentsOf (axisIn v a .template)) in
+          let n = length (componentsOf (viewIn v a .template)) in
           rw (le-ltb 65535 number h)
           (crowded-on repeat o (λ y. subst Opened e (of-axis Open a x y)) (ltb 63 n) _ _ (λ t. (a, x, ltb-true 63 n t))
           (λ t y. omega (arith, ltb-false 63 n t, of-axis (λ z. 64 ≤ length (componentsOf (z .template))) a x y)))
 
-  end-first : (a : Axis) → Of fs end → OnAxis fs a → First StepRow (endStep (axisIn v a) .fault)
+  end-first : (a : Axis) → Of fs end → OnAxis fs a → First StepRow (endStep (viewIn v a) .fault)
   unfolding endStep
-  end-first a o x = go (axisIn v a .unended) refl
+  end-first a o x = go (viewIn v a .unended) refl
     where
-      go : (u : Unended) → axisIn v a .unended ≡ u → First StepRow (endBy (axisIn v a) u .fault)
+      go : (u : Unended) → viewIn v a .unended ≡ u → First StepRow (endBy (viewIn v a) u .fault)
       go none e = both 1 0 (only-yes unread refl (end, o, (a, x, λ y. subst Opened e y))) (only-no crowded refl (λ y. at-kind CrowdedBy end o y)) (first-one 1 0 refl)
       go (inside r) e = neither end o (λ y. of-axis (λ z. Open z → ⊥) a x y (subst Opened (sym e) tt)) (λ y. y)
 
@@ -246,13 +247,13 @@ module _ (v : PanelView) (fs : List (List ℕ)) where
       (crowded-if area o (λ y. y) (leb 64 (length (v .areas))) _ _ (leb-true 64 (length (v .areas))) (λ t y. omega (arith, leb-false 64 (length (v .areas)) t, y)))
   step-first (Name a) i (o, x) b =
       let n = at fs 2 in
-      crowded-on name o (λ y. y) (noRoom 4096 32768 (length (axisNames (axisIn v a))) (length (axisBytes (axisIn v a))) (length n)) _ _
-      (λ t. (a, x, no-room (axisIn v a) n (b .few) t)) (λ t y. room (axisIn v a) n t (of-axis (NoRoomFor n) a x y))
+      crowded-on name o (λ y. y) (noRoom 4096 32768 (length (axisNames (viewIn v a))) (length (axisBytes (viewIn v a))) (length n)) _ _
+      (λ t. (a, x, no-room (viewIn v a) n (b .few) t)) (λ t y. room (viewIn v a) n t (of-axis (NoRoomFor n) a x y))
   step-first (Track a min max) i (o, x) b = track-first a o x min max
   step-first (Repeat a n) i (o, x) b = repeat-first a o x (n .kind) (n .number) (b .most)
   step-first (End a) i (o, x) b = end-first a o x
   step-first (Spare a min max) i (o, x) b =
-      let n = length (axisIn v a .spares) in
+      let n = length (viewIn v a .spares) in
       crowded-on spare o (λ y. y) (ltb 63 n) _ _ (λ t. (a, x, ltb-true 63 n t))
       (λ t y. omega (arith, ltb-false 63 n t, of-axis (λ z. 64 ≤ length (z .spares)) a x y))
   step-first (Extra a n p) i (o, x) b = neither extra o (λ y. y) (λ y. y)

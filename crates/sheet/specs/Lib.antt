@@ -2,3 +2,4 @@
 pub mod Lines
 pub mod Sheet
 pub mod Rows
+pub mod Steps

@@ -3,8 +3,6 @@ use Prim.Native.Nat.{ℕ}
 use mathlib.Core.List.{List, []}
 use mathlib.Core.Bool.{Bool, cond}
 use lib.Dec.{eqb, ltb}
-use Rattle.coordinates.specs.declared.axis.Axis.{Axis}
-use Rattle.coordinates.specs.declared.axis.Axis.the-variants.{Column, Row}
 use Rattle.records.specs.declared.Record.{Record}
 use Rattle.records.specs.declared.Record.the-variants.{Fault, Axis as AxisLine, Area, Name, Track, Repeat, End, Spare, Extra, Item, Place}
 use Rattle.records.specs.declared.AreaRecord.{AreaRecord}
@@ -13,22 +11,10 @@ use Rattle.records.specs.Words.{at}
 use Rattle.records.specs.Faults.{firstOf}
 use Rattle.records.specs.Ends.{usesName}
 use Rattle.records.specs.Records.{recordOf, faultOf}
-use Rattle.tables.specs.View.{AxisView, AxisOutcome, trackStep, repeatStep, endStep, nameStep, spareStep, itemStep, extraStep, axisStep}
+use Rattle.tables.specs.View.{trackStep, repeatStep, endStep, nameStep, spareStep, itemStep, extraStep, axisStep}
 use Rattle.panel_tables.specs.declared.AreaEdges.{AreaEdges}
 use Rattle.panel_tables.specs.View.{PanelView, PanelOutcome, End as PlacedEnd, hasArea, refused, accepted, areaStep, placeStep}
-
--- ---- one axis of a panel
-
-abbrev pub axisIn : PanelView → Axis → AxisView
-axisIn v Column = v .columns
-axisIn v Row = v .rows
-
-abbrev pub withAxis : PanelView → Axis → AxisView → PanelView
-withAxis v Column x = record { columns = x; rows = v .rows; areas = v .areas; placements = v .placements; stage = v .stage }
-withAxis v Row x = record { columns = v .columns; rows = x; areas = v .areas; placements = v .placements; stage = v .stage }
-
-abbrev pub onAxis : PanelView → Axis → AxisOutcome → PanelOutcome
-onAxis v a o = record { fault = o .fault; panel = withAxis v a (o .axis) }
+use Rattle.panel_tables.specs.Axes.{viewIn, stepIn}
 
 -- ---- what the record of a line writes, and the fault of its own: 1 by nesting, 8 by a limit
 
@@ -44,15 +30,15 @@ placedEnd f e = record { end = record { kind = e .kind; number = e .number }; na
 
 unfoldable pub recordStep : PanelView → List (List ℕ) → Record → PanelOutcome
 recordStep v fs (Fault n) = accepted v
-recordStep v fs (AxisLine a) = onAxis v (a .axis) (axisStep (axisIn v (a .axis)) (bit (a .definite)) (a .inner) (a .rule) (a .gap))
+recordStep v fs (AxisLine a) = stepIn v (a .axis) (axisStep (viewIn v (a .axis)) (bit (a .definite)) (a .inner) (a .rule) (a .gap))
 recordStep v fs (Area a) = areaStep v (at fs 1) (edgesOf a)
-recordStep v fs (Name a) = onAxis v a (nameStep (axisIn v a) (at fs 2))
-recordStep v fs (Track a min max) = onAxis v a (trackStep (axisIn v a) min max)
-recordStep v fs (Repeat a n) = onAxis v a (repeatStep (axisIn v a) (n .kind) (n .number))
-recordStep v fs (End a) = onAxis v a (endStep (axisIn v a))
-recordStep v fs (Spare a min max) = onAxis v a (spareStep (axisIn v a) min max)
-recordStep v fs (Extra a n p) = onAxis v a (extraStep (axisIn v a) n p)
-recordStep v fs (Item a i) = onAxis v a (itemStep (axisIn v a) i)
+recordStep v fs (Name a) = stepIn v a (nameStep (viewIn v a) (at fs 2))
+recordStep v fs (Track a min max) = stepIn v a (trackStep (viewIn v a) min max)
+recordStep v fs (Repeat a n) = stepIn v a (repeatStep (viewIn v a) (n .kind) (n .number))
+recordStep v fs (End a) = stepIn v a (endStep (viewIn v a))
+recordStep v fs (Spare a min max) = stepIn v a (spareStep (viewIn v a) min max)
+recordStep v fs (Extra a n p) = stepIn v a (extraStep (viewIn v a) n p)
+recordStep v fs (Item a i) = stepIn v a (itemStep (viewIn v a) i)
 recordStep v fs (Place a s e) = placeStep v a (placedEnd (at fs 3) s) (placedEnd (at fs 6) e)
 
 -- ---- faults by the lines before it
@@ -60,7 +46,7 @@ recordStep v fs (Place a s e) = placeStep v a (placedEnd (at fs 3) s) (placedEnd
 -- twice: an area name or axis record again
 abbrev pub twiceFault : PanelView → List (List ℕ) → Record → ℕ
 twiceFault v fs (Fault n) = 0
-twiceFault v fs (AxisLine a) = cond (eqb (axisIn v (a .axis) .line .seen) 0) 0 6
+twiceFault v fs (AxisLine a) = cond (eqb (viewIn v (a .axis) .line .seen) 0) 0 6
 twiceFault v fs (Area a) = cond (hasArea (at fs 1) (v .areas)) 6 0
 twiceFault v fs (Name a) = 0
 twiceFault v fs (Track a min max) = 0

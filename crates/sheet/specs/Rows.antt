@@ -14,7 +14,8 @@ use Rattle.records.specs.Forms.{Kind, axis, area, name, track, repeat, end, spa
 use Rattle.records.specs.Rows.{UnreadLine, BadName, BadValue, BadCount, BadArea}
 use Rattle.tables.specs.View.{Unended, none, inside, AxisView, tracksIn, componentsOf, axisNames, axisBytes}
 use Rattle.panel_tables.specs.View.{Area, PanelView, emptyView}
-use Rattle.sheet.specs.Lines.{axisIn, lineStep}
+use Rattle.panel_tables.specs.Axes.{viewIn}
+use Rattle.sheet.specs.Lines.{lineStep}
 use Rattle.sheet.specs.Sheet.{explicitOf, entriesOf}
 
 -- "axis is `c` or `r`"
@@ -24,7 +25,7 @@ OnAxis fs Rows = at fs 1 ≡ getD axisWords 1 []
 
 -- of the axis that a line names
 abbrev pub OfAxis : PanelView → List (List ℕ) → (AxisView → Type 0) → Type 0
-OfAxis v fs P = (a : Axis) × OnAxis fs a × P (axisIn v a)
+OfAxis v fs P = (a : Axis) × OnAxis fs a × P (viewIn v a)
 
 abbrev pub Opened : Unended → Type 0
 Opened none = ⊥
