@@ -4,6 +4,7 @@
 --   `record-track`, `record-gutter` (Collapse): a track collapses, and a gutter stays, exactly by CSS's rule
 --   `sizes-before`, `sizes-after`, `first-spare`, `last-spare` (Spares): implicit sizes as in CSS
 --   `line-record` (Lines): after template line j stands track j, the third demand's track claim
+--   `size-covers` (Covers): with layer 3's answer, not refused, all tracks of a valid template lie within the explicit count, as `line-record` asks
 --   `cases-hold` (Cases): M12 and two more as one list
 pub mod Lists
 pub mod Words
@@ -19,3 +20,4 @@ pub mod Collapse
 pub mod Spares
 pub mod Lines
 pub mod Cases
+pub mod Covers

@@ -2,6 +2,11 @@
 use Prim.Native.Nat.{ℕ}
 use mathlib.Core.Path.{_≡_}
 use mathlib.Core.Bool.{true, false}
+use mathlib.Core.List.{List, [], _∷_}
+use lib.ListN.{length}
+use Rattle.explicit_grid.specs.Template.{Component}
+use Rattle.explicit_grid.specs.declared.RepetitionCount.{RepetitionCount}
+use Rattle.explicit_grid.specs.declared.RepetitionCount.the-variants.{Single, Count, AutoFill, AutoFit}
 use Rattle.grid_track.specs.declared.GridTrack.{GridTrack}
 use Rattle.grid_track.specs.declared.GridTrackKind.the-variants.{Track}
 use Rattle.grid_track.specs.declared.WrittenTrack.{WrittenTrack}
@@ -16,3 +21,14 @@ pub record Stands (x : WrittenTrack) (byte : ℕ) (r : GridTrack) : Type 0 where
   pub is-track : r .kind ≡ Track
   pub as-written : (Empty x byte → ⊥) → (r .collapsed ≡ false) × (r .size ≡ x .size)
   pub shut : Empty x byte → (r .collapsed ≡ true) × (r .size ≡ zeroSize)
+
+-- a single is one track, as the words of a template give it
+abbrev pub OneTrack : RepetitionCount → ℕ → Type 0
+OneTrack Single n = n ≡ 1
+OneTrack (Count times) n = Unit {0}
+OneTrack AutoFill n = Unit {0}
+OneTrack AutoFit n = Unit {0}
+
+abbrev pub OneTrackEach : List Component → Type 0
+OneTrackEach [] = Unit {0}
+OneTrackEach (c ∷ cs) = OneTrack (c .count) (length (c .tracks)) × OneTrackEach cs
