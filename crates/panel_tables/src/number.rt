@@ -46,7 +46,7 @@ fn signed(n: u32) -> i32
 }
 
 // The number of a count.
-pub fn number_of(count: u32) -> i32
+pub(crate) fn number_of(count: u32) -> i32
     requires { ⌜ count < 131072 ⌝ }
     ensures { λ r. ⌜ r ≡ numberOf count ⌝ }
 {
