@@ -1,6 +1,6 @@
 -- A template is valid by the walk exactly if it is valid in CSS's words. Assumes nothing.
 use mathlib.Core.Path.{_≡_, refl, ap, _∙_}
-use mathlib.Core.Logic.{_↔_, _⊎_, inl, inr, ⊎-elim}
+use mathlib.Core.Logic.{_⊎_, inl, inr, ⊎-elim, _↔_}
 use Prim.Native.Nat.{ℕ, zero, suc, _+_, _≤_, _<_, zero-le, suc-le-suc}
 use native.Mathlib.Nat.{le-of-suc-le-suc, not-suc-le-zero}
 use native.Mathlib.Omega.{arith}
@@ -121,7 +121,7 @@ member [] i h = absurd (not-suc-le-zero h)
 member (d ∷ cs) zero h = List·Memᴰ·head refl
 member (d ∷ cs) (suc i) h = List·Memᴰ·tail (member cs i (le-of-suc-le-suc h))
 
-in-count : (cs : List Component) (a : Component) → List·Memᴰ a cs → Automatic a → 0 < automaticCount cs
+pub in-count : (cs : List Component) (a : Component) → List·Memᴰ a cs → Automatic a → 0 < automaticCount cs
 unfolding automaticCount
 in-count [] a m e = absurd (List·Memᴰ·not-nil m)
 in-count (d ∷ cs) a m e = ⊎-elim (λ s. here s) (λ n. more (cond (isAutomatic (d .count)) 1 0) (automaticCount cs) (in-count cs a n e)) (List·Memᴰ·cases-cons m)
@@ -225,3 +225,15 @@ valid-definite cs v h inner c m t n =
     let p = place-of cs h in
     fixed-track-definite t inner
     ∙ from-either (isFixed (t .min)) (isFixed (t .max)) (v .fixed (getD cs (p .place) noComponent) (member cs (p .place) (p .inside)) (p .automatic) c m t n)
+
+-- a valid template has one automatic repeat at most
+pub one-at-most : (cs : List Component) → Valid cs → (automaticCount cs ≡ 0) ⊎ (automaticCount cs ≡ 1)
+one-at-most cs v = go (automaticCount cs) (place-one cs (v .once))
+  where
+    go : (n : ℕ) → n ≤ 1 → (n ≡ 0) ⊎ (n ≡ 1)
+    go zero h = inl refl
+    go (suc n) h = inr (omega arith)
+
+-- where there is an automatic repeat, it is a component
+pub automatic-component : (cs : List Component) → 0 < automaticCount cs → (c : Component) × List·Memᴰ c cs × Automatic c
+automatic-component cs h = let p = place-of cs h in (getD cs (p .place) noComponent, member cs (p .place) (p .inside), p .automatic)

@@ -1,6 +1,6 @@
 -- The template's tracks, written out with layer 3's repetitions, are as many as layer 3 counts: so they lie within the explicit count. Assumes nothing.
 use mathlib.Core.Path.{_≡_, refl, sym, _∙_, ap}
-use mathlib.Core.Logic.{_⊎_, inl, inr, ⊎-elim}
+use mathlib.Core.Logic.{⊎-elim}
 use mathlib.Core.Bool.{Bool, true, false, cond}
 use mathlib.Core.List.{List, [], _∷_, _++_}
 use Prim.Native.Nat.{ℕ, zero, suc, _+_, _*_, _≤_, max}
@@ -15,6 +15,7 @@ use Rattle.explicit_grid.specs.Explicit.{innerValue, templateSizeOf, explicitSi
 use Rattle.explicit_grid.specs.declared.InnerSize.{InnerSize}
 use Rattle.explicit_grid.specs.declared.AutoRepeatStrategy.{AutoRepeatStrategy}
 use Rattle.explicit_grid.proofs.Answer.{accepted, size-counted, size-repeated}
+use Rattle.explicit_grid.proofs.Valid.{one-at-most}
 use Rattle.explicit_grid.specs.Counts.{isAutomatic, outsideOf, outsideCount, automaticCount, automaticTracks}
 use Rattle.explicit_grid.specs.declared.RepetitionCount.{RepetitionCount}
 use Rattle.explicit_grid.specs.declared.RepetitionCount.the-variants.{Single, Count, AutoFill, AutoFit}
@@ -22,7 +23,7 @@ use Rattle.grid_track.specs.Written.{repeatsOf, copies, onceOf, writtenO
 use Rattle.grid_track.specs.Lines.{OneTrack, OneTrackEach}
 use Rattle.grid_track.proofs.Cursors.{length-part}
 
-written-more : (c : Component) (cs : List Component) (r : ℕ) → length (writtenOut (c ∷ cs) r) ≡ repeatsOf r (c .count) * length (c .tracks) + length (writtenOut cs r)
+pub written-more : (c : Component) (cs : List Component) (r : ℕ) → length (writtenOut (c ∷ cs) r) ≡ repeatsOf r (c .count) * length (c .tracks) + length (writtenOut cs r)
 unfolding writtenOut
 written-more c cs r = length-append (copies (repeatsOf r (c .count)) (onceOf c)) (writtenOut cs r) ∙ rw (length-part r c)
 
@@ -61,18 +62,17 @@ pub covers : (cs : List Component) (r areas : ℕ) → OneTrackEach cs → autom
 covers cs r areas o z = let e = written-count cs r o z in omega arith
 
 -- of what layer 3 answers for a valid template: where it is not refused, that is with at most 10,000 tracks, all that is written out is explicit
-module _ (inner : InnerSize) (strategy : AutoRepeatStrategy) (gap : Sizing) (areas : ℕ) (cs : List Component) (valid : Valid cs) (few : automaticCount cs ≤ 1) where
+module _ (inner : InnerSize) (strategy : AutoRepeatStrategy) (gap : Sizing) (areas : ℕ) (cs : List Component) (valid : Valid cs) where
+  few : automaticCount cs ≤ 1
+  few = ⊎-elim (λ (e : automaticCount cs ≡ 0). omega arith) (λ (e : automaticCount cs ≡ 1). omega arith) (one-at-most cs valid)
+
   size-tracks : templateSizeOf inner strategy gap (meaningOf (innerValue inner) cs) .tracks
       ≡ outsideCount cs + length (automaticTracks cs) * templateSizeOf inner strategy gap (meaningOf (innerValue inner) cs) .repetitions
   size-tracks =
       ⊎-elim
       (λ (e : automaticCount cs ≡ 0). rw (size-counted inner strategy gap areas cs valid e) (omega arith))
       (λ (e : automaticCount cs ≡ 1). rw (size-repeated inner strategy gap areas cs valid e))
-      (zero-or-one (automaticCount cs) few)
-    where
-      zero-or-one : (n : ℕ) → n ≤ 1 → (n ≡ 0) ⊎ (n ≡ 1)
-      zero-or-one zero h = inl refl
-      zero-or-one (suc n) h = inr (omega arith)
+      (one-at-most cs valid)
 
   pub size-covers : OneTrackEach cs → explicitSizeOf inner strategy gap areas cs .refusal .number ≡ 0
       → length (writtenOut cs (explicitSizeOf inner strategy gap areas cs .repetitions)) ≤ explicitSizeOf inner strategy gap areas cs .explicit

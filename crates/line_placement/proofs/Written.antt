@@ -22,7 +22,7 @@ book-append line [] b = rw (add-zero line)
 book-append line (label n ∷ a) b = ap (λ (l : List Entry). record { line = line; name = n } ∷ l) (book-append line a b)
 book-append line (track ∷ a) b = rw (add-suc line (tracksIn a), ← (suc-add line (tracksIn a))) (book-append (suc line) a b)
 
-tracks-append : (a b : List Piece) → tracksIn (a ++ b) ≡ tracksIn a + tracksIn b
+pub tracks-append : (a b : List Piece) → tracksIn (a ++ b) ≡ tracksIn a + tracksIn b
 tracks-append [] b = omega arith
 tracks-append (label n ∷ a) b = tracks-append a b
 tracks-append (track ∷ a) b = omega (arith, tracks-append a b)

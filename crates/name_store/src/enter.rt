@@ -9,7 +9,14 @@ use crate::name::is_name;
 use coordinates::Refusal;
 
 // The number of the refusal of an entry, 0 where there is none. `words` and `bytes` are the lengths of the table and the store.
-fn entry_refusal(words: usize, bytes: usize, count: u32, used: u32, line: u32, name: &[u8]) -> u32
+pub fn entry_refusal(
+    words: usize,
+    bytes: usize,
+    count: u32,
+    used: u32,
+    line: u32,
+    name: &[u8],
+) -> u32
     ensures { λ r. ⌜ r ≡ entryRefusal words bytes count used line (now (name .entry)) ⌝ }
 {
     if !is_name(name) {

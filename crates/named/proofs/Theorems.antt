@@ -22,7 +22,7 @@ resolved-back free = refl
 resolved-back (atLine g) = refl
 resolved-back (spanning k) = refl
 
-ends-back : (r : ResolvedEnds) → resolvedEnds (endsOf r) ≡ r
+pub ends-back : (r : ResolvedEnds) → resolvedEnds (endsOf r) ≡ r
 ends-back r = rw (resolved-back (r .first), resolved-back (r .last))
 
 module _ (x : AxisNames) (names : List ℕ) (l : Line) where

@@ -22,7 +22,7 @@ use Rattle.tables.proofs.Back.{place-back}
 use Rattle.panel_tables.specs.declared.AreaEdges.{AreaEdges}
 use Rattle.panel_tables.specs.declared.PlacementEnd.{PlacementEnd}
 use Rattle.panel_tables.specs.declared.EndPlace.{EndPlace}
-use Rattle.panel_tables.specs.View.{Area, End, Placement, hasArea, edgeOutside, edgesOutside, numberOutside, endOutside}
+use Rattle.panel_tables.specs.View.{Area, End, Placement, hasArea, edgeOutside, edgesOutside, numberOutside, endOutside, noArea, noEnd, noPlacement}
 use Rattle.panel_tables.specs.Numbers.{countOf, numberOf}
 use Rattle.panel_tables.specs.Areas.{edgesWord, edgesOf, wordOf, areaAt, areaName, areaIn, namedIn, hasAreaIn}
 use Rattle.panel_tables.specs.Placements.{axisNumber, axisOf, wordAxis, endWord, endOf, startWord, finishWord, placementAt, endIn, placementIn}
@@ -97,9 +97,6 @@ edges-back e h =
     )
 
 -- ---- areas
-abbrev pub noArea : Area
-noArea = record { name = []; edges = record { rowstart = 0; rowend = 0; columnstart = 0; columnend = 0 } }
-
 good-at : (list : List Area) (i : ℕ) → All GoodArea list → i < length list → GoodArea (getD list i noArea)
 good-at [] i g h = absurd (omega arith)
 good-at (a ∷ list) zero g h = g .0
@@ -229,12 +226,6 @@ axis-small Column = omega arith
 axis-small Row = omega arith
 
 -- ---- placements
-abbrev pub noEnd : End
-noEnd = record { end = record { kind = 0; number = pos 0 }; name = [] }
-
-abbrev pub noPlacement : Placement
-noPlacement = record { axis = Column; start = noEnd; end = noEnd }
-
 abbrev noAxisEnd : AxisEnd
 noAxisEnd = record { axis = 0; end = noEnd }
 

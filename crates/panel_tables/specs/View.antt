@@ -6,6 +6,7 @@ use lib.Dec.{leb, ltb}
 use lib.IntN.{ℤ, pos, negsuc}
 use lib.ListN.{length}
 use Rattle.coordinates.specs.declared.axis.Axis.{Axis}
+use Rattle.coordinates.specs.declared.axis.Axis.the-variants.{Column}
 use Rattle.text.specs.Split.{same}
 use Rattle.tables.specs.View.{AxisView, emptyAxis}
 use Rattle.panel_tables.specs.declared.AreaEdges.{AreaEdges}
@@ -26,6 +27,16 @@ pub record Placement : Type 0 where
   pub axis : Axis
   pub start : End
   pub end : End
+
+-- what stands past the end of a list: zeros
+abbrev pub noArea : Area
+noArea = record { name = []; edges = record { rowstart = 0; rowend = 0; columnstart = 0; columnend = 0 } }
+
+abbrev pub noEnd : End
+noEnd = record { end = record { kind = 0; number = pos 0 }; name = [] }
+
+abbrev pub noPlacement : Placement
+noPlacement = record { axis = Column; start = noEnd; end = noEnd }
 
 pub record PanelView : Type 0 where
   pub columns : AxisView

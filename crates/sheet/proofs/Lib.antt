@@ -1,10 +1,6 @@
--- Laws of a sheet.
-pub mod Says
-pub mod Only
-pub mod LineRows
-pub mod LineTheorem
-pub mod Theorem
-pub mod Examples
-pub mod Limits
-pub mod Fits
-pub mod Same
+-- Laws of reading a sheet.
+pub mod Names
+pub mod Bytes
+pub mod Steps
+pub mod Follows
+pub mod Answers

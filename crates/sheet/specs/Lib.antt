@@ -1,5 +1,2 @@
--- What the contracts on a sheet cite.
-pub mod Lines
-pub mod Sheet
-pub mod Rows
-pub mod Steps
+-- What the contracts on reading a sheet cite.
+pub mod Runs

@@ -15,6 +15,13 @@ fn float_up_to(most: u32, bits: u32) -> f32
     0.0
 }
 
+// The f32 of the bits of a length or an inner size in range, else 0.
+pub fn length_of(bits: u32) -> f32
+    ensures { λ r. ⌜ r ≡ floatUpTo largestBits bits ⌝ }
+{
+    float_up_to(0x477f_ff00, bits)
+}
+
 // A size from its kind and bits.
 fn sizing_of_kind(kind: u32, bits: u32) -> Sizing
     ensures { λ r. ⌜ r ≡ sizingOfKind kind bits ⌝ }

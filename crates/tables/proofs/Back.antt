@@ -42,7 +42,7 @@ module _ (number kind first length : ℕ) (a : number ≤ 65535) (b : kind < 4) 
   unfolding componentWord
   word-length = omega arith
 
-  word-back : componentOf (componentWord number kind first length) ≡ record { count = countOf kind number; first = first; length = lengthOf kind length }
+  pub word-back : componentOf (componentWord number kind first length) ≡ record { count = countOf kind number; first = first; length = lengthOf kind length }
   unfolding componentOf
   word-back = rw (word-number, word-kind, word-first, word-length)
 
@@ -65,7 +65,7 @@ track-back ts n u rest e =
     let b : getD (map maxOf ts) n 0 ≡ u .max = List·getD-map maxOf ts n d ∙ ap maxOf (head-at ts n u rest e) in
     rw (a, b)
 
-tracks-back : (ts us rest : List Sizes) (n : ℕ) → drop n ts ≡ us ++ rest → tracksFrom (map minOf ts) (map maxOf ts) n (length us) ≡ map sizesOf us
+pub tracks-back : (ts us rest : List Sizes) (n : ℕ) → drop n ts ≡ us ++ rest → tracksFrom (map minOf ts) (map maxOf ts) n (length us) ≡ map sizesOf us
 unfolding tracksFrom
 tracks-back ts [] rest n e = refl
 tracks-back ts (u ∷ us) rest n e =
@@ -186,7 +186,7 @@ module _ (v : AxisView) (f : Fits v) (es : List ℕ) where
   unfolding wordsWith regionsOf
   entries-back h = lay-part (regionsOf v es) 6 (length es) 8384 refl h refl
 
-  name-words-back : take (length (axisNames v)) (drop 4288 (wordsWith v es)) ≡ wordsFrom recordWord nameOf 0 (axisNames v)
+  pub name-words-back : take (length (axisNames v)) (drop 4288 (wordsWith v es)) ≡ wordsFrom recordWord nameOf 0 (axisNames v)
   unfolding wordsWith regionsOf
   name-words-back = lay-part (regionsOf v es) 5 (length (axisNames v)) 4288 (length-words recordWord nameOf 0 (axisNames v)) (f .names) refl
 

@@ -3,6 +3,7 @@ ghost use mathlib.Core.Path.{_≡_};
 ghost use lib.ListN.{getD};
 ghost use Rattle.tables.specs.Store.{componentWord, nameWord};
 ghost use Rattle.tables.specs.Reads.{namePlace};
+ghost use Rattle.tables.specs.Runs.{partOf};
 use crate::NamePlace;
 
 // Components are the first 64 words.
@@ -32,6 +33,22 @@ pub fn word_at(words: &[u64], place: usize) -> u64
         return words[place];
     }
     0
+}
+
+// So many words from a place on, cut where they end.
+pub fn words_part(words: &[u64], first: usize, length: u32) -> &[u64]
+    ensures { λ r. ⌜ now r ≡ partOf (now (words .entry)) first length ⌝ }
+{
+    let count = length as usize;
+    let end = words.len();
+    if end <= first {
+        return &words[end..end];
+    }
+    if end - first < count {
+        return &words[first..end];
+    }
+    let last = first + count;
+    &words[first..last]
 }
 
 // The word of a component.

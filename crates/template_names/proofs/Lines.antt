@@ -110,7 +110,7 @@ written-lines names components repetitions used below h few =
     (written-placed repetitions 0 1 10000 used names components below (omega arith) (omega arith) (omega arith) few)
 
 -- entries that fit their words are read back
-read-back : (used : ℕ) (l : List NameEntry) (store : List ℕ) → Placed 20000 used l → entriesOf (map entryWord l) store ≡ map (namedEntry store) l
+pub read-back : (used : ℕ) (l : List NameEntry) (store : List ℕ) → Placed 20000 used l → entriesOf (map entryWord l) store ≡ map (namedEntry store) l
 read-back used [] store h = entries-nil store
 read-back used (e ∷ l) store h =
     let f = h .1 in let g = h .3 in let i = h .4 in

@@ -1,0 +1,5 @@
+-- What the contracts of the calls cite beside the definitions of the crates below; what the demands say, and the marked edges.
+pub mod Carried
+pub mod Entered
+pub mod Demands
+pub mod Marked

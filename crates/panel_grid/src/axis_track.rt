@@ -1,0 +1,111 @@
+// The track records of one axis, from its state and its words.
+ghost use mathlib.Core.Path.{_≡_};
+ghost use Prim.Native.Nat.{min};
+ghost use Rattle.panel_rules.specs.Calls.{axisTracks, trackRecord};
+ghost use Rattle.panel_grid.specs.Carried.{carriedTo, carriedRecord, carriedOn};
+use coordinates::TrackCounts;
+use grid_track::AxisTracks;
+use grid_track::GridTrack;
+use grid_track::RecordAnswer;
+use tables::AxisState;
+use tables::layout::AXIS_WORDS;
+use tables::layout::MAXIMUMS;
+use tables::layout::MINIMUMS;
+use tables::layout::SPARE_MAXIMUMS;
+use tables::layout::SPARE_MINIMUMS;
+use tables::layout::words_part;
+use track_run::state::FillState;
+
+// A count of tracks, at most 10,000.
+fn held_count(count: u32) -> u16
+    ensures { λ r. ⌜ r ≡ min count 10000 ⌝ }
+{
+    if count < 10000 {
+        return count as u16;
+    }
+    10000
+}
+
+// What the records of an axis ask of its state.
+pub fn axis_tracks(state: AxisState) -> AxisTracks
+    ensures { λ r. ⌜ r ≡ axisTracks state ⌝ }
+{
+    let counts = TrackCounts {
+        negative_implicit: held_count(state.negative),
+        explicit: held_count(state.explicit),
+        positive_implicit: held_count(state.positive),
+    };
+    AxisTracks {
+        counts,
+        repetitions: state.repetitions,
+        gap: sizing::word::sizing_of(state.gap),
+    }
+}
+
+// Record `index`.
+pub fn record_on(
+    state: AxisState,
+    words: &[u64; AXIS_WORDS],
+    items: &[u8],
+    index: u32,
+) -> RecordAnswer
+    ensures { λ r. ⌜ r ≡ trackRecord state (now (words .entry)) (now (items .entry)) index ⌝ }
+{
+    grid_track::rule::track_record(
+        words_part(words, 0, state.components),
+        words_part(words, MINIMUMS, state.tracks),
+        words_part(words, MAXIMUMS, state.tracks),
+        words_part(words, SPARE_MINIMUMS, state.spares),
+        words_part(words, SPARE_MAXIMUMS, state.spares),
+        items,
+        axis_tracks(state),
+        index,
+    )
+}
+
+// What is carried to record 0.
+pub fn first_on(state: AxisState, words: &[u64; AXIS_WORDS], items: &[u8]) -> FillState
+    ensures { λ r. ⌜ r ≡ carriedTo state (now (words .entry)) (now (items .entry)) 0 ⌝ }
+{
+    track_run::state::begin(
+        words_part(words, 0, state.components),
+        words_part(words, MINIMUMS, state.tracks),
+        words_part(words, MAXIMUMS, state.tracks),
+        items,
+        axis_tracks(state),
+    )
+}
+
+// Record `index`, by what is carried to it.
+pub fn carried_on(
+    state: AxisState,
+    words: &[u64; AXIS_WORDS],
+    items: &[u8],
+    at: FillState,
+    index: usize,
+) -> GridTrack
+    ensures { λ r. ⌜ r ≡ carriedRecord state (now (words .entry)) (now (items .entry)) at index ⌝ }
+{
+    track_run::state::record_at(
+        words_part(words, 0, state.components),
+        words_part(words, MINIMUMS, state.tracks),
+        words_part(words, MAXIMUMS, state.tracks),
+        words_part(words, SPARE_MINIMUMS, state.spares),
+        words_part(words, SPARE_MAXIMUMS, state.spares),
+        items,
+        at,
+        index,
+    )
+}
+
+// What is carried on from record `index`.
+pub fn next_on(
+    state: AxisState,
+    words: &[u64; AXIS_WORDS],
+    at: FillState,
+    index: usize,
+) -> FillState
+    ensures { λ r. ⌜ r ≡ carriedOn state (now (words .entry)) at index ⌝ }
+{
+    track_run::state::advance(words_part(words, 0, state.components), at, index)
+}

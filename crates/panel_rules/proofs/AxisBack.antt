@@ -1,0 +1,56 @@
+-- The template, the spare sizes and the counts that an axis holds read back. Assumes nothing.
+use Prim.Native.Nat.{ℕ, _≤_}
+use mathlib.Core.Path.{_≡_, refl, sym}
+use mathlib.Core.List.{List, [], map, append-nil}
+use mathlib.Core.Bool.{Bool, true, false, cond}
+use native.Mathlib.Omega.{arith}
+use native.Mathlib.Nat.{min-eq-left}
+use lib.Dec.{ltb}
+use lib.ListN.{length-map}
+use borrow.Author.Tests.{ltb-false}
+use Rattle.line_placement.specs.Css.{Entry}
+use Rattle.grid_track.specs.Written.{sparesOf}
+use Rattle.records.specs.Faults.{firstOf}
+use Rattle.records.proofs.Firsts.{first-zero}
+use Rattle.tables.specs.View.{AxisView, sizesOf, componentsOf}
+use Rattle.tables.specs.Written.{minOf}
+use Rattle.tables.proofs.Fits.{Fits}
+use Rattle.tables.proofs.Back.{template-back, spare-minimums-back, spare-maximums-back, tracks-back}
+use Rattle.sheet_rules.specs.Sheet.{explicitOf, openFault, countFault, entriesFault, axisFault}
+use Rattle.sheet_rules.specs.Panels.{sizedState}
+use Rattle.panel_rules.specs.Calls.{templateIn, sparesIn, axisTracks}
+use Rattle.panel_rules.specs.Views.{wordsAfter, stateAfter, tracksAfter}
+use Rattle.panel_rules.specs.Ranges.{AxisRange}
+
+-- ---- a view without fault
+
+-- "an explicit count above 10,000 is refused by 4"
+pub explicit-few : (x : AxisView) → axisFault x ≡ 0 → explicitOf x ≤ 10000
+explicit-few x e =
+    go (ltb 10000 (explicitOf x)) refl
+    (first-zero (countFault x) (entriesFault x) (first-zero (openFault (x .unended)) (firstOf (countFault x) (entriesFault x)) e .1) .0)
+  where
+    go : (t : Bool) → ltb 10000 (explicitOf x) ≡ t → _≡_ {A = ℕ} (cond t 4 0) 0 → explicitOf x ≤ 10000
+    go true q z = absurd (omega arith)
+    go false q z = ltb-false 10000 (explicitOf x) q
+
+-- ---- the words
+module _ (x : AxisView) (f : Fits x) (es : List Entry) where
+  -- layer 3's components
+  pub template-held : templateIn (stateAfter x es) (wordsAfter x es) ≡ componentsOf (x .template)
+  unfolding stateAfter sizedState wordsAfter
+  template-held = template-back x f _
+
+  -- layer 5's spare sizes
+  pub spares-held : sparesIn (stateAfter x es) (wordsAfter x es) ≡ map sizesOf (x .spares)
+  unfolding stateAfter sizedState wordsAfter sparesOf
+  spares-held =
+      rw (spare-minimums-back x f _, spare-maximums-back x f _, length-map (x .spares) minOf)
+      (tracks-back (x .spares) (x .spares) [] 0 (sym (append-nil (x .spares))))
+
+-- ---- the state
+
+-- counts in range are not held
+pub tracks-held : (x : AxisView) (span : ℕ) → AxisRange span x → explicitOf x ≤ 10000 → (es : List Entry) → axisTracks (stateAfter x es) ≡ tracksAfter x
+unfolding stateAfter sizedState
+tracks-held x span r h es = rw (min-eq-left (r .negative), min-eq-left h, min-eq-left (r .positive))

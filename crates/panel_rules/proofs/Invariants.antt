@@ -1,0 +1,137 @@
+-- The panel of every sheet keeps to its ranges: the areas' track counts, the implicit counts, the numbers of the placements. Assumes nothing.
+use Prim.Native.Nat.{ℕ, _-_, max, zero-le}
+use mathlib.Core.Path.{_≡_, refl, ap}
+use mathlib.Core.List.{List, [], _∷_, _++_}
+use mathlib.Core.Bool.{Bool, true, false, cond}
+use native.Mathlib.Omega.{arith}
+use lib.Dec.{leb, ltb}
+use lib.ListN.{length}
+use Rattle.coordinates.specs.declared.axis.Axis.{Axis}
+use Rattle.coordinates.specs.declared.axis.Axis.the-variants.{Column, Row}
+use Rattle.records.specs.declared.Record.{Record}
+use Rattle.records.specs.declared.Record.the-variants.{Fault, Axis as AxisLine, Area as AreaLine, Name, Track, Repeat, End as EndLine, Spare, Extra, Item, Place}
+use Rattle.records.specs.Words.{at}
+use Rattle.records.specs.Records.{recordOf}
+use Rattle.records.proofs.Bounds.{Bounded}
+use Rattle.records.proofs.Theorem.{record-bounded}
+use Rattle.tables.specs.View.{AxisView, AxisOutcome, emptyAxis, trackStep, repeatStep, endStep, nameStep, spareStep, itemStep, extraStep, axisStep}
+use Rattle.tables.proofs.Runs.{all-append}
+use Rattle.panel_tables.specs.declared.AreaEdges.{AreaEdges}
+use Rattle.panel_tables.specs.View.{Area, End, Placement, PanelView, emptyView, refused, accepted, raised, edgesOutside, endOutside, areaStep, placeStep}
+use Rattle.panel_tables.specs.Areas.{edgesIn}
+use Rattle.panel_tables.specs.Axes.{viewIn, stepIn}
+use Rattle.sheet_rules.specs.Lines.{bit, edgesOf, placedEnd, recordStep, atStage}
+use Rattle.sheet_rules.specs.Sheet.{sheetOf}
+use Rattle.panel_rules.specs.Ranges.{largest, EndRange, PlacementRange, AxisRange, PanelRange}
+use Rattle.panel_rules.proofs.Numbers.{Placed, record-placed}
+use Rattle.panel_rules.proofs.SheetKeeps.{sheet-keeps}
+use Rattle.panel_rules.proofs.AxisRanges.{track-range, repeat-range, end-range, name-range, spare-range, item-range, extra-range, axis-range}
+
+in-range : (v : PanelView) (a : Axis) (o : AxisOutcome) → PanelRange v → (AxisRange (largest a (v .areas)) (viewIn v a) → AxisRange (largest a (v .areas)) (o .axis))
+    → PanelRange (stepIn v a o .panel)
+in-range v Column o r f = record { axes = both; placements = r .placements }
+  where
+    both : (a : Axis) → AxisRange (largest a (v .areas)) (viewIn (stepIn v Column o .panel) a)
+    both Column = f (r .axes Column)
+    both Row = r .axes Row
+in-range v Row o r f = record { axes = both; placements = r .placements }
+  where
+    both : (a : Axis) → AxisRange (largest a (v .areas)) (viewIn (stepIn v Row o .panel) a)
+    both Column = r .axes Column
+    both Row = f (r .axes Row)
+
+-- one area more
+largest-more : (a : Axis) (list : List Area) (x : Area) → largest a (list ++ (x ∷ [])) ≡ max (largest a list) (edgesIn (x .edges) a .end - 1)
+largest-more a [] x = omega arith
+largest-more a (y ∷ list) x = omega (arith, largest-more a list x)
+
+raised-range : (n end : ℕ) (v : AxisView) → AxisRange n v → AxisRange (max n (end - 1)) (raised v end)
+raised-range n end v r = record { areas = ap (λ (m : ℕ). max m (end - 1)) (r .areas); negative = r .negative; positive = r .positive }
+
+area-range : (v : PanelView) (n : List ℕ) (e : AreaEdges) → PanelRange v → PanelRange (areaStep v n e .panel)
+unfolding areaStep
+area-range v n e r = go (edgesOutside e) (ltb 32 (length n)) (leb 64 (length (v .areas)))
+  where
+    x : Area
+    x = record { name = n; edges = e }
+
+    w : PanelView
+    w = record { columns = raised (v .columns) (e .columnend); rows = raised (v .rows) (e .rowend); areas = v .areas ++ (x ∷ []); placements = v .placements; stage = v .stage }
+
+    both : (a : Axis) → AxisRange (largest a (v .areas ++ (x ∷ []))) (viewIn w a)
+    both Column = rw (largest-more Column (v .areas) x) (raised-range (largest Column (v .areas)) (e .columnend) (v .columns) (r .axes Column))
+    both Row = rw (largest-more Row (v .areas) x) (raised-range (largest Row (v .areas)) (e .rowend) (v .rows) (r .axes Row))
+
+    go : (s t u : Bool) → PanelRange (cond s (refused 4 v) (cond t (refused 8 v) (cond u (refused 8 v) (accepted w))) .panel)
+    go true t u = r
+    go false true u = r
+    go false false true = r
+    go false false false = record { axes = both; placements = r .placements }
+
+place-range : (v : PanelView) (a : Axis) (s e : End) → EndRange s → EndRange e → PanelRange v → PanelRange (placeStep v a s e .panel)
+unfolding placeStep
+place-range v a s e h k r = go (endOutside (s .end)) (endOutside (e .end)) (ltb 32 (length (s .name))) (ltb 32 (length (e .name))) (leb 256 (length (v .placements)))
+  where
+    x : Placement
+    x = record { axis = a; start = s; end = e }
+
+    w : PanelView
+    w = record { columns = v .columns; rows = v .rows; areas = v .areas; placements = v .placements ++ (x ∷ []); stage = v .stage }
+
+    both : (b : Axis) → AxisRange (largest b (v .areas)) (viewIn w b)
+    both Column = r .axes Column
+    both Row = r .axes Row
+
+    go : (c d f g i : Bool) → PanelRange (cond c (refused 4 v) (cond d (refused 4 v) (cond f (refused 8 v) (cond g (refused 8 v) (cond i (refused 8 v) (accepted w))))) .panel)
+    go true d f g i = r
+    go false true f g i = r
+    go false false true g i = r
+    go false false false true i = r
+    go false false false false true = r
+    go false false false false false = record { axes = both; placements = all-append PlacementRange (v .placements) (x ∷ []) (r .placements) ((h, k), tt) }
+
+record-range : (v : PanelView) (fs : List (List ℕ)) (q : Record) → Bounded fs q → Placed q → PanelRange v → PanelRange (recordStep v fs q .panel)
+unfolding recordStep
+record-range v fs (Fault n) b p r = r
+record-range v fs (AxisLine x) b p r =
+    let a : Axis = x .axis in
+    in-range v a (axisStep (viewIn v a) (bit (x .definite)) (x .inner) (x .rule) (x .gap)) r
+    (axis-range (largest a (v .areas)) (viewIn v a) (bit (x .definite)) (x .inner) (x .rule) (x .gap))
+record-range v fs (AreaLine x) b p r = area-range v (at fs 1) (edgesOf x) r
+record-range v fs (Name a) b p r = in-range v a (nameStep (viewIn v a) (at fs 2)) r (name-range (largest a (v .areas)) (viewIn v a) (at fs 2))
+record-range v fs (Track a min max) b p r = in-range v a (trackStep (viewIn v a) min max) r (track-range (largest a (v .areas)) (viewIn v a) min max)
+record-range v fs (Repeat a n) b p r =
+    in-range v a (repeatStep (viewIn v a) (n .kind) (n .number)) r (repeat-range (largest a (v .areas)) (viewIn v a) (n .kind) (n .number))
+record-range v fs (EndLine a) b p r = in-range v a (endStep (viewIn v a)) r (end-range (largest a (v .areas)) (viewIn v a))
+record-range v fs (Spare a min max) b p r = in-range v a (spareStep (viewIn v a) min max) r (spare-range (largest a (v .areas)) (viewIn v a) min max)
+record-range v fs (Extra a m n) b p r = in-range v a (extraStep (viewIn v a) m n) r (extra-range (largest a (v .areas)) (viewIn v a) m n (b .0) (b .1))
+record-range v fs (Item a i) b p r = in-range v a (itemStep (viewIn v a) i) r (item-range (largest a (v .areas)) (viewIn v a) i)
+record-range v fs (Place a s e) b p r = place-range v a (placedEnd (at fs 3) s) (placedEnd (at fs 6) e) (p .0) (p .1) r
+
+staged-range : (n : ℕ) (v : PanelView) → PanelRange v → PanelRange (atStage n v)
+staged-range n v r = record { axes = both; placements = r .placements }
+  where
+    both : (a : Axis) → AxisRange (largest a (v .areas)) (viewIn (atStage n v) a)
+    both Column = r .axes Column
+    both Row = r .axes Row
+
+nothing-range : AxisRange 0 emptyAxis
+unfolding emptyAxis
+nothing-range = record { areas = refl; negative = zero-le; positive = zero-le }
+
+empty-range : PanelRange emptyView
+unfolding emptyView
+empty-range = record { axes = both; placements = tt }
+  where
+    both : (a : Axis) → AxisRange (largest a []) (viewIn emptyView a)
+    both Column = nothing-range
+    both Row = nothing-range
+
+-- every sheet
+pub sheet-range : (s : List ℕ) → PanelRange (sheetOf s .view)
+sheet-range s =
+    sheet-keeps PanelRange empty-range staged-range (λ v r fs. record-range v fs (recordOf fs) (record-bounded fs) (record-placed fs) r) s
+
+-- "the larger of template count and largest area end - 1": an axis counts the tracks that the sheet's areas span
+pub areas-largest : (s : List ℕ) (a : Axis) → viewIn (sheetOf s .view) a .areas ≡ largest a (sheetOf s .view .areas)
+areas-largest s a = sheet-range s .axes a .areas

@@ -1,0 +1,70 @@
+-- Names may arrive in any order: two panels that are the same but for that, with the same accepted entries, resolve every placement alike. Assumes nothing.
+use Prim.Native.Nat.{ℕ, _≤_, _<_, max}
+use mathlib.Core.Path.{_≡_, refl, sym, ap, _∙_}
+use mathlib.Core.Bool.{Bool, true, false, cond}
+use mathlib.Core.List.{List}
+use lib.Dec.{ltb}
+use lib.ListN.{length, getD}
+use Rattle.coordinates.specs.declared.axis.Axis.{Axis}
+use Rattle.coordinates.specs.Refusals.{noRefusal, count}
+use Rattle.explicit_grid.specs.Template.{Component}
+use Rattle.line_placement.specs.Css.{Entry, AxisNames, Area as CssArea, Placement as CssPlacement, ResolvedEnds}
+use Rattle.line_placement.specs.Conditions.{SameMembers, SameNames}
+use Rattle.line_placement.specs.Rule.{named?, resolve}
+use Rattle.line_placement.proofs.Order.{resolve-same}
+use Rattle.named.specs.Placements.{endsOf}
+use Rattle.tables.specs.View.{AxisView, AxisLine, componentsOf}
+use Rattle.tables.proofs.Fits.{Fits}
+use Rattle.panel_tables.specs.View.{Area, Placement, PanelView, noPlacement}
+use Rattle.panel_tables.specs.Axes.{viewIn}
+use Rattle.sheet_rules.specs.Sheet.{sizeOf, explicitOf}
+use Rattle.panel_rules.specs.declared.PlacementAnswer.{PlacementAnswer}
+use Rattle.panel_rules.specs.Placing.{refusedPlacement}
+use Rattle.panel_rules.specs.Runs.{Call}
+use Rattle.panel_rules.specs.Views.{areasIn, cssEnd, placementAt, namesAfter, placementAfter}
+use Rattle.panel_rules.specs.Book.{book, bookNames, Regular}
+use Rattle.panel_rules.specs.Order.{SamePanel, SameEntries}
+use Rattle.panel_rules.proofs.Book as Book
+use Rattle.panel_rules.proofs.Run.{addedTo}
+
+-- the same `axis` record and components have the same size
+same-size : (x y : AxisView) → x .line ≡ y .line → componentsOf (x .template) ≡ componentsOf (y .template) → sizeOf x .tracks ≡ sizeOf y .tracks
+unfolding sizeOf
+same-size x y e f = rw (e, f)
+
+-- an answer, from the list of placements and the names of each axis
+abbrev answer : List Placement → (Axis → AxisNames) → ℕ → PlacementAnswer
+answer ps names i =
+    cond (ltb i (length ps))
+    (let p : Placement = getD ps i noPlacement in
+    let x : AxisNames = names (p .axis) in
+    record { refusal = noRefusal; axis = p .axis; line = endsOf (resolve (x .explicit) (named? x) (cssEnd (p .start)) (cssEnd (p .end))) })
+    (refusedPlacement count)
+
+-- names that are the same in any order give the same answer
+same-answer : (ps : List Placement) (x y : Axis → AxisNames) (i : ℕ) → ((a : Axis) → SameNames (x a) (y a)) → answer ps x i ≡ answer ps y i
+same-answer ps x y i s =
+    let p : Placement = getD ps i noPlacement in
+    ap (λ (r : ResolvedEnds). cond (ltb i (length ps)) (record { refusal = noRefusal; axis = p .axis; line = endsOf r }) (refusedPlacement count))
+    (resolve-same (x (p .axis)) (y (p .axis)) (s (p .axis)) (cssEnd (p .start)) (cssEnd (p .end)))
+
+module _ (n m : Axis → ℕ) (v w : PanelView) (cs ds : List Call) (f : (a : Axis) → Fits (viewIn v a)) (g : (a : Axis) → Fits (viewIn w a))
+    (r : Regular n v cs) (q : Regular m w ds) (same : SamePanel v w) (spanned : (a : Axis) → viewIn v a .areas ≡ viewIn w a .areas)
+    (entries : SameEntries n v cs m w ds) where
+  explicit-same : (a : Axis) → explicitOf (viewIn v a) ≡ explicitOf (viewIn w a)
+  explicit-same a = rw (same-size (viewIn v a) (viewIn w a) (same .lines a) (same .components a), spanned a)
+
+  names-same : (a : Axis) → SameNames (namesAfter v a (addedTo v cs a)) (namesAfter w a (addedTo w ds a))
+  names-same a =
+      record {
+        explicit = explicit-same a;
+        entries = rw (Book.book-after (n a) v a cs (f a) (r .axes a), Book.book-after (m a) w a ds (g a) (q .axes a)) (entries a);
+        areas = rw (same .areas) (λ (x : CssArea). (λ h. h, λ h. h));
+      }
+
+  -- every placement is resolved alike
+  pub order-same : (i : ℕ) → placementAfter v (addedTo v cs) i ≡ placementAfter w (addedTo w ds) i
+  unfolding placementAfter
+  order-same i =
+      ap (λ (ps : List Placement). answer ps (λ a. namesAfter v a (addedTo v cs a)) i) (same .placements)
+      ∙ same-answer (w .placements) (λ a. namesAfter v a (addedTo v cs a)) (λ a. namesAfter w a (addedTo w ds a)) i names-same

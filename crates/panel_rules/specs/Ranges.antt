@@ -1,0 +1,51 @@
+-- What the panel of every sheet keeps to: the tracks that its areas span, its implicit counts and the numbers of its placements (document 01, "Panel ranges").
+use Prim.Native.Nat.{ℕ, zero, suc, _-_, _≤_, max}
+use mathlib.Core.Path.{_≡_}
+use mathlib.Core.List.{List, [], _∷_}
+use lib.IntN.{ℤ, pos, negsuc}
+use Rattle.coordinates.specs.declared.axis.Axis.{Axis}
+use Rattle.tables.specs.View.{AxisView}
+use Rattle.panel_tables.specs.View.{Area, End, Placement, PanelView}
+use Rattle.panel_tables.specs.Areas.{edgesIn}
+use Rattle.panel_tables.specs.Axes.{viewIn}
+use Rattle.tables.proofs.Runs.{All}
+
+-- "largest area end - 1" of an axis, 0 without areas
+abbrev pub largest : Axis → List Area → ℕ
+largest a [] = 0
+largest a (x ∷ rest) = max (edgesIn (x .edges) a .end - 1) (largest a rest)
+
+-- "line indexes -32,768..32,767"
+abbrev pub IsIndex : ℤ → Type 0
+IsIndex (pos n) = n ≤ 32767
+IsIndex (negsuc k) = k ≤ 32767
+
+-- "spans 0..65,535"
+abbrev pub IsSpan : ℤ → Type 0
+IsSpan (pos n) = n ≤ 65535
+IsSpan (negsuc k) = ⊥
+
+-- the number that an end of each kind writes; kinds `auto line named span nspan` are 0 to 4, "number 0 where unused"
+abbrev pub NumberOf : ℕ → ℤ → Type 0
+NumberOf zero z = z ≡ pos 0
+NumberOf (suc zero) z = IsIndex z
+NumberOf (suc (suc zero)) z = IsIndex z
+NumberOf (suc (suc (suc zero))) z = IsSpan z
+NumberOf (suc (suc (suc (suc zero)))) z = IsSpan z
+NumberOf (suc (suc (suc (suc (suc k))))) z = ⊥
+
+abbrev pub EndRange : End → Type 0
+EndRange e = NumberOf (e .end .kind) (e .end .number)
+
+abbrev pub PlacementRange : Placement → Type 0
+PlacementRange p = EndRange (p .start) × EndRange (p .end)
+
+-- an axis: the tracks that the areas span, and "each implicit count 0..10,000"
+pub record AxisRange (span : ℕ) (v : AxisView) : Type 0 where
+  pub areas : v .areas ≡ span
+  pub negative : v .negative ≤ 10000
+  pub positive : v .positive ≤ 10000
+
+pub record PanelRange (v : PanelView) : Type 0 where
+  pub axes : (a : Axis) → AxisRange (largest a (v .areas)) (viewIn v a)
+  pub placements : All PlacementRange (v .placements)

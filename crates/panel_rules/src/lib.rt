@@ -1,0 +1,24 @@
+// What the calls on a panel answer, runs of them, and the laws of the third demand: definitions and proofs alone.
+use coordinates::Axis;
+use coordinates::Refusal;
+use named::ResolvedLine;
+use panel_tables::Panel;
+
+// The answer of an entry call: its refusal, and the panel with the entry, on a refusal as it came.
+pub struct EntryAnswer {
+    pub refusal: Refusal,
+    pub panel: Panel,
+}
+
+// The explicit size of an axis.
+pub struct AxisSize {
+    pub repetitions: u32,
+    pub explicit: u32,
+}
+
+// A resolved placement with its axis, or a refusal and zeros.
+pub struct PlacementAnswer {
+    pub refusal: Refusal,
+    pub axis: Axis,
+    pub line: ResolvedLine,
+}

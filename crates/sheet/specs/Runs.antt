@@ -1,0 +1,103 @@
+-- The lines of a sheet one after the other, and what comes after the last, on what a panel holds.
+use Prim.Native.Nat.{ℕ, _+_}
+use mathlib.Core.List.{List, [], _∷_}
+use mathlib.Core.Bool.{cond}
+use lib.Dec.{eqb}
+use lib.ListN.{length}
+use Rattle.text.specs.Split.{split}
+use Rattle.records.specs.Faults.{firstOf}
+use Rattle.panel_tables.specs.declared.Panel.{Panel}
+use Rattle.panel_tables.specs.declared.Reading.{Reading}
+use Rattle.panel_tables.specs.Written.{PanelHeld, PanelStepped}
+use Rattle.sheet_rules.specs.Panels.{Tables}
+use Rattle.sheet_line.specs.Lines.{lineIn, heldAs}
+use Rattle.sheet_end.specs.End.{EndedAxis, endIn}
+
+-- a refusal's number, 0 where there is none, its line, and what is held
+pub record HeldRun : Type 0 where
+  pub fault : ℕ
+  pub line : ℕ
+  pub held : PanelHeld
+
+-- where reading stops
+abbrev pub stopped : ℕ → ℕ → PanelHeld → HeldRun
+stopped f n h = record { fault = f; line = n; held = h }
+
+-- from line n on, until a line is refused; where none is, the line is the one after the last
+unfoldable pub heldRun : ℕ → List (List ℕ) → PanelHeld → HeldRun
+heldRun n [] h = stopped 0 n h
+heldRun n (l ∷ []) h = cond (eqb (length l) 0) (stopped 0 n h) (stopped 1 n h)
+heldRun n (l ∷ m ∷ ls) h =
+    let a : PanelStepped = lineIn h (split 9 l) in
+    cond (eqb (a .fault) 0) (heldRun (n + 1) (m ∷ ls) (a .held)) (stopped (a .fault) n (a .held))
+
+-- ---- after the last line
+
+-- a refusal's number, the panel, and the words of the two axes
+pub record EndedPanel : Type 0 where
+  pub fault : ℕ
+  pub panel : Panel
+  pub columns : List ℕ
+  pub rows : List ℕ
+
+-- a panel with its axes as they end
+abbrev pub withAxes : Panel → EndedAxis → EndedAxis → Panel
+withAxes p columns rows =
+    record {
+      columns = columns .answer .state;
+      rows = rows .answer .state;
+      areas = p .areas;
+      areabytes = p .areabytes;
+      placements = p .placements;
+      placementbytes = p .placementbytes;
+    }
+
+-- of the faults of the two axes the one that comes first
+abbrev pub endedBy : Panel → EndedAxis → EndedAxis → EndedPanel
+endedBy p columns rows =
+    record {
+      fault = firstOf (columns .answer .fault) (rows .answer .fault);
+      panel = withAxes p columns rows;
+      columns = columns .words;
+      rows = rows .words;
+    }
+
+-- both axes end
+unfoldable pub endedPanel : Panel → Reading → List ℕ → List ℕ → EndedPanel
+endedPanel p r columns rows = endedBy p (endIn (p .columns) (r .columns) columns) (endIn (p .rows) (r .rows) rows)
+
+-- ---- the sheet
+
+-- what is held, with the panel and the words that the end leaves
+abbrev pub atEnd : PanelHeld → EndedPanel → PanelHeld
+atEnd h e = heldAs (e .panel) (h .reading) (e .columns) (e .rows) (h .columnMarks) (h .rowMarks) (h .columnBytes) (h .rowBytes) (h .areas) (h .areaBytes) (h .placements) (h .placementBytes)
+
+-- the end, of which n is the line
+abbrev pub heldEnd : ℕ → PanelHeld → HeldRun
+heldEnd n h =
+    let e : EndedPanel = endedPanel (h .panel) (h .reading) (h .columns) (h .rows) in
+    stopped (e .fault) n (atEnd h e)
+
+-- a refused line stays the refusal
+unfoldable pub heldAfter : HeldRun → HeldRun
+heldAfter r = cond (eqb (r .fault) 0) (heldEnd (r .line) (r .held)) r
+
+-- lines and end, from the first line on
+unfoldable pub heldSheet : List ℕ → PanelHeld → HeldRun
+heldSheet s h = heldAfter (heldRun 1 (split 10 s) h)
+
+-- everything lent with a panel, from the arrays and stores
+abbrev pub inTables : List ℕ → List ℕ → List ℕ → List ℕ → List ℕ → List ℕ → List ℕ → List ℕ → List ℕ → List ℕ → Tables
+inTables columns rows columnMarks rowMarks areas areaBytes placements placementBytes columnStore rowStore =
+    record {
+      columns = columns;
+      rows = rows;
+      columnMarks = columnMarks;
+      rowMarks = rowMarks;
+      areas = areas;
+      areaBytes = areaBytes;
+      placements = placements;
+      placementBytes = placementBytes;
+      columnStore = columnStore;
+      rowStore = rowStore;
+    }

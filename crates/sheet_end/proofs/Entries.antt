@@ -1,0 +1,84 @@
+-- The name entries written out of a view's words are those of the view. Assumes nothing.
+use Prim.Native.Nat.{ℕ, _+_, _≤_}
+use mathlib.Core.Path.{_≡_, refl, sym, ap, _∙_}
+use mathlib.Core.List.{List, [], _∷_, _++_, map}
+use native.Mathlib.Omega.{arith}
+use lib.ListN.{length, length-map}
+use Rattle.line_placement.specs.Template.{ruleFrom}
+use Rattle.name_store.specs.Entries.{namedEntry, entriesOf as heldEntries}
+use Rattle.template_names.specs.Records.{recordOf}
+use Rattle.template_names.specs.Writing.{writtenEntries}
+use Rattle.template_names.specs.Lines.{Below}
+use Rattle.template_names.proofs.Placing.{small-offset, small-length}
+use Rattle.template_names.proofs.Lines.{written-lines, read-back}
+use Rattle.template_names.proofs.Pieces.{named}
+use Rattle.template_names.proofs.Items.{written-rule}
+use Rattle.records.specs.Faults.{firstOf}
+use Rattle.records.proofs.Firsts.{first-zero}
+use Rattle.tables.specs.View.{Unended, none, inside, AxisView, tracksOf, componentsOf, namesOf, written, axisBytes}
+use Rattle.tables.specs.Written.{componentsFrom}
+use Rattle.tables.specs.Reads.{nameRecordIn}
+use Rattle.tables.proofs.Joins.{length-components}
+use Rattle.tables.proofs.Fits.{Fits, few-tracks}
+use Rattle.tables.proofs.Back.{name-words-back, names-back}
+use Rattle.sheet_rules.specs.Sheet.{sizeOf, entriesOf, openFault, countFault, entriesFault, axisFault}
+use Rattle.sheet_rules.specs.Panels.{nameWords, entryWords}
+use Rattle.sheet_end.proofs.Items.{few-held, items-read, order-read}
+
+-- an axis without fault has no open repeat
+no-open : (u : Unended) → openFault u ≡ 0 → u ≡ none
+no-open none e = refl
+no-open (inside r) e = absurd (never e)
+  where
+    never : _≡_ {A = ℕ} 1 0 → ⊥
+    never h = omega arith
+
+pub none-open : (v : AxisView) → axisFault v ≡ 0 → v .unended ≡ none
+none-open v e = no-open (v .unended) (first-zero (openFault (v .unended)) (firstOf (countFault v) (entriesFault v)) e .0)
+
+-- any record's bytes lie below that
+below-any : (ws : List ℕ) → Below 65790 ws
+below-any [] = tt
+below-any (w ∷ ws) = let x = small-offset w (recordOf w) refl in let y = small-length w (recordOf w) refl in (omega arith, below-any ws)
+
+module _ (v : AxisView) (f : Fits v) where
+  -- the limits of a view that fits
+  pub few-components : length (componentsOf (v .template)) ≤ 64
+  few-components = let h = f .components in omega arith
+
+  few : 0 + length (tracksOf (v .template)) ≤ 65535
+  few = let h = few-components in let t = few-tracks (v .template) (f .items) in omega arith
+
+  module _ (closed : v .unended ≡ none) (rest : List ℕ) where
+    abbrev store : List ℕ
+    store = axisBytes v ++ rest
+
+    -- the words of its names read as its names
+    words-read : map (nameRecordIn store) (nameWords v) ≡ namesOf (v .template)
+    words-read =
+        ap (map (nameRecordIn store)) (sym (name-words-back v f [])) ∙ names-back v f [] rest
+        ∙ ap (λ (u : Unended). namesOf (written (v .template) u)) closed
+
+    -- the entries that are written out, with their names, are the rule's over the view's items
+    pub written-named : named store (writtenEntries (nameWords v) (componentsFrom 0 (v .template)) (sizeOf v .repetitions)) ≡ entriesOf v
+    unfolding entriesOf
+    written-named =
+        written-rule store (sizeOf v .repetitions) 0 1 (nameWords v) (componentsFrom 0 (v .template))
+        (order-read store (v .template) 0 0 (nameWords v) (f .items) few words-read)
+        ∙ ap (ruleFrom 1) (items-read store (sizeOf v .repetitions) (v .template) 0 0 (nameWords v) (f .items) few words-read)
+
+  -- as many as the view has
+  pub written-count : v .unended ≡ none → length (writtenEntries (nameWords v) (componentsFrom 0 (v .template)) (sizeOf v .repetitions)) ≡ length (entriesOf v)
+  written-count closed =
+      sym (length-map (writtenEntries (nameWords v) (componentsFrom 0 (v .template)) (sizeOf v .repetitions)) (namedEntry (axisBytes v ++ [])))
+      ∙ ap length (written-named closed [])
+
+-- the words that are written out, read with the names' bytes
+pub entries-read : (v : AxisView) → Fits v → axisFault v ≡ 0 → (rest : List ℕ) → heldEntries (entryWords v) (axisBytes v ++ rest) ≡ entriesOf v
+unfolding entryWords
+entries-read v f e rest =
+    let repetitions = sizeOf v .repetitions in
+    let c : length (componentsFrom 0 (v .template)) ≤ 64 = rw (length-components 0 (v .template)) (few-components v f) in
+    read-back 65790 (writtenEntries (nameWords v) (componentsFrom 0 (v .template)) repetitions) (axisBytes v ++ rest)
+    (written-lines (nameWords v) (componentsFrom 0 (v .template)) repetitions 65790 (below-any (nameWords v)) c (few-held (v .template) 0 (f .items) (few v f)))
+    ∙ written-named v f (none-open v e) rest

@@ -1,0 +1,48 @@
+use Rattle.template_names.specs.Writing.{writtenEntries}
+use Rattle.sheet_end.specs.End.{componentsIn, namesIn}
+use Rattle.sheet_end.proofs.Puts.{none-put, table-length, table-part}
+use mathlib.Core.Path.{sym, ap, _∙_}
+use native.Mathlib.Omega.{arith}
+use lib.ListN.{length-take}
+use lib.Seq.{sets}
+use borrow.Author.Needs.{needs}
+use Rattle.sheet_end.proofs.written.put_entries.Statement.{statement}
+use Rattle.sheet_end.proofs.written.put_entries.Tie as tie
+
+returns : tie.Need-returns
+returns c =
+    let a = c .before .args in
+    none-put (a .words .now) (writtenEntries (namesIn (a .state) (a .words .now)) (componentsIn (a .state) (a .words .now)) (a .repetitions)) (a .count)
+    (c .before .pre .0) (c .if1 .taken)
+
+write-entries-requires : tie.Need-write-entries-requires
+write-entries-requires c κs = search needs
+
+slice-aggregate-words-part : tie.Need-slice-aggregate-words-part
+slice-aggregate-words-part c = sym (table-length _ _ _ _ _ _ (c .before .before .write-entries .ensures))
+
+words-part-requires : tie.Need-words-part-requires
+words-part-requires c κs = search needs
+
+copy-words-requires : tie.Need-copy-words-requires
+copy-words-requires c κs =
+    let p = c .before .before .before .before .before .before .before .pre in
+    rw (c .words-part .ensures, length-take) (omega arith)
+
+returns-2 : tie.Need-returns-2
+returns-2 c =
+    let a = c .before .before .before .before .before .before .before .before .args in
+    let p = c .before .before .before .before .before .before .before .before .pre in
+    c .copy-words .ensures
+    ∙ ap (sets (a .words .now) 8384) (c .before .words-part .ensures ∙ table-part _ _ _ _ _ _ (c .before .before .before .before .write-entries .ensures) (a .count) (p .0) (p .1) (p .1))
+
+pub put-entries-spec : {M : Type 1} → statement M
+put-entries-spec =
+    tie.close
+    (tie.spec
+    returns
+    write-entries-requires
+    slice-aggregate-words-part
+    words-part-requires
+    copy-words-requires
+    returns-2)

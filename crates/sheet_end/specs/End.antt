@@ -1,0 +1,68 @@
+-- The line after the last (document 01, panel sheet): an axis's open repeat, explicit size and name entries, whatever its state and words hold.
+use Prim.Native.Nat.{ℕ}
+use mathlib.Core.List.{List, map}
+use mathlib.Core.Bool.{cond}
+use lib.Dec.{eqb, ltb}
+use lib.ListN.{length}
+use lib.Seq.{sets}
+use Rattle.sizing.specs.Words.{floatUpTo, largestBits, sizingOf}
+use Rattle.explicit_grid.specs.declared.InnerSize.{InnerSize}
+use Rattle.explicit_grid.specs.declared.InnerSize.the-variants.{Definite, Indefinite}
+use Rattle.explicit_grid.specs.declared.AutoRepeatStrategy.{AutoRepeatStrategy}
+use Rattle.explicit_grid.specs.declared.AutoRepeatStrategy.the-variants.{MaxRepetitionsThatDoNotOverflow, MinRepetitionsThatDoOverflow}
+use Rattle.explicit_grid.specs.declared.ExplicitSize.{ExplicitSize}
+use Rattle.explicit_grid.specs.Explicit.{explicitSizeOf}
+use Rattle.explicit_grid.specs.Template.{templateOf}
+use Rattle.name_store.specs.declared.NameEntry.{NameEntry}
+use Rattle.template_names.specs.Writing.{writtenEntries, entryWord}
+use Rattle.tables.specs.declared.AxisState.{AxisState}
+use Rattle.tables.specs.declared.AxisReading.{AxisReading}
+use Rattle.tables.specs.Runs.{partOf}
+use Rattle.sheet_rules.specs.Panels.{withSize}
+use Rattle.sheet_end.specs.declared.AxisEnd.{AxisEnd}
+
+-- "inner size or `-`"
+abbrev pub innerIn : AxisState → InnerSize
+innerIn s = cond (eqb (s .definite) 0) Indefinite (Definite (floatUpTo largestBits (s .inner)))
+
+-- rule 0 is `max`, 1 is `min`
+abbrev pub strategyIn : AxisState → AutoRepeatStrategy
+strategyIn s = cond (eqb (s .rule) 0) MaxRepetitionsThatDoNotOverflow MinRepetitionsThatDoOverflow
+
+-- the words of the components, and of the name records
+abbrev pub componentsIn : AxisState → List ℕ → List ℕ
+componentsIn s w = partOf w 0 (s .components)
+
+abbrev pub namesIn : AxisState → List ℕ → List ℕ
+namesIn s w = partOf w 4288 (s .names)
+
+-- layer 3
+unfoldable pub sizeIn : AxisState → List ℕ → ExplicitSize
+sizeIn s w =
+    explicitSizeOf (innerIn s) (strategyIn s) (sizingOf (s .gap)) (s .areas) (templateOf (componentsIn s w) (partOf w 64 (s .tracks)) (partOf w 2112 (s .tracks)))
+
+-- layer 4: the name entries, with the repetitions found
+unfoldable pub entriesIn : AxisState → List ℕ → List NameEntry
+entriesIn s w = writtenEntries (namesIn s w) (componentsIn s w) (sizeIn s w .repetitions)
+
+-- an open repeat is 1, an explicit count above 10,000 is 4, more than 4,096 entries are 8
+unfoldable pub endFaultIn : AxisState → AxisReading → List ℕ → ℕ
+endFaultIn s r w =
+    cond (eqb (r .kind) 0)
+    (cond (eqb (sizeIn s w .refusal .number) 0) (cond (ltb 4096 (length (entriesIn s w))) 8 0) (sizeIn s w .refusal .number))
+    1
+
+-- an answer, and what the words hold then
+pub record EndedAxis : Type 0 where
+  pub answer : AxisEnd
+  pub words : List ℕ
+
+-- the state with its size, and the entries in their region of the words
+unfoldable pub endIn : AxisState → AxisReading → List ℕ → EndedAxis
+endIn s r w =
+    cond (eqb (endFaultIn s r w) 0)
+    (record {
+      answer = record { fault = 0; state = withSize s (length (entriesIn s w)) (sizeIn s w .repetitions) (sizeIn s w .explicit) };
+      words = sets w 8384 (map entryWord (entriesIn s w));
+    })
+    (record { answer = record { fault = endFaultIn s r w; state = s }; words = w })

@@ -1,0 +1,3 @@
+-- What the contracts on the end of a sheet cite.
+pub mod End
+pub mod Steps

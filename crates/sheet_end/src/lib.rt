@@ -1,0 +1,59 @@
+// After the last line of a sheet: the explicit size of an axis and its name entries, written out.
+ghost use mathlib.Core.Path.{_≡_};
+ghost use Rattle.sheet_end.specs.End.{endIn};
+ghost use Rattle.sheet_end.specs.Steps.{faultBy};
+
+pub mod size;
+mod written;
+
+use crate::size::size_in;
+use crate::written::count_entries;
+use crate::written::put_entries;
+use tables::AxisReading;
+use tables::AxisState;
+use tables::layout::AXIS_WORDS;
+
+// An axis after the last line: the number of its refusal, 0 where there is none, and its state, on a refusal as it came.
+pub struct AxisEnd {
+    pub fault: u32,
+    pub state: AxisState,
+}
+
+// The fault of an axis: an open repeat is 1, then the refusal of its size, then more than 4,096 entries, which is 8.
+fn end_fault(kind: u32, refused: u32, entries: u32) -> u32
+    ensures { λ r. ⌜ r ≡ faultBy kind refused entries ⌝ }
+{
+    if kind != 0 {
+        return coordinates::refusal::UNREAD;
+    }
+    if refused != 0 {
+        return refused;
+    }
+    if 4096 < entries {
+        return coordinates::refusal::CROWDED;
+    }
+    0
+}
+
+// The line after the last, for one axis: its size is put into its state and its entries into their region of the words.
+// 1: a repeat is open; 4: an explicit count above 10,000; 8: more than 4,096 entries. A refused axis stays as it came.
+pub fn end_axis(state: AxisState, reading: AxisReading, words: &mut [u64; AXIS_WORDS]) -> AxisEnd
+    ensures { λ r. ⌜ record { answer = r; words = now (words .exit) } ≡ endIn state reading (now (words .entry)) ⌝ }
+{
+    let size = size_in(state, words);
+    let repetitions = size.repetitions;
+    let entries = count_entries(state, repetitions, words);
+    let fault = end_fault(reading.kind, size.refusal.number, entries);
+    if fault != 0 {
+        return AxisEnd { fault, state };
+    }
+    put_entries(state, repetitions, entries, words);
+    let mut after = state;
+    after.entries = entries;
+    after.repetitions = repetitions;
+    after.explicit = size.explicit;
+    AxisEnd {
+        fault: 0,
+        state: after,
+    }
+}

@@ -1,0 +1,49 @@
+// The explicit size of an axis, from its state and words.
+ghost use mathlib.Core.Path.{_≡_};
+ghost use Rattle.sheet_end.specs.End.{innerIn, strategyIn, sizeIn};
+use explicit_grid::AutoRepeatStrategy;
+use explicit_grid::ExplicitSize;
+use explicit_grid::InnerSize;
+use explicit_grid::compute_explicit_grid_size_in_axis;
+use sizing::word::length_of;
+use sizing::word::sizing_of;
+use tables::AxisState;
+use tables::layout::AXIS_WORDS;
+use tables::layout::MAXIMUMS;
+use tables::layout::MINIMUMS;
+use tables::layout::words_part;
+
+// The inner size, where the axis has one.
+pub fn inner_in(state: AxisState) -> InnerSize
+    ensures { λ r. ⌜ r ≡ innerIn state ⌝ }
+{
+    if state.definite == 0 {
+        return InnerSize::Indefinite;
+    }
+    InnerSize::Definite(length_of(state.inner))
+}
+
+// Which repetitions the axis asks for.
+pub fn strategy_in(state: AxisState) -> AutoRepeatStrategy
+    ensures { λ r. ⌜ r ≡ strategyIn state ⌝ }
+{
+    if state.rule == 0 {
+        return AutoRepeatStrategy::MaxRepetitionsThatDoNotOverflow;
+    }
+    AutoRepeatStrategy::MinRepetitionsThatDoOverflow
+}
+
+// The explicit size, as layer 3 finds it.
+pub fn size_in(state: AxisState, words: &[u64; AXIS_WORDS]) -> ExplicitSize
+    ensures { λ r. ⌜ r ≡ sizeIn state (now (words .entry)) ⌝ }
+{
+    compute_explicit_grid_size_in_axis(
+        words_part(words, 0, state.components),
+        words_part(words, MINIMUMS, state.tracks),
+        words_part(words, MAXIMUMS, state.tracks),
+        inner_in(state),
+        strategy_in(state),
+        sizing_of(state.gap),
+        state.areas,
+    )
+}

@@ -1,0 +1,3 @@
+-- Laws of one line.
+pub mod Same
+pub mod Parts

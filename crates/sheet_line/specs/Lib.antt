@@ -1,0 +1,3 @@
+-- What the contracts on one line of a sheet cite.
+pub mod Lines
+pub mod Parts

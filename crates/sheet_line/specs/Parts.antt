@@ -1,0 +1,98 @@
+-- What a record is written to, and the faults of a record before it is written over no more than they look at.
+use Prim.Native.Nat.{ℕ}
+use mathlib.Core.List.{List}
+use mathlib.Core.Bool.{cond}
+use lib.Dec.{eqb}
+use Rattle.coordinates.specs.declared.axis.Axis.{Axis}
+use Rattle.coordinates.specs.declared.axis.Axis.the-variants.{Column, Row}
+use Rattle.records.specs.declared.Record.{Record}
+use Rattle.records.specs.declared.Record.the-variants.{Fault, Axis as AxisLine, Area, Name, Track, Repeat, End, Spare, Extra, Item, Place}
+use Rattle.records.specs.declared.PlaceEnd.{PlaceEnd}
+use Rattle.records.specs.Words.{at}
+use Rattle.records.specs.Faults.{firstOf}
+use Rattle.records.specs.Records.{faultOf}
+use Rattle.panel_tables.specs.declared.Panel.{Panel}
+use Rattle.panel_tables.specs.declared.Reading.{Reading}
+use Rattle.panel_tables.specs.declared.AreaEdges.{AreaEdges}
+use Rattle.panel_tables.specs.declared.PanelRead.{PanelRead}
+use Rattle.panel_tables.specs.Areas.{hasAreaIn, InAreas, putArea}
+use Rattle.panel_tables.specs.Placements.{putPlacement}
+use Rattle.panel_tables.specs.Axes.{readingIn}
+use Rattle.panel_tables.specs.Written.{PanelHeld, PanelStepped, ofAreas, ofPlacements}
+use Rattle.sheet_rules.specs.Lines.{edgesOf, placedEnd}
+use Rattle.sheet_rules.specs.Steps.{stayed, onHeld}
+use Rattle.sheet_line.specs.declared.panel.Part.{Part}
+use Rattle.sheet_line.specs.declared.panel.Part.the-variants.{Nothing, Columns, Rows, Areas, Placements}
+use Rattle.sheet_line.specs.Lines.{lateIn}
+
+-- ---- what a record is written to
+
+-- an axis: its tables
+abbrev pub axisPart : Axis → Part
+axisPart Column = Columns
+axisPart Row = Rows
+
+-- any record: where it is written
+abbrev pub partOf : Record → Part
+partOf (Fault n) = Nothing
+partOf (AxisLine a) = axisPart (a .axis)
+partOf (Area a) = Areas (edgesOf a)
+partOf (Name a) = axisPart a
+partOf (Track a min max) = axisPart a
+partOf (Repeat a n) = axisPart a
+partOf (End a) = axisPart a
+partOf (Spare a min max) = axisPart a
+partOf (Extra a n p) = axisPart a
+partOf (Item a i) = axisPart a
+partOf (Place a s e) = Placements a s e
+
+-- an area with its name, which is field 1
+abbrev pub areaIn : Panel → List ℕ → List ℕ → List (List ℕ) → AreaEdges → InAreas
+areaIn p words bytes fs e = putArea p words bytes (at fs 1) e
+
+-- a placement with its names, which are fields 3 and 6
+abbrev pub placeIn : Panel → List ℕ → List ℕ → List (List ℕ) → Axis → PlaceEnd → PlaceEnd → InAreas
+placeIn p words bytes fs a s e =
+    putPlacement p words bytes a (placedEnd (at fs 3) s .end) (placedEnd (at fs 3) s .name) (placedEnd (at fs 6) e .end) (placedEnd (at fs 6) e .name)
+
+-- the record written there
+abbrev pub partStep : PanelHeld → List (List ℕ) → Record → Part → PanelStepped
+partStep h fs r Nothing = stayed h
+partStep h fs r Columns = onHeld h Column fs r
+partStep h fs r Rows = onHeld h Row fs r
+partStep h fs r (Areas e) = ofAreas h (areaIn (h .panel) (h .areas) (h .areaBytes) fs e)
+partStep h fs r (Placements a s e) = ofPlacements h (placeIn (h .panel) (h .placements) (h .placementBytes) fs a s e)
+
+-- ---- the faults before
+
+-- an axis record again
+abbrev pub axisTwice : Reading → Axis → ℕ
+axisTwice r a = cond (eqb (readingIn r a .seen) 0) 0 6
+
+-- an area name again
+abbrev pub areaTwice : ℕ → List ℕ → List ℕ → List ℕ → ℕ
+areaTwice areas words bytes n = cond (hasAreaIn areas words bytes n) 6 0
+
+-- either; the name of an `area` record is field 1
+abbrev pub twiceOf : ℕ → Reading → List ℕ → List ℕ → List (List ℕ) → Record → ℕ
+twiceOf areas reading words bytes fs (Fault n) = 0
+twiceOf areas reading words bytes fs (AxisLine a) = axisTwice reading (a .axis)
+twiceOf areas reading words bytes fs (Area a) = areaTwice areas words bytes (at fs 1)
+twiceOf areas reading words bytes fs (Name a) = 0
+twiceOf areas reading words bytes fs (Track a min max) = 0
+twiceOf areas reading words bytes fs (Repeat a n) = 0
+twiceOf areas reading words bytes fs (End a) = 0
+twiceOf areas reading words bytes fs (Spare a min max) = 0
+twiceOf areas reading words bytes fs (Extra a n p) = 0
+twiceOf areas reading words bytes fs (Item a i) = 0
+twiceOf areas reading words bytes fs (Place a s e) = 0
+
+-- of the faults before, the one that comes first
+abbrev pub beforeOf : ℕ → Reading → List ℕ → List ℕ → List (List ℕ) → Record → ℕ
+beforeOf areas reading words bytes fs r = firstOf (faultOf r) (firstOf (twiceOf areas reading words bytes fs r) (lateIn (reading .stage) r))
+
+-- ---- the line
+
+-- an answer with a fault, at a place of the kind order
+abbrev pub stagedRead : ℕ → ℕ → PanelRead → PanelRead
+stagedRead fault stage r = record { fault = fault; panel = r .panel; reading = record { stage = stage; columns = r .reading .columns; rows = r .reading .rows } }

@@ -1,0 +1,10 @@
+-- Laws of a sheet.
+pub mod Says
+pub mod Only
+pub mod LineRows
+pub mod LineTheorem
+pub mod Theorem
+pub mod Examples
+pub mod Limits
+pub mod Fits
+pub mod Same

@@ -1,0 +1,145 @@
+-- A line is refused with the number of the row that holds there and comes first; it is accepted exactly if no row holds. Assumes nothing.
+use Prim.Native.Nat.{ℕ, _≤_, _<_}
+use mathlib.Core.Path.{_≡_, refl, sym, ap, _∙_, subst}
+use mathlib.Core.List.{List}
+use mathlib.Core.Bool.{Bool, true, false, cond}
+use mathlib.Core.Logic.{_⊎_, inl, inr, ⊎-elim, _↔_}
+use native.Mathlib.Omega.{arith}
+use lib.Dec.{eqb, ltb}
+use borrow.Author.Tests.{le-ltb, eqb-true}
+use Rattle.records.specs.declared.Record.{Record}
+use Rattle.records.specs.declared.Record.the-variants.{Fault, Axis as AxisLine, Area, Name, Track, Repeat, End, Spare, Extra, Item, Place}
+use Rattle.records.specs.Faults.{rankOf, firstOf, FirstBy, noRow, firstRow}
+use Rattle.records.specs.Records.{recordOf, faultOf}
+use Rattle.records.specs.Forms.{Kind, axis, area, name, track, repeat, end, spare, extra, item, place, Of}
+use Rattle.records.proofs.Firsts.{firsts-by, first-same, first-unique, first-none}
+use Rattle.records.proofs.Bounds.{Bounded}
+use Rattle.records.proofs.Theorem.{record-bounded}
+use Rattle.panel_tables.specs.View.{PanelView, PanelOutcome, refused, accepted}
+use Rattle.sheet_rules.specs.Lines.{recordStep, twiceFault, stageOf, lateFault, recordFault, recordOutcome, lineStep}
+use Rattle.sheet_rules.specs.Rows.{MisnestedBy, TwiceBy, LateBy, CrowdedBy, AtKind, Row, unread, badName, badValue, badCount, badArea, twice, late, crowded, numberOf, Holds, First}
+use Rattle.sheet_rules.proofs.Says.{Says, record-says}
+use Rattle.sheet_rules.proofs.Only.{Only, OwnRows, own-first, some-number}
+use Rattle.sheet_rules.proofs.LineRows.{IsRecord, TwiceRow, LateRow, StepRow, twice-first, late-first, step-first}
+
+module _ (v : PanelView) (fs : List (List ℕ)) where
+  -- ---- a line that is a record
+
+  abbrev AllRows : Row → Type 0
+  AllRows r = OwnRows fs r ⊎ (TwiceRow v fs r ⊎ (LateRow v fs r ⊎ StepRow v fs r))
+
+  own-to : (r : Row) → OwnRows fs r → Holds v fs r
+  own-to unread x = inl x
+  own-to badName x = x
+  own-to badValue x = x
+  own-to badCount x = x
+  own-to badArea x = x
+  own-to twice x = absurd x
+  own-to late x = absurd x
+  own-to crowded x = absurd x
+
+  all-to : (r : Row) → AllRows r → Holds v fs r
+  all-to r (inl x) = own-to r x
+  all-to r (inr (inl (e, x))) = subst (Holds v fs) (sym e) x
+  all-to r (inr (inr (inl (e, x)))) = subst (Holds v fs) (sym e) x
+  all-to r (inr (inr (inr (inl (e, x))))) = subst (Holds v fs) (sym e) (inr x)
+  all-to r (inr (inr (inr (inr (e, x))))) = subst (Holds v fs) (sym e) x
+
+  all-not : (r : Row) → (AllRows r → ⊥) → Holds v fs r → ⊥
+  all-not unread h (inl x) = h (inl x)
+  all-not unread h (inr x) = h (inr (inr (inr (inl (refl, x)))))
+  all-not badName h x = h (inl x)
+  all-not badValue h x = h (inl x)
+  all-not badCount h x = h (inl x)
+  all-not badArea h x = h (inl x)
+  all-not twice h x = h (inr (inl (refl, x)))
+  all-not late h x = h (inr (inr (inl (refl, x))))
+  all-not crowded h x = h (inr (inr (inr (inr (refl, x)))))
+
+  record-row : (r : Record) → recordOf fs ≡ r → IsRecord r → First (Holds v fs) (recordFault v fs r)
+  unfolding recordFault
+  record-row r e i =
+      let says = subst (Says fs) e (record-says fs) in
+      let bounded = subst (Bounded fs) e (record-bounded fs) in
+      first-same all-to all-not
+      (firsts-by some-number (subst (λ (x : Record). First (OwnRows fs) (faultOf x)) e (own-first fs))
+      (firsts-by some-number (twice-first v fs r i says) (firsts-by some-number (late-first v fs r i says) (step-first v fs r i says bounded))))
+
+  -- ---- a line that is none
+
+  fault-fault : (n : ℕ) → recordFault v fs (Fault n) ≡ n
+  unfolding recordFault recordStep firstOf
+  fault-fault n = rw (le-ltb (v .stage) (v .stage) (omega arith)) (first-none n)
+
+  -- a line of those kinds that is none is unread
+  not-misnested : (n : ℕ) → Says fs (Fault n) → (n ≡ 1 → ⊥) → AtKind MisnestedBy v fs → ⊥
+  not-misnested n (r, e) h (axis, o, x) = x
+  not-misnested n (r, e) h (area, o, x) = x
+  not-misnested n (r, e) h (name, o, x) = x
+  not-misnested n (r, e) h (track, o, x) = x
+  not-misnested n (r, e) h (repeat, o, x) = h (r o)
+  not-misnested n (r, e) h (end, o, x) = h (e o)
+  not-misnested n (r, e) h (spare, o, x) = x
+  not-misnested n (r, e) h (extra, o, x) = x
+  not-misnested n (r, e) h (item, o, x) = x
+  not-misnested n (r, e) h (place, o, x) = x
+
+  fault-row : (n : ℕ) → Says fs (Fault n) → (n ≡ 0 → ⊥) → First (OwnRows fs) n → First (Holds v fs) n
+  unfolding rankOf
+  fault-row n s z (noRow e h) = absurd (z e)
+  fault-row n s z (firstRow r e h l) = firstRow r e (own-to r h) (lower r e h l)
+    where
+      few : (r : Row) → OwnRows fs r → numberOf r ≤ 5
+      few unread x = omega arith
+      few badName x = omega arith
+      few badValue x = omega arith
+      few badCount x = omega arith
+      few badArea x = omega arith
+      few twice x = absurd x
+      few late x = absurd x
+      few crowded x = absurd x
+
+      lower : (r : Row) → n ≡ numberOf r → OwnRows fs r → ((q : Row) → rankOf (numberOf q) < rankOf (numberOf r) → OwnRows fs q → ⊥)
+          → (q : Row) → rankOf (numberOf q) < rankOf (numberOf r) → Holds v fs q → ⊥
+      lower r e h l unread m (inl x) = l unread m x
+      lower r e h l unread m (inr x) = not-misnested n s (λ one. omega (arith, m, e, one)) x
+      lower r e h l badName m x = l badName m x
+      lower r e h l badValue m x = l badValue m x
+      lower r e h l badCount m x = l badCount m x
+      lower r e h l badArea m x = l badArea m x
+      lower r e h l twice m x = omega (arith, m, few r h)
+      lower r e h l late m x = omega (arith, m, few r h)
+      lower r e h l crowded m x = omega (arith, m, few r h)
+
+  -- ---- every line
+
+  record-rows : (r : Record) → recordOf fs ≡ r → First (Holds v fs) (recordFault v fs r)
+  record-rows (Fault n) e =
+      rw (fault-fault n)
+      (fault-row n (subst (Says fs) e (record-says fs)) (subst (Bounded fs) e (record-bounded fs))
+      (subst (λ (x : Record). First (OwnRows fs) (faultOf x)) e (own-first fs)))
+  record-rows (AxisLine a) e = record-row (AxisLine a) e tt
+  record-rows (Area a) e = record-row (Area a) e tt
+  record-rows (Name a) e = record-row (Name a) e tt
+  record-rows (Track a min max) e = record-row (Track a min max) e tt
+  record-rows (Repeat a n) e = record-row (Repeat a n) e tt
+  record-rows (End a) e = record-row (End a) e tt
+  record-rows (Spare a min max) e = record-row (Spare a min max) e tt
+  record-rows (Extra a n p) e = record-row (Extra a n p) e tt
+  record-rows (Item a i) e = record-row (Item a i) e tt
+  record-rows (Place a s t) e = record-row (Place a s t) e tt
+
+  outcome-fault : (r : Record) → recordOutcome v fs r .fault ≡ recordFault v fs r
+  outcome-fault r = go (eqb (recordFault v fs r) 0) _ _ refl
+    where
+      go : (t : Bool) (x y : PanelView) → eqb (recordFault v fs r) 0 ≡ t → cond t (accepted x) (refused (recordFault v fs r) y) .fault ≡ recordFault v fs r
+      go true x y e = sym (eqb-true (recordFault v fs r) 0 e)
+      go false x y e = refl
+
+  pub line-first : First (Holds v fs) (lineStep v fs .fault)
+  unfolding lineStep
+  line-first = subst (First (Holds v fs)) (sym (outcome-fault (recordOf fs))) (record-rows (recordOf fs) refl)
+
+  -- a line is refused with n exactly if n is the number of the row that holds there and comes first
+  pub line-exactly : (n : ℕ) → (lineStep v fs .fault ≡ n) ↔ First (Holds v fs) n
+  line-exactly n = (λ e. subst (First (Holds v fs)) e line-first, first-unique line-first)

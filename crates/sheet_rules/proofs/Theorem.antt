@@ -1,0 +1,224 @@
+-- A sheet is refused with the number and line of the row that holds at the earliest line and comes first there; it is accepted exactly if no row
+-- holds at any line. Assumes nothing.
+use Prim.Native.Nat.{ℕ, zero, suc, _+_, _≤_, _<_, zero-le}
+use mathlib.Core.Path.{_≡_, refl, sym, ap, _∙_, subst}
+use mathlib.Core.List.{List, [], _∷_}
+use mathlib.Core.Bool.{Bool, true, false, cond}
+use mathlib.Core.Logic.{_⊎_, inl, inr, ⊎-elim, _↔_}
+use native.Mathlib.Omega.{arith}
+use native.Mathlib.Nat.{le-of-suc-le-suc}
+use lib.Dec.{eqb, ltb}
+use lib.ListN.{length}
+use borrow.Author.Tests.{ne-eqb, eqb-true, eqb-false, ltb-true, ltb-false}
+use Rattle.text.specs.Split.{split}
+use Rattle.records.specs.Faults.{rankOf, firstOf, FirstBy, noRow, firstRow}
+use Rattle.records.proofs.Firsts.{firsts-by, first-same}
+use Rattle.tables.specs.View.{Unended, none, inside, AxisView}
+use Rattle.panel_tables.specs.View.{PanelView, emptyView}
+use Rattle.sheet_rules.specs.Lines.{lineStep}
+use Rattle.sheet_rules.specs.Sheet.{explicitOf, entriesOf, openFault, countFault, entriesFault, axisFault, endFault, Outcome, outcome, ended, run, sheetOf}
+use Rattle.sheet_rules.specs.Rows.{Opened, Open, Row, unread, badName, badValue, badCount, badArea, twice, late, crowded, numberOf, Holds, HoldsAfter, HoldsLast, HoldsFrom, HoldsAt, First, FirstAt, Nowhere}
+use Rattle.sheet_rules.proofs.Only.{Only, only-no, only-yes, only-if, some-number}
+use Rattle.sheet_rules.proofs.LineTheorem.{line-first}
+
+-- ---- the line after the last
+
+module _ (x : AxisView) where
+  abbrev AxisRows : Row → Type 0
+  AxisRows r = Only unread (Open x) r ⊎ (Only badCount (10000 < explicitOf x) r ⊎ Only crowded (4096 < length (entriesOf x)) r)
+
+  open-first : (u : Unended) → First (Only unread (Opened u)) (openFault u)
+  open-first none = only-no unread refl (λ y. y)
+  open-first (inside r) = only-yes unread refl tt
+
+  axis-first : First AxisRows (axisFault x)
+  axis-first =
+      firsts-by some-number (open-first (x .unended))
+      (firsts-by some-number
+      (only-if badCount (ltb 10000 (explicitOf x)) (ltb-true 10000 (explicitOf x)) (λ e y. omega (arith, ltb-false 10000 (explicitOf x) e, y)))
+      (only-if crowded (ltb 4096 (length (entriesOf x))) (ltb-true 4096 (length (entriesOf x))) (λ e y. omega (arith, ltb-false 4096 (length (entriesOf x)) e, y))))
+
+module _ (v : PanelView) where
+  after-to : (r : Row) → AxisRows (v .columns) r ⊎ AxisRows (v .rows) r → HoldsAfter v r
+  after-to r (inl (inl (e, x))) = subst (HoldsAfter v) (sym e) (inl x)
+  after-to r (inl (inr (inl (e, x)))) = subst (HoldsAfter v) (sym e) (inl x)
+  after-to r (inl (inr (inr (e, x)))) = subst (HoldsAfter v) (sym e) (inl x)
+  after-to r (inr (inl (e, x))) = subst (HoldsAfter v) (sym e) (inr x)
+  after-to r (inr (inr (inl (e, x)))) = subst (HoldsAfter v) (sym e) (inr x)
+  after-to r (inr (inr (inr (e, x)))) = subst (HoldsAfter v) (sym e) (inr x)
+
+  after-not : (r : Row) → (AxisRows (v .columns) r ⊎ AxisRows (v .rows) r → ⊥) → HoldsAfter v r → ⊥
+  after-not unread h (inl x) = h (inl (inl (refl, x)))
+  after-not unread h (inr x) = h (inr (inl (refl, x)))
+  after-not badName h x = x
+  after-not badValue h x = x
+  after-not badCount h (inl x) = h (inl (inr (inl (refl, x))))
+  after-not badCount h (inr x) = h (inr (inr (inl (refl, x))))
+  after-not badArea h x = x
+  after-not twice h x = x
+  after-not late h x = x
+  after-not crowded h (inl x) = h (inl (inr (inr (refl, x))))
+  after-not crowded h (inr x) = h (inr (inr (inr (refl, x))))
+
+  pub after-first : First (HoldsAfter v) (endFault v)
+  unfolding endFault
+  after-first = first-same after-to after-not (firsts-by some-number (axis-first (v .columns)) (axis-first (v .rows)))
+
+-- ---- the first row of the earliest line, where lines are counted from `from`
+
+pub data Found (holds : ℕ → Row → Type 0) (from n line : ℕ) : Type 0 where
+  nowhere : n ≡ 0 → line ≡ 0 → Nowhere holds → Found holds from n line
+  found : (k : ℕ) (r : Row) → n ≡ numberOf r → line ≡ from + k → FirstAt holds k r → Found holds from n line
+
+module _ {holds : ℕ → Row → Type 0} (from : ℕ) where
+  -- the first line has a fault
+  stopped : {n : ℕ} → First (holds 0) n → (n ≡ 0 → ⊥) → Found holds from n from
+  stopped (noRow e h) z = absurd (z e)
+  stopped (firstRow r e h m) z = found 0 r e (omega arith) (record { here = h; first = m; earliest = λ j w. absurd (omega arith) })
+
+  -- no row holds at the first line
+  later : {n line : ℕ} → ((r : Row) → holds 0 r → ⊥) → Found (λ k. holds (suc k)) (from + 1) n line → Found holds from n line
+  later empty (nowhere e l h) = nowhere e l every
+    where
+      every : Nowhere holds
+      every zero r x = empty r x
+      every (suc k) r x = h k r x
+  later empty (found k r e l h) = found (suc k) r e (l ∙ omega arith) (record { here = h .here; first = h .first; earliest = before })
+    where
+      before : (j : ℕ) → j < suc k → (q : Row) → holds j q → ⊥
+      before zero w q x = empty q x
+      before (suc j) w q x = h .earliest j (le-of-suc-le-suc w) q x
+
+none-holds : {holds : Row → Type 0} {n : ℕ} → n ≡ 0 → First holds n → (r : Row) → holds r → ⊥
+none-holds z (noRow e h) = h
+none-holds z (firstRow r e h l) = absurd (some-number r (sym e ∙ z))
+
+ended-found : (holds : ℕ → Row → Type 0) (from : ℕ) (v : PanelView) → ((r : Row) → HoldsAfter v r → holds 0 r) → ((r : Row) → holds 0 r → HoldsAfter v r)
+    → ((k : ℕ) (r : Row) → holds (suc k) r → ⊥) → Found holds from (ended from v .fault) (ended from v .line)
+unfolding ended
+ended-found holds from v to back past = go (eqb (endFault v) 0) refl
+  where
+    there : First (holds 0) (endFault v)
+    there = first-same to (λ r h x. h (back r x)) (after-first v)
+
+    go : (t : Bool) → eqb (endFault v) 0 ≡ t → Found holds from (cond t (outcome 0 0 v) (outcome (endFault v) from v) .fault) (cond t (outcome 0 0 v) (outcome (endFault v) from v) .line)
+    go true e = nowhere refl refl every
+      where
+        every : Nowhere holds
+        every zero r x = none-holds (eqb-true (endFault v) 0 e) there r x
+        every (suc k) r x = past k r x
+    go false e = stopped from there (eqb-false (endFault v) 0 e)
+
+unended-found : (l : List ℕ) (from : ℕ) (v : PanelView)
+    → let o = cond (eqb (length l) 0) (ended from v) (outcome 1 from v) in Found (λ k. HoldsFrom k (l ∷ []) v) from (o .fault) (o .line)
+unended-found [] from v = ended-found (λ k. HoldsFrom k ([] ∷ []) v) from v (λ r x. x) (λ r x. x) (λ k r x. x)
+unended-found (b ∷ l) from v = rw (ne-eqb (suc (length l)) 0 (λ e. omega arith)) (found 0 unread refl (omega arith) (record { here = refl; first = lower; earliest = λ j w. absurd (omega arith) }))
+  where
+    lower : (q : Row) → rankOf (numberOf q) < rankOf 1 → q ≡ unread → ⊥
+    lower q m e = omega (arith, m, ap (λ (x : Row). rankOf (numberOf x)) e)
+
+run-found : (ls : List (List ℕ)) (from : ℕ) (v : PanelView) → Found (λ k. HoldsFrom k ls v) from (run from ls v .fault) (run from ls v .line)
+unfolding run
+run-found [] from v = ended-found (λ k. HoldsFrom k [] v) from v (λ r x. x) (λ r x. x) (λ k r x. x)
+run-found (l ∷ []) from v = unended-found l from v
+run-found (l ∷ m ∷ ls) from v = go (λ w. run-found (m ∷ ls) (from + 1) w) (eqb (lineStep v (split 9 l) .fault) 0) refl
+  where
+    go : ((w : PanelView) → Found (λ k. HoldsFrom k (m ∷ ls) w) (from + 1) (run (from + 1) (m ∷ ls) w .fault) (run (from + 1) (m ∷ ls) w .line))
+        → (t : Bool) → eqb (lineStep v (split 9 l) .fault) 0 ≡ t
+        → let o = cond t (run (from + 1) (m ∷ ls) (lineStep v (split 9 l) .panel)) (outcome (lineStep v (split 9 l) .fault) from v) in
+        Found (λ k. HoldsFrom k (l ∷ m ∷ ls) v) from (o .fault) (o .line)
+    go rest true e = later from (none-holds (eqb-true (lineStep v (split 9 l) .fault) 0 e) (line-first v (split 9 l))) (rest (lineStep v (split 9 l) .panel))
+    go rest false e = stopped from (line-first v (split 9 l)) (eqb-false (lineStep v (split 9 l) .fault) 0 e)
+
+-- ---- the sheet
+
+pub sheet-found : (s : List ℕ) → Found (HoldsAt s) 0 (sheetOf s .fault) (sheetOf s .line)
+unfolding sheetOf
+sheet-found s = go (ltb 32768 (length s)) refl
+  where
+    go : (t : Bool) → ltb 32768 (length s) ≡ t
+        → let o = cond t (outcome 1 0 emptyView) (run 1 (split 10 s) emptyView) in Found (HoldsAt s) 0 (o .fault) (o .line)
+    go true e =
+        stopped 0 (firstRow unread refl (refl, ltb-true 32768 (length s) e) (λ q m (z, y). lower q m z)) (λ z. omega arith)
+      where
+        lower : (q : Row) → rankOf (numberOf q) < rankOf 1 → q ≡ unread → ⊥
+        lower q m z = omega (arith, m, ap (λ (x : Row). rankOf (numberOf x)) z)
+    go false e = later 0 (λ r (z, y). omega (arith, ltb-false 32768 (length s) e, y)) (run-found (split 10 s) 1 emptyView)
+
+-- a sheet is accepted exactly if no row holds at any line
+pub accepted-exactly : (s : List ℕ) → (sheetOf s .fault ≡ 0) ↔ Nowhere (HoldsAt s)
+accepted-exactly s = (λ e. go e (sheet-found s), λ h. back h (sheet-found s))
+  where
+    go : {n line : ℕ} → n ≡ 0 → Found (HoldsAt s) 0 n line → Nowhere (HoldsAt s)
+    go e (nowhere z l h) = h
+    go e (found k r z l h) = absurd (some-number r (sym z ∙ e))
+
+    back : {n line : ℕ} → Nowhere (HoldsAt s) → Found (HoldsAt s) 0 n line → n ≡ 0
+    back h (nowhere z l y) = z
+    back h (found k r z l y) = absurd (h k r (y .here))
+
+-- ---- a row by its number
+
+rowAt : ℕ → Row
+rowAt zero = unread
+rowAt (suc zero) = unread
+rowAt (suc (suc zero)) = badName
+rowAt (suc (suc (suc zero))) = badValue
+rowAt (suc (suc (suc (suc zero)))) = badCount
+rowAt (suc (suc (suc (suc (suc zero))))) = badArea
+rowAt (suc (suc (suc (suc (suc (suc zero)))))) = twice
+rowAt (suc (suc (suc (suc (suc (suc (suc zero))))))) = late
+rowAt (suc (suc (suc (suc (suc (suc (suc (suc n)))))))) = crowded
+
+row-back : (r : Row) → rowAt (numberOf r) ≡ r
+unfolding rowAt
+row-back unread = refl
+row-back badName = refl
+row-back badValue = refl
+row-back badCount = refl
+row-back badArea = refl
+row-back twice = refl
+row-back late = refl
+row-back crowded = refl
+
+same-row : (p q : Row) → numberOf p ≡ numberOf q → p ≡ q
+same-row p q e = sym (row-back p) ∙ ap rowAt e ∙ row-back q
+
+trichotomy : (a b : ℕ) → (a ≡ b) ⊎ ((a < b) ⊎ (b < a))
+trichotomy a b = go (ltb a b) (ltb b a) refl refl
+  where
+    go : (t u : Bool) → ltb a b ≡ t → ltb b a ≡ u → (a ≡ b) ⊎ ((a < b) ⊎ (b < a))
+    go true u e f = inr (inl (ltb-true a b e))
+    go false true e f = inr (inr (ltb-true b a f))
+    go false false e f = inl (omega (arith, ltb-false a b e, ltb-false b a f))
+
+-- a sheet is refused by a row at a line exactly if that row holds there, none that comes first there does, and none holds at any line before
+pub refused-exactly : (s : List ℕ) (k : ℕ) (r : Row) → ((sheetOf s .fault ≡ numberOf r) × (sheetOf s .line ≡ k)) ↔ FirstAt (HoldsAt s) k r
+unfolding rankOf
+refused-exactly s k r = (λ (e, f). go e f (sheet-found s), λ h. back h (sheet-found s))
+  where
+    go : {n line : ℕ} → n ≡ numberOf r → line ≡ k → Found (HoldsAt s) 0 n line → FirstAt (HoldsAt s) k r
+    go e f (nowhere z l h) = absurd (some-number r (sym e ∙ z))
+    go e f (found j q z l h) =
+        subst (λ (i : ℕ). FirstAt (HoldsAt s) i r) (omega (arith, l, f)) (subst (FirstAt (HoldsAt s) j) (same-row q r (sym z ∙ e)) h)
+
+    same-line : (j : ℕ) (q : Row) → FirstAt (HoldsAt s) k r → FirstAt (HoldsAt s) j q → j ≡ k
+    same-line j q h g = pick (trichotomy j k)
+      where
+        pick : (j ≡ k) ⊎ ((j < k) ⊎ (k < j)) → j ≡ k
+        pick (inl e) = e
+        pick (inr (inl l)) = absurd (h .earliest j l q (g .here))
+        pick (inr (inr l)) = absurd (g .earliest k l r (h .here))
+
+    same-number : (q : Row) → FirstAt (HoldsAt s) k r → FirstAt (HoldsAt s) k q → numberOf q ≡ numberOf r
+    same-number q h g = pick (trichotomy (numberOf q) (numberOf r))
+      where
+        pick : (numberOf q ≡ numberOf r) ⊎ ((numberOf q < numberOf r) ⊎ (numberOf r < numberOf q)) → numberOf q ≡ numberOf r
+        pick (inl e) = e
+        pick (inr (inl l)) = absurd (h .first q l (g .here))
+        pick (inr (inr l)) = absurd (g .first r l (h .here))
+
+    back : {n line : ℕ} → FirstAt (HoldsAt s) k r → Found (HoldsAt s) 0 n line → (n ≡ numberOf r) × (line ≡ k)
+    back h (nowhere z l y) = absurd (y k r (h .here))
+    back h (found j q z l g) =
+        let e = same-line j q h g in (z ∙ same-number q h (subst (λ (i : ℕ). FirstAt (HoldsAt s) i q) e g), omega (arith, l, e))

@@ -1,0 +1,7 @@
+-- What the contracts on a sheet cite.
+pub mod Lines
+pub mod Sheet
+pub mod Rows
+pub mod Steps
+pub mod Panels
+pub mod Read

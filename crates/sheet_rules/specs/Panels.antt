@@ -1,0 +1,93 @@
+-- What the state and the tables hold for an accepted sheet: those of its view, with the explicit sizes and the name entries written out.
+use Prim.Native.Nat.{ℕ}
+use mathlib.Core.List.{List, _++_, map}
+use lib.ListN.{length, drop}
+use Rattle.template_names.specs.Writing.{writtenEntries, entryWord}
+use Rattle.tables.specs.declared.AxisState.{AxisState}
+use Rattle.tables.specs.Runs.{wordsFrom}
+use Rattle.tables.specs.View.{AxisView, nameOf, axisNames, axisBytes}
+use Rattle.tables.specs.Written.{componentsFrom, recordWord, stateOf, wordsWith}
+use Rattle.panel_tables.specs.declared.Panel.{Panel}
+use Rattle.panel_tables.specs.View.{PanelView}
+use Rattle.panel_tables.specs.Written.{panelOf, areaWords, areaStore, placementWords, placementStore}
+use Rattle.sheet_rules.specs.Sheet.{sizeOf, explicitOf}
+
+-- ---- an axis
+
+-- the words of its `name` records
+abbrev pub nameWords : AxisView → List ℕ
+nameWords v = wordsFrom recordWord nameOf 0 (axisNames v)
+
+-- the words of its name entries: the records written out with the repetitions found
+unfoldable pub entryWords : AxisView → List ℕ
+entryWords v = map entryWord (writtenEntries (nameWords v) (componentsFrom 0 (v .template)) (sizeOf v .repetitions))
+
+-- a state with its entries, repetitions and explicit count
+abbrev pub withSize : AxisState → ℕ → ℕ → ℕ → AxisState
+withSize s entries repetitions explicit =
+    record {
+      definite = s .definite;
+      inner = s .inner;
+      rule = s .rule;
+      gap = s .gap;
+      components = s .components;
+      tracks = s .tracks;
+      spares = s .spares;
+      names = s .names;
+      used = s .used;
+      negative = s .negative;
+      positive = s .positive;
+      entries = entries;
+      repetitions = repetitions;
+      explicit = explicit;
+      areas = s .areas;
+    }
+
+unfoldable pub sizedState : AxisView → AxisState
+sizedState v = withSize (stateOf v) (length (entryWords v)) (sizeOf v .repetitions) (explicitOf v)
+
+-- ---- the panel
+
+unfoldable pub sizedPanel : PanelView → Panel
+sizedPanel v =
+    record {
+      columns = sizedState (v .columns);
+      rows = sizedState (v .rows);
+      areas = panelOf v .areas;
+      areabytes = panelOf v .areabytes;
+      placements = panelOf v .placements;
+      placementbytes = panelOf v .placementbytes;
+    }
+
+-- everything that is lent with a panel: for each axis its words, its item marks and its line-name store; the areas and the placements with their bytes
+pub record Tables : Type 0 where
+  pub columns : List ℕ
+  pub rows : List ℕ
+  pub columnMarks : List ℕ
+  pub rowMarks : List ℕ
+  pub areas : List ℕ
+  pub areaBytes : List ℕ
+  pub placements : List ℕ
+  pub placementBytes : List ℕ
+  pub columnStore : List ℕ
+  pub rowStore : List ℕ
+
+-- the names' bytes first, and the rest of the store as it was
+abbrev pub pasted : AxisView → List ℕ → List ℕ
+pasted v store = axisBytes v ++ drop (length (axisBytes v)) store
+
+-- the tables of a panel, in place of those that were lent
+unfoldable pub tablesOf : PanelView → Tables → Tables
+tablesOf v t =
+    record {
+      columns = wordsWith (v .columns) (entryWords (v .columns));
+      rows = wordsWith (v .rows) (entryWords (v .rows));
+      columnMarks = v .columns .marks;
+      rowMarks = v .rows .marks;
+      areas = areaWords (v .areas);
+      areaBytes = areaStore (v .areas);
+      placements = placementWords (v .placements);
+      placementBytes = placementStore (v .placements);
+      columnStore = pasted (v .columns) (t .columnStore);
+      rowStore = pasted (v .rows) (t .rowStore);
+    }

@@ -1,0 +1,190 @@
+-- Rows 1 to 8 of document 01's table: at a line, over its fields and the panel that the lines before it describe, and after the last line.
+-- They don't name the reader; proofs/Theorem.antt shows that it follows them.
+use Prim.Native.Nat.{ℕ, zero, suc, _+_, _≤_, _<_}
+use mathlib.Core.Path.{_≡_}
+use mathlib.Core.List.{List, [], _∷_}
+use mathlib.Core.Logic.{_⊎_}
+use lib.ListN.{length, getD}
+use Rattle.coordinates.specs.declared.axis.Axis.{Axis}
+use Rattle.coordinates.specs.declared.axis.Axis.the-variants.{Column, Row as Rows}
+use Rattle.records.specs.Words.{at, axisWords}
+use Rattle.text.specs.Split.{split}
+use Rattle.records.specs.Faults.{rankOf, FirstBy}
+use Rattle.records.specs.Forms.{Kind, axis, area, name, track, repeat, end, spare, extra, item, place, Of}
+use Rattle.records.specs.Rows.{UnreadLine, BadName, BadValue, BadCount, BadArea}
+use Rattle.tables.specs.View.{Unended, none, inside, AxisView, tracksIn, componentsOf, axisNames, axisBytes}
+use Rattle.panel_tables.specs.View.{Area, PanelView, emptyView}
+use Rattle.panel_tables.specs.Axes.{viewIn}
+use Rattle.sheet_rules.specs.Lines.{lineStep}
+use Rattle.sheet_rules.specs.Sheet.{explicitOf, entriesOf}
+
+-- "axis is `c` or `r`"
+abbrev pub OnAxis : List (List ℕ) → Axis → Type 0
+OnAxis fs Column = at fs 1 ≡ getD axisWords 0 []
+OnAxis fs Rows = at fs 1 ≡ getD axisWords 1 []
+
+-- of the axis that a line names
+abbrev pub OfAxis : PanelView → List (List ℕ) → (AxisView → Type 0) → Type 0
+OfAxis v fs P = (a : Axis) × OnAxis fs a × P (viewIn v a)
+
+abbrev pub Opened : Unended → Type 0
+Opened none = ⊥
+Opened (inside r) = Unit {0}
+
+-- a repeat of the axis has no `end` yet
+abbrev pub Open : AxisView → Type 0
+Open x = Opened (x .unended)
+
+-- the axis has a record
+abbrev pub Seen : AxisView → Type 0
+Seen x = x .line .seen ≡ 0 → ⊥
+
+-- an area has that name
+abbrev pub Drawn : List ℕ → List Area → Type 0
+Drawn n [] = ⊥
+Drawn n (a ∷ rest) = (a .name ≡ n) ⊎ Drawn n rest
+
+-- ---- by the kind of the line
+
+-- "`end` with no repeat open on its axis, and `repeat` inside one of its axis"
+abbrev pub MisnestedBy : Kind → PanelView → List (List ℕ) → Type 0
+MisnestedBy axis v fs = ⊥
+MisnestedBy area v fs = ⊥
+MisnestedBy name v fs = ⊥
+MisnestedBy track v fs = ⊥
+MisnestedBy repeat v fs = OfAxis v fs Open
+MisnestedBy end v fs = OfAxis v fs (λ x. Open x → ⊥)
+MisnestedBy spare v fs = ⊥
+MisnestedBy extra v fs = ⊥
+MisnestedBy item v fs = ⊥
+MisnestedBy place v fs = ⊥
+
+-- "an area name or axis record again"
+abbrev pub TwiceBy : Kind → PanelView → List (List ℕ) → Type 0
+TwiceBy axis v fs = OfAxis v fs Seen
+TwiceBy area v fs = Drawn (at fs 1) (v .areas)
+TwiceBy name v fs = ⊥
+TwiceBy track v fs = ⊥
+TwiceBy repeat v fs = ⊥
+TwiceBy end v fs = ⊥
+TwiceBy spare v fs = ⊥
+TwiceBy extra v fs = ⊥
+TwiceBy item v fs = ⊥
+TwiceBy place v fs = ⊥
+
+-- "kind order: `axis`, then `area`, then the rest, freely mixed"
+abbrev pub orderOf : Kind → ℕ
+orderOf axis = 0
+orderOf area = 1
+orderOf name = 2
+orderOf track = 2
+orderOf repeat = 2
+orderOf end = 2
+orderOf spare = 2
+orderOf extra = 2
+orderOf item = 2
+orderOf place = 2
+
+-- "record earlier in kind than one before it"
+abbrev pub LateBy : Kind → PanelView → List (List ℕ) → Type 0
+LateBy k v fs = orderOf k < v .stage
+
+-- "at most 64 components an axis, 32 tracks in a repeat"
+abbrev pub FullFor : Unended → AxisView → Type 0
+FullFor none x = 64 ≤ length (componentsOf (x .template))
+FullFor (inside r) x = 32 ≤ length (tracksIn (r .pieces))
+
+-- "line-name store: 32,768 bytes an axis", and 4,096 names; a sheet is too short for either
+abbrev pub NoRoomFor : List ℕ → AxisView → Type 0
+NoRoomFor n x = (4096 ≤ length (axisNames x)) ⊎ (32768 < length (axisBytes x) + length n)
+
+-- "one more would pass a panel limit"
+abbrev pub CrowdedBy : Kind → PanelView → List (List ℕ) → Type 0
+CrowdedBy axis v fs = ⊥
+CrowdedBy area v fs = 64 ≤ length (v .areas)
+CrowdedBy name v fs = OfAxis v fs (NoRoomFor (at fs 2))
+CrowdedBy track v fs = OfAxis v fs (λ x. FullFor (x .unended) x)
+CrowdedBy repeat v fs = OfAxis v fs (λ x. 64 ≤ length (componentsOf (x .template)))
+CrowdedBy end v fs = ⊥
+CrowdedBy spare v fs = OfAxis v fs (λ x. 64 ≤ length (x .spares))
+CrowdedBy extra v fs = ⊥
+CrowdedBy item v fs = ⊥
+CrowdedBy place v fs = 256 ≤ length (v .placements)
+
+abbrev pub AtKind : (Kind → PanelView → List (List ℕ) → Type 0) → PanelView → List (List ℕ) → Type 0
+AtKind P v fs = (k : Kind) × Of fs k × P k v fs
+
+-- ---- the rows of the table
+
+pub data Row : Type 0 where
+  unread badName badValue badCount badArea twice late crowded : Row
+
+abbrev pub numberOf : Row → ℕ
+numberOf unread = 1
+numberOf badName = 2
+numberOf badValue = 3
+numberOf badCount = 4
+numberOf badArea = 5
+numberOf twice = 6
+numberOf late = 7
+numberOf crowded = 8
+
+-- at a line
+abbrev pub Holds : PanelView → List (List ℕ) → Row → Type 0
+Holds v fs unread = UnreadLine fs ⊎ AtKind MisnestedBy v fs
+Holds v fs badName = BadName fs
+Holds v fs badValue = BadValue fs
+Holds v fs badCount = BadCount fs
+Holds v fs badArea = BadArea fs
+Holds v fs twice = AtKind TwiceBy v fs
+Holds v fs late = AtKind LateBy v fs
+Holds v fs crowded = AtKind CrowdedBy v fs
+
+-- of one axis or the other
+abbrev pub Either : PanelView → (AxisView → Type 0) → Type 0
+Either v P = P (v .columns) ⊎ P (v .rows)
+
+-- at the line after the last: "one left open", "an explicit count above 10,000", more than "4,096 name entries"
+abbrev pub HoldsAfter : PanelView → Row → Type 0
+HoldsAfter v unread = Either v Open
+HoldsAfter v badName = ⊥
+HoldsAfter v badValue = ⊥
+HoldsAfter v badCount = Either v (λ x. 10000 < explicitOf x)
+HoldsAfter v badArea = ⊥
+HoldsAfter v twice = ⊥
+HoldsAfter v late = ⊥
+HoldsAfter v crowded = Either v (λ x. 4096 < length (entriesOf x))
+
+-- n is the number of the row that holds and comes first, 0 where no row holds
+abbrev pub First : (Row → Type 0) → ℕ → Type 0
+First holds n = FirstBy numberOf holds n
+
+-- ---- a sheet
+
+-- "a last line without a line feed is unread"; where nothing stands after the last line feed, the line after the last
+abbrev pub HoldsLast : PanelView → List ℕ → Row → Type 0
+HoldsLast v [] r = HoldsAfter v r
+HoldsLast v (b ∷ bs) r = r ≡ unread
+
+-- at line k of lines, counted from 0, with the panel that the lines before them describe
+abbrev pub HoldsFrom : ℕ → List (List ℕ) → PanelView → Row → Type 0
+HoldsFrom zero [] v r = HoldsAfter v r
+HoldsFrom (suc k) [] v r = ⊥
+HoldsFrom zero (l ∷ []) v r = HoldsLast v l r
+HoldsFrom (suc k) (l ∷ []) v r = ⊥
+HoldsFrom zero (l ∷ m ∷ ls) v r = Holds v (split 9 l) r
+HoldsFrom (suc k) (l ∷ m ∷ ls) v r = HoldsFrom k (m ∷ ls) (lineStep v (split 9 l) .panel) r
+
+-- at line k of a sheet; "sheet too long" is at line 0
+abbrev pub HoldsAt : List ℕ → ℕ → Row → Type 0
+HoldsAt s zero r = (r ≡ unread) × (32768 < length s)
+HoldsAt s (suc k) r = HoldsFrom k (split 10 s) emptyView r
+
+-- "lowest number first at one line; earliest line first": row r holds at line k, none that comes first there does, and none before that line
+pub record FirstAt (holds : ℕ → Row → Type 0) (k : ℕ) (r : Row) : Type 0 where
+  pub here : holds k r
+  pub first : (q : Row) → rankOf (numberOf q) < rankOf (numberOf r) → holds k q → ⊥
+  pub earliest : (j : ℕ) → j < k → (q : Row) → holds j q → ⊥
+
+abbrev pub Nowhere : (ℕ → Row → Type 0) → Type 0
+Nowhere holds = (k : ℕ) (r : Row) → holds k r → ⊥

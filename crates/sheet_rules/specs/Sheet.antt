@@ -1,0 +1,112 @@
+-- The panel that a sheet describes, or its refusal: a number and a line (document 01, panel sheet and the table of refusals).
+use Prim.Native.Nat.{ℕ, _+_, max}
+use mathlib.Core.List.{List, [], _∷_}
+use mathlib.Core.Bool.{cond}
+use lib.Dec.{eqb, ltb}
+use lib.ListN.{length}
+use Rattle.sizing.specs.Words.{floatUpTo, largestBits, sizingOf}
+use Rattle.explicit_grid.specs.declared.InnerSize.{InnerSize}
+use Rattle.explicit_grid.specs.declared.InnerSize.the-variants.{Definite, Indefinite}
+use Rattle.explicit_grid.specs.declared.AutoRepeatStrategy.{AutoRepeatStrategy}
+use Rattle.explicit_grid.specs.declared.AutoRepeatStrategy.the-variants.{MaxRepetitionsThatDoNotOverflow, MinRepetitionsThatDoOverflow}
+use Rattle.explicit_grid.specs.declared.size.TemplateSize.{TemplateSize}
+use Rattle.explicit_grid.specs.Summary.{meaningOf}
+use Rattle.explicit_grid.specs.Explicit.{templateSizeOf, innerValue}
+use Rattle.line_placement.specs.Css.{Entry}
+use Rattle.line_placement.specs.Template.{Piece as WrittenPiece, label, track as written, Item as WrittenItem, single as one, repeat as times, ruleFrom}
+use Rattle.text.specs.Split.{split}
+use Rattle.records.specs.Faults.{firstOf}
+use Rattle.tables.specs.View.{Piece, name, track, Repeat, Item, single, repeat, Unended, none, inside, AxisLine, AxisView, componentsOf}
+use Rattle.panel_tables.specs.View.{PanelView, PanelOutcome, emptyView}
+use Rattle.sheet_rules.specs.Lines.{lineStep}
+
+-- ---- what an axis comes to
+
+-- "inner size or `-`"
+abbrev pub innerOf : AxisLine → InnerSize
+innerOf l = cond (eqb (l .definite) 0) Indefinite (Definite (floatUpTo largestBits (l .inner)))
+
+-- rule 0 is `max`, 1 is `min`
+abbrev pub strategyOf : AxisLine → AutoRepeatStrategy
+strategyOf l = cond (eqb (l .rule) 0) MaxRepetitionsThatDoNotOverflow MinRepetitionsThatDoOverflow
+
+-- layer 3: the repetitions and the tracks of the template, not cut
+unfoldable pub sizeOf : AxisView → TemplateSize
+sizeOf v =
+    templateSizeOf (innerOf (v .line)) (strategyOf (v .line)) (sizingOf (v .line .gap)) (meaningOf (innerValue (innerOf (v .line))) (componentsOf (v .template)))
+
+-- "explicit count is the larger of template count and largest area end - 1"
+abbrev pub explicitOf : AxisView → ℕ
+explicitOf v = max (sizeOf v .tracks) (v .areas)
+
+-- how often a repeat's names are written: what it says, or the repetitions found for an automatic one
+abbrev pub timesOf : ℕ → Repeat → ℕ
+timesOf repetitions r = cond (eqb (r .kind) 1) (r .number) repetitions
+
+abbrev pub pieceOf : Piece → WrittenPiece
+pieceOf (name n) = label n
+pieceOf (track t) = written
+
+abbrev pub piecesOf : List Piece → List WrittenPiece
+piecesOf [] = []
+piecesOf (p ∷ ps) = pieceOf p ∷ piecesOf ps
+
+abbrev pub itemOf : ℕ → Item → WrittenItem
+itemOf repetitions (single p) = one (pieceOf p)
+itemOf repetitions (repeat r) = times (timesOf repetitions r) (piecesOf (r .pieces))
+
+abbrev pub itemsOf : ℕ → List Item → List WrittenItem
+itemsOf repetitions [] = []
+itemsOf repetitions (i ∷ is) = itemOf repetitions i ∷ itemsOf repetitions is
+
+-- layer 4: the name entries after repeats are written out
+unfoldable pub entriesOf : AxisView → List Entry
+entriesOf v = ruleFrom 1 (itemsOf (sizeOf v .repetitions) (v .template))
+
+-- ---- the line after the last
+
+-- "one left open is unread"
+abbrev pub openFault : Unended → ℕ
+openFault none = 0
+openFault (inside r) = 1
+
+-- "an explicit count above 10,000 is refused by 4"
+abbrev pub countFault : AxisView → ℕ
+countFault v = cond (ltb 10000 (explicitOf v)) 4 0
+
+-- "4,096 name entries an axis after repeats are written out"
+abbrev pub entriesFault : AxisView → ℕ
+entriesFault v = cond (ltb 4096 (length (entriesOf v))) 8 0
+
+abbrev pub axisFault : AxisView → ℕ
+axisFault v = firstOf (openFault (v .unended)) (firstOf (countFault v) (entriesFault v))
+
+unfoldable pub endFault : PanelView → ℕ
+endFault v = firstOf (axisFault (v .columns)) (axisFault (v .rows))
+
+-- ---- the sheet
+
+-- a refusal's number and line, zeros where there is none, and the panel that is read
+pub record Outcome : Type 0 where
+  pub fault : ℕ
+  pub line : ℕ
+  pub view : PanelView
+
+abbrev pub outcome : ℕ → ℕ → PanelView → Outcome
+outcome f n v = record { fault = f; line = n; view = v }
+
+-- after the last line; n is the line after it
+unfoldable pub ended : ℕ → PanelView → Outcome
+ended n v = cond (eqb (endFault v) 0) (outcome 0 0 v) (outcome (endFault v) n v)
+
+-- from line n on, until a line is refused; "a last line without a line feed is unread", and nothing stands after the last line feed
+unfoldable pub run : ℕ → List (List ℕ) → PanelView → Outcome
+run n [] v = ended n v
+run n (l ∷ []) v = cond (eqb (length l) 0) (ended n v) (outcome 1 n v)
+run n (l ∷ m ∷ ls) v =
+    let a : PanelOutcome = lineStep v (split 9 l) in
+    cond (eqb (a .fault) 0) (run (n + 1) (m ∷ ls) (a .panel)) (outcome (a .fault) n v)
+
+-- a sheet of more than 32,768 bytes is unread at line 0
+unfoldable pub sheetOf : List ℕ → Outcome
+sheetOf s = cond (ltb 32768 (length s)) (outcome 1 0 emptyView) (run 1 (split 10 s) emptyView)

@@ -1,0 +1,70 @@
+-- The step of a line on what a panel holds, whatever that is: the small state and the tables.
+use Prim.Native.Nat.{ℕ}
+use mathlib.Core.List.{List}
+use Rattle.coordinates.specs.declared.axis.Axis.{Axis}
+use Rattle.coordinates.specs.declared.axis.Axis.the-variants.{Column, Row}
+use Rattle.records.specs.declared.Record.{Record}
+use Rattle.records.specs.declared.Record.the-variants.{Fault, Axis as AxisLine, Area, Name, Track, Repeat, End, Spare, Extra, Item, Place}
+use Rattle.records.specs.Words.{at}
+use Rattle.tables.specs.Store.{put, InWords, InMarks, InNames, putTrack, openRepeat, closeRepeat, putName, putSpare, putItem, putExtra, putAxis}
+use Rattle.tables.specs.Written.{Held}
+use Rattle.tables.specs.declared.AxisPut.{AxisPut}
+use Rattle.panel_tables.specs.Areas.{putArea}
+use Rattle.panel_tables.specs.Placements.{putPlacement}
+use Rattle.panel_tables.specs.Written.{PanelHeld, PanelStepped, ofAreas, ofPlacements}
+use Rattle.panel_tables.specs.Axes.{stateIn, readingIn, heldIn}
+use Rattle.sheet_rules.specs.Lines.{bit, edgesOf, placedEnd}
+
+-- what is held of an axis
+abbrev pub axisHeld : PanelHeld → Axis → Held
+axisHeld h Column = record { answer = put 0 (h .panel .columns) (h .reading .columns); words = h .columns; marks = h .columnMarks; bytes = h .columnBytes }
+axisHeld h Row = record { answer = put 0 (h .panel .rows) (h .reading .rows); words = h .rows; marks = h .rowMarks; bytes = h .rowBytes }
+
+-- an axis with an answer, and its words, marks or names
+abbrev pub answered : Held → AxisPut → Held
+answered h x = record { answer = x; words = h .words; marks = h .marks; bytes = h .bytes }
+
+abbrev pub inWords : Held → InWords → Held
+inWords h x = record { answer = x .answer; words = x .words; marks = h .marks; bytes = h .bytes }
+
+abbrev pub inMarks : Held → InMarks → Held
+inMarks h x = record { answer = x .answer; words = h .words; marks = x .marks; bytes = h .bytes }
+
+abbrev pub inNames : Held → InNames → Held
+inNames h x = record { answer = x .answer; words = x .words; marks = h .marks; bytes = x .bytes }
+
+abbrev pub stayed : PanelHeld → PanelStepped
+stayed h = record { fault = 0; held = h }
+
+-- what a record does to an axis
+abbrev pub axisRecord : Held → List (List ℕ) → Record → Held
+axisRecord h fs (Fault n) = h
+axisRecord h fs (AxisLine a) = answered h (putAxis (h .answer .state) (h .answer .reading) (bit (a .definite)) (a .inner) (a .rule) (a .gap))
+axisRecord h fs (Area a) = h
+axisRecord h fs (Name a) = inNames h (putName (h .answer .state) (h .answer .reading) (h .words) (h .bytes) (at fs 2))
+axisRecord h fs (Track a min max) = inWords h (putTrack (h .answer .state) (h .answer .reading) (h .words) min max)
+axisRecord h fs (Repeat a n) = answered h (openRepeat (h .answer .state) (h .answer .reading) (n .kind) (n .number))
+axisRecord h fs (End a) = inWords h (closeRepeat (h .answer .state) (h .answer .reading) (h .words))
+axisRecord h fs (Spare a min max) = inWords h (putSpare (h .answer .state) (h .answer .reading) (h .words) min max)
+axisRecord h fs (Extra a n p) = answered h (putExtra (h .answer .state) (h .answer .reading) n p)
+axisRecord h fs (Item a i) = inMarks h (putItem (h .answer .state) (h .answer .reading) (h .marks) i)
+axisRecord h fs (Place a s e) = h
+
+abbrev pub onHeld : PanelHeld → Axis → List (List ℕ) → Record → PanelStepped
+onHeld h a fs r = heldIn h a (axisRecord (axisHeld h a) fs r)
+
+-- and to the panel
+unfoldable pub heldStep : PanelHeld → List (List ℕ) → Record → PanelStepped
+heldStep h fs (Fault n) = stayed h
+heldStep h fs (AxisLine a) = onHeld h (a .axis) fs (AxisLine a)
+heldStep h fs (Area a) = ofAreas h (putArea (h .panel) (h .areas) (h .areaBytes) (at fs 1) (edgesOf a))
+heldStep h fs (Name a) = onHeld h a fs (Name a)
+heldStep h fs (Track a min max) = onHeld h a fs (Track a min max)
+heldStep h fs (Repeat a n) = onHeld h a fs (Repeat a n)
+heldStep h fs (End a) = onHeld h a fs (End a)
+heldStep h fs (Spare a min max) = onHeld h a fs (Spare a min max)
+heldStep h fs (Extra a n p) = onHeld h a fs (Extra a n p)
+heldStep h fs (Item a i) = onHeld h a fs (Item a i)
+heldStep h fs (Place a s e) =
+    ofPlacements h
+    (putPlacement (h .panel) (h .placements) (h .placementBytes) a (placedEnd (at fs 3) s .end) (placedEnd (at fs 3) s .name) (placedEnd (at fs 6) e .end) (placedEnd (at fs 6) e .name))
