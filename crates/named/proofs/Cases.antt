@@ -8,7 +8,7 @@ use Rattle.coordinates.specs.declared.axis.Axis.the-variants.{Column, Row}
 use Rattle.line_placement.specs.Css.{AxisNames}
 use Rattle.line_placement.specs.Rule.{named?, seek}
 use Rattle.name_store.specs.Entries.{entryOf, entriesOf, wordOf}
-use Rattle.named.specs.Areas.{areasOf, axisNames}
+use Rattle.line_search.specs.Areas.{areasOf, axisNames}
 use Rattle.named.specs.Placements.{gridLineOf, resolutionOf}
 use Rattle.named.specs.declared.GridPlacement.{GridPlacement}
 use Rattle.named.specs.declared.GridPlacement.the-variants.{Auto, Line, NamedLine, NamedSpan}

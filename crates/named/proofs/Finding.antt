@@ -18,11 +18,12 @@ use Rattle.line_placement.specs.Css as Css
 use Rattle.line_placement.proofs.Counting.{seek-below}
 use Rattle.coordinates.specs.Signed.{integerOf}
 use Rattle.coordinates.specs.declared.signed.Signed.the-variants.{NonNegative}
-use Rattle.named.specs.Marks.{marked, Adds, countedLine, isZero, indexCount, CountedSpan}
-use Rattle.named.specs.declared.search.Count.{Count}
-use Rattle.named.specs.declared.search.Count.the-variants.{Forwards, Backwards}
-use Rattle.named.proofs.Suffixes.{never}
-use Rattle.named.proofs.Walk.{seek-same}
+use Rattle.line_search.specs.Marks.{marked, Adds}
+use Rattle.named.specs.Counts.{countedLine, isZero, indexCount, CountedSpan}
+use Rattle.named.specs.declared.count.Count.{Count}
+use Rattle.named.specs.declared.count.Count.the-variants.{Forwards, Backwards}
+use Rattle.line_search.proofs.Suffixes.{never}
+use Rattle.line_search.proofs.Walk.{seek-same}
 
 -- marks that began with none are the lines marked
 pub fresh : (n : ℕ) (after : List ℕ) (p : ℕ → Bool) → Adds (replicate n 0) after p → (k : ℕ) → k < 20000 → k < n → marked after k ≡ p k

@@ -8,7 +8,7 @@ use Rattle.coordinates.specs.Lines.{toOriginZero, toGridLine}
 use Rattle.coordinates.specs.declared.axis.Axis.{Axis}
 use Rattle.line_placement.specs.Css.{Bytes, atLine}
 use Rattle.line_placement.specs.Rule.{named?, lineAt, beside, resolve}
-use Rattle.named.specs.Areas.{axisNames, bears, bearsIn}
+use Rattle.line_search.specs.Areas.{axisNames, bears, bearsIn}
 use Rattle.named.specs.Placements.{placementOf, endsOf, Numbered, resolvedEndsOf}
 use Rattle.named.specs.declared.GridPlacement.{GridPlacement}
 use Rattle.named.specs.declared.GridPlacement.the-variants as Written

@@ -1,5 +1,3 @@
 -- What the contracts of the resolver cite.
-pub mod Suffixes
-pub mod Areas
+pub mod Counts
 pub mod Placements
-pub mod Marks

@@ -7,18 +7,20 @@ ghost use Rattle.coordinates.specs.Lines.{Within};
 ghost use Rattle.line_placement.specs.Css.{suffix};
 ghost use Rattle.line_placement.specs.Rule as Rule;
 ghost use Rattle.line_placement.specs.Rule.{seek, find, spanFrom};
-ghost use Rattle.named.specs.Areas.{sideOf, bearsIn};
-ghost use Rattle.named.specs.Marks.{seekOf, CountFits, countedLine, isZero, indexCount, CountedSpan};
+ghost use Rattle.line_search.specs.Areas.{sideOf, bearsIn};
+ghost use Rattle.line_search.specs.Marks.{seekOf};
+ghost use Rattle.named.specs.Counts.{CountFits, countedLine, isZero, indexCount, CountedSpan};
 ghost use Rattle.coordinates.specs.Signed.{integerOf, Small};
-use crate::GridAreaEnd;
-use crate::marks;
-use crate::search;
-use crate::search::Count;
-use crate::search::Found;
+use crate::count;
+use crate::count::Count;
 use coordinates::Axis;
 use coordinates::OriginZeroLine;
 use coordinates::signed;
 use coordinates::signed::Signed;
+use line_search::GridAreaEnd;
+use line_search::marks;
+use line_search::search;
+use line_search::search::Found;
 
 // The line that a count of the lines of a name comes to.
 fn find_line(
@@ -46,7 +48,7 @@ fn find_line(
         areastore,
         name,
     );
-    search::counted_line(&marks, explicit, count)
+    count::counted_line(&marks, explicit, count)
 }
 
 // The first line named NAME-start or NAME-end, by the end that is placed.

@@ -1,11 +1,8 @@
 // Layer 4, the resolver: which line a name stands for.
-mod areas;
+mod count;
 mod ends;
 mod find;
-mod marks;
 pub mod resolve;
-mod search;
-mod suffix;
 
 use coordinates::GridLine;
 use coordinates::Refusal;
@@ -48,10 +45,4 @@ pub struct ResolvedLine {
 pub struct Resolution {
     pub refusal: Refusal,
     pub line: ResolvedLine,
-}
-
-// An edge of an area, and the end of a placement that is placed.
-pub enum GridAreaEnd {
-    Start,
-    End,
 }

@@ -1,9 +1,8 @@
 // A placement with its names resolved.
 ghost use Prim.Native.Nat.{_≤_};
-ghost use Rattle.named.specs.Areas.{axisNames, bearsIn};
+ghost use Rattle.line_search.specs.Areas.{axisNames, bearsIn};
 ghost use Rattle.named.specs.Placements.{Numbered, refusedResolution, resolutionOf, resolvedEndsOf};
 ghost use mathlib.Core.Path.{_≡_};
-use crate::GridAreaEnd;
 use crate::Line;
 use crate::NonNamedGridPlacement;
 use crate::Resolution;
@@ -11,6 +10,7 @@ use crate::ResolvedLine;
 use crate::ends;
 use coordinates::Axis;
 use coordinates::refusal;
+use line_search::GridAreaEnd;
 
 // Named lines become lines.
 fn numbered_line(

@@ -1,7 +1,7 @@
 // Placements of a panel with their names resolved.
 ghost use mathlib.Core.Path.{_≡_};
 ghost use Rattle.tables.specs.Runs.{partOf};
-ghost use Rattle.named.specs.Areas.{axisNames};
+ghost use Rattle.line_search.specs.Areas.{axisNames};
 ghost use Rattle.named.specs.Placements.{zeroLine, refusedResolution, resolutionOf};
 ghost use Rattle.panel_rules.specs.Calls.{NameTables, NamedWords, namesIn, entryWordsIn};
 ghost use Rattle.panel_rules.specs.Placing.{refusedPlacement, placedBy, resolvePlacement};

@@ -11,7 +11,7 @@ use Rattle.coordinates.specs.declared.axis.Axis.the-variants.{Column, Row}
 use Rattle.line_placement.specs.Css as Css
 use Rattle.line_placement.specs.Css.{start, end}
 use Rattle.name_store.specs.Entries.{entryOf, nameIn}
-use Rattle.named.specs.Areas.{edgeIn, areaOf, areasOf}
+use Rattle.line_search.specs.Areas.{edgeIn, areaOf, areasOf}
 use Rattle.tables.specs.Runs.{wordsFrom, partOf}
 use Rattle.tables.specs.Store.{nameWord}
 use Rattle.tables.specs.Reads.{namePlace}

@@ -15,7 +15,7 @@ use Rattle.line_placement.specs.Css.{Bytes, Entry, AxisNames}
 use Rattle.name_store.specs.Entries.{wordOf, entriesOf}
 use Rattle.name_store.specs.Enter.{entryRefusal}
 use Rattle.name_store.specs.LineNames.{explicitLineNames, ofAxis, lineCount}
-use Rattle.named.specs.Areas.{axisNames}
+use Rattle.line_search.specs.Areas.{axisNames}
 use Rattle.grid_track.specs.declared.AxisTracks.{AxisTracks}
 use Rattle.grid_track.specs.declared.RecordAnswer.{RecordAnswer}
 use Rattle.grid_track.specs.Written.{sparesOf}

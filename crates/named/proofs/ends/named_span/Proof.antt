@@ -1,6 +1,6 @@
 use mathlib.Core.Path.{_≡_, sym, _∙_, ap}
 use lib.IntN.{pos}
-use Rattle.named.specs.Areas.{sideOf, bearsIn}
+use Rattle.line_search.specs.Areas.{sideOf, bearsIn}
 use Rattle.line_placement.specs.Rule.{spanFrom}
 use Rattle.coordinates.specs.Signed.{integerOf}
 use Rattle.named.proofs.Finding.{zero-is, zero-not, span-within}

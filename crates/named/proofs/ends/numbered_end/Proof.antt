@@ -1,6 +1,6 @@
 use borrow.Author.Needs.{needs}
 use mathlib.Core.Path.{_≡_}
-use Rattle.named.specs.Areas.{sideOf, bearsIn}
+use Rattle.line_search.specs.Areas.{sideOf, bearsIn}
 use Rattle.named.proofs.Finding.{find-within}
 use Rattle.coordinates.specs.Signed.{integerOf}
 use mir.Syntax.{w16}

@@ -2,10 +2,10 @@ use mathlib.Core.Path.{_∙_}
 use mathlib.Core.List.{_++_}
 use Rattle.line_placement.specs.Css.{suffix}
 use Rattle.line_placement.specs.Rule.{marks}
-use Rattle.named.specs.Areas.{sideOf, bearsIn}
-use Rattle.named.specs.Marks.{marked}
+use Rattle.line_search.specs.Areas.{sideOf, bearsIn}
+use Rattle.line_search.specs.Marks.{marked}
 use Rattle.named.proofs.Finding.{fresh}
-use Rattle.named.proofs.Walk.{seek-same}
+use Rattle.line_search.proofs.Walk.{seek-same}
 use borrow.Author.Needs.{needs}
 use Rattle.named.proofs.find.area_line.Statement.{statement}
 use Rattle.named.proofs.find.area_line.Tie as tie

@@ -2,9 +2,9 @@ use mathlib.Core.Path.{_≡_}
 use mathlib.Core.List.{_++_}
 use Rattle.line_placement.specs.Css.{suffix}
 use Rattle.line_placement.specs.Rule.{seek, marks}
-use Rattle.named.specs.declared.search.Found.the-variants.{At, Left}
-use Rattle.named.specs.Marks.{seekOf}
-use Rattle.named.specs.Areas.{sideOf, bearsIn}
+use Rattle.line_search.specs.declared.search.Found.the-variants.{At, Left}
+use Rattle.line_search.specs.Marks.{seekOf}
+use Rattle.line_search.specs.Areas.{sideOf, bearsIn}
 use Rattle.named.proofs.Finding.{find-at, find-left}
 use borrow.Author.Needs.{needs}
 use Rattle.named.proofs.find.find_area_line.Statement.{statement}

@@ -1,7 +1,7 @@
 use mathlib.Core.Path.{_∙_}
 use Rattle.line_placement.specs.Rule.{marks}
-use Rattle.named.specs.Areas.{bearsIn}
-use Rattle.named.specs.Marks.{marked}
+use Rattle.line_search.specs.Areas.{bearsIn}
+use Rattle.line_search.specs.Marks.{marked}
 use Rattle.named.proofs.Finding.{fresh, counted-same}
 use borrow.Author.Needs.{needs}
 use Rattle.named.proofs.find.find_line.Statement.{statement}

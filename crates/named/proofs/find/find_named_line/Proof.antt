@@ -1,8 +1,8 @@
 use mathlib.Core.Path.{sym, _∙_, ap}
 use Rattle.line_placement.specs.Rule.{marks}
 use Rattle.coordinates.specs.Signed.{integerOf}
-use Rattle.named.specs.Areas.{sideOf, bearsIn}
-use Rattle.named.specs.Marks.{countedLine}
+use Rattle.line_search.specs.Areas.{sideOf, bearsIn}
+use Rattle.named.specs.Counts.{countedLine}
 use Rattle.named.proofs.Finding.{zero-is, find-count}
 use borrow.Author.Needs.{needs}
 use Rattle.named.proofs.find.find_named_line.Statement.{statement}

@@ -1,5 +1,5 @@
 use mathlib.Core.Path.{_∙_}
-use Rattle.named.specs.Areas.{sideOf, bearsIn}
+use Rattle.line_search.specs.Areas.{sideOf, bearsIn}
 use Rattle.named.proofs.Finding.{span-counted}
 use borrow.Author.Needs.{needs}
 use Rattle.named.proofs.find.span_line.Statement.{statement}

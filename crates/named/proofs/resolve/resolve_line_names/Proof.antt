@@ -1,5 +1,5 @@
 use borrow.Author.Tests.{le-leb, lt-leb}
-use Rattle.named.specs.Areas.{bearsIn}
+use Rattle.line_search.specs.Areas.{bearsIn}
 use Rattle.named.specs.Placements.{resolutionOf}
 use Rattle.named.proofs.Resolving.{numbered-ends, named-bears}
 use borrow.Author.Needs.{needs}

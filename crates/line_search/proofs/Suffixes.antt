@@ -1,0 +1,137 @@
+-- Names in two parts. Assumes nothing.
+use mathlib.Core.Path.{_≡_, refl, sym, _∙_, ap}
+use mathlib.Core.Bool.{Bool, true, false, cond, _&&_}
+use mathlib.Core.List.{[], _∷_, _++_}
+use Prim.Native.Nat.{ℕ, _+_, _-_, _≤_, _<_}
+use native.Mathlib.Omega.{arith}
+use borrow.Author.Tests.{le-leb, lt-leb, leb-true, eqb-true, eq-eqb}
+use lib.Dec.{eqb, leb}
+use lib.ListN.{length, take, drop, getD, length-append, length-drop, take-append-drop}
+use lib.Seq.{take-all, getD-append-add}
+use Rattle.line_placement.specs.Css.{Bytes, start, end, suffix}
+use Rattle.line_placement.specs.Rule.{eqBytes}
+use Rattle.line_search.specs.Suffixes.{endsWith, edgeOf}
+use Rattle.line_search.specs.declared.suffix.AreaEdge.{AreaEdge}
+use Rattle.line_search.specs.declared.suffix.AreaEdge.the-variants.{Start, End, Neither}
+
+pub never : {X : Type 0} → _≡_ {A = Bool} false true → X
+never e = absurd (let z : _≡_ {A = ℕ} 0 1 = cc in omega arith)
+
+pub both : (a b : Bool) → a && b ≡ true → (a ≡ true) × (b ≡ true)
+both true b h = (refl, h)
+both false b h = never h
+
+pub eq-bytes : (a b : Bytes) → eqBytes a b ≡ true → a ≡ b
+eq-bytes [] [] h = refl
+eq-bytes [] (y ∷ b) h = never h
+eq-bytes (x ∷ a) [] h = never h
+eq-bytes (x ∷ a) (y ∷ b) h =
+    let w = both (eqb x y) (eqBytes a b) h in
+    let p : x ≡ y = eqb-true x y (w .0) in
+    let q : a ≡ b = eq-bytes a b (w .1) in
+    cc
+
+pub bytes-eq : (a : Bytes) → eqBytes a a ≡ true
+bytes-eq [] = refl
+bytes-eq (x ∷ a) = rw (eq-eqb x x refl, bytes-eq a)
+
+not-true : (b : Bool) → (b ≡ true → ⊥) → b ≡ false
+not-true true h = absurd (h refl)
+not-true false h = refl
+
+pub bytes-differ : (a b : Bytes) → (a ≡ b → ⊥) → eqBytes a b ≡ false
+bytes-differ a b h = not-true (eqBytes a b) (λ e. h (eq-bytes a b e))
+
+-- two tests that hold together are one
+same-test : (a b : Bool) → (a ≡ true → b ≡ true) → (b ≡ true → a ≡ true) → a ≡ b
+same-test true b f g = sym (f refl)
+same-test false true f g = g refl
+same-test false false f g = refl
+
+-- what `&name[at..]` is
+pub tail-all : (n : Bytes) (at : ℕ) → take (length n - at) (drop at n) ≡ drop at n
+tail-all n at = take-all (length n - at) (drop at n) (rw length-drop (omega arith))
+
+-- a name that is too short, or long enough
+pub ends-short : (n s : Bytes) → length n < length s → endsWith n s ≡ false
+ends-short n s h = rw (lt-leb (length s) (length n) h)
+
+pub ends-tail : (n s : Bytes) → length s ≤ length n
+    → eqBytes (take (length n - (length n - length s)) (drop (length n - length s) n)) s ≡ endsWith n s
+ends-tail n s h = rw (le-leb (length s) (length n) h, tail-all n (length n - length s))
+
+pub ends-length : (n s : Bytes) → endsWith n s ≡ true → length s ≤ length n
+ends-length n s h = leb-true (length s) (length n) (both (leb (length s) (length n)) _ h .0)
+
+-- a name that ends in a suffix is its stem and the suffix
+pub ends-stem : (n s : Bytes) → endsWith n s ≡ true → n ≡ take (length n - length s) n ++ s
+ends-stem n s h =
+    let e : drop (length n - length s) n ≡ s = eq-bytes _ s (both (leb (length s) (length n)) _ h .1) in
+    sym (ap (λ (l : Bytes). take (length n - length s) n ++ l) (sym e) ∙ take-append-drop (length n - length s) n)
+
+drop-stem : (a s : Bytes) → drop (length a) (a ++ s) ≡ s
+drop-stem [] s = refl
+drop-stem (x ∷ a) s = drop-stem a s
+
+pub ends-joined : (a s : Bytes) → endsWith (a ++ s) s ≡ true
+ends-joined a s =
+    let n : length (a ++ s) ≡ length a + length s = length-append a s in
+    let d : length (a ++ s) - length s ≡ length a = omega arith in
+    rw (le-leb (length s) (length (a ++ s)) (omega arith), d, drop-stem a s) (bytes-eq s)
+
+-- the last parts are the same
+cancel : (a b s : Bytes) → a ++ s ≡ b ++ s → a ≡ b
+cancel [] [] s e = refl
+cancel [] (y ∷ b) s e = absurd (omega (arith, ap length e, length-append b s))
+cancel (x ∷ a) [] s e = absurd (omega (arith, ap length e, length-append a s))
+cancel (x ∷ a) (y ∷ b) s e = let h : x ≡ y = cc in let t : a ++ s ≡ b ++ s = cc in let r : a ≡ b = cancel a b s t in cc
+
+pub stems : (a b s : Bytes) → eqBytes (a ++ s) (b ++ s) ≡ eqBytes a b
+stems a b s =
+    same-test (eqBytes (a ++ s) (b ++ s)) (eqBytes a b)
+    (λ h. rw (cancel a b s (eq-bytes (a ++ s) (b ++ s) h)) (bytes-eq b))
+    (λ h. rw (eq-bytes a b h) (bytes-eq (b ++ s)))
+
+-- a name with no such tail is not joined; one with it is, where its stem is
+pub joined-no : (n a s : Bytes) → endsWith n s ≡ false → eqBytes n (a ++ s) ≡ false
+joined-no n a s h = bytes-differ n (a ++ s) (λ e. let q : endsWith n s ≡ true = rw e (ends-joined a s) in never (sym h ∙ q))
+
+pub joined-yes : (n a s : Bytes) → endsWith n s ≡ true
+    → eqBytes (take (length n - length s - 0) (drop 0 n)) a ≡ eqBytes n (a ++ s)
+joined-yes n a s h =
+    let z : length n - length s - 0 ≡ length n - length s = omega arith in
+    let e : n ≡ take (length n - length s) n ++ s = ends-stem n s h in
+    rw z (sym (ap (λ (l : Bytes). eqBytes l (a ++ s)) e ∙ stems (take (length n - length s) n) a s))
+
+-- `-start` and `-end` end in other bytes
+pub other-ends : (a b : Bytes) → a ++ suffix start ≡ b ++ suffix end → ⊥
+other-ends a b e =
+    let n : length a + 6 ≡ length b + 4 = sym (length-append a (suffix start)) ∙ ap length e ∙ length-append b (suffix end) in
+    let i : length a + 5 ≡ length b + 3 = omega arith in
+    let l : getD (a ++ suffix start) (length a + 5) 0 ≡ 116 = getD-append-add a (suffix start) 5 0 in
+    let r : getD (b ++ suffix end) (length b + 3) 0 ≡ 100 = getD-append-add b (suffix end) 3 0 in
+    let z : _≡_ {A = ℕ} 116 100 = sym l ∙ rw (e, i) r in
+    omega arith
+
+pub not-joined : (a n s : Bytes) → endsWith n s ≡ false → eqBytes (a ++ s) n ≡ false
+not-joined a n s h = bytes-differ (a ++ s) n (λ e. let q : endsWith n s ≡ true = rw (← e) (ends-joined a s) in never (sym h ∙ q))
+
+-- the stem of a name that stands for an edge, and what a name that stands for none does not end in
+abbrev pub StemOf : Bytes → AreaEdge → Type 0
+StemOf n (Start k) = (k ≤ length n) × (n ≡ take (k - 0) (drop 0 n) ++ suffix start)
+StemOf n (End k) = (k ≤ length n) × (n ≡ take (k - 0) (drop 0 n) ++ suffix end)
+StemOf n Neither = (endsWith n (suffix start) ≡ false) × (endsWith n (suffix end) ≡ false)
+
+stem : (n s : Bytes) (k : ℕ) → k ≡ length s → endsWith n s ≡ true → n ≡ take (length n - k - 0) (drop 0 n) ++ s
+stem n s k e h =
+    let z : length n - k - 0 ≡ length n - length s = omega arith in
+    rw z (ends-stem n s h)
+
+pub stem-of : (n : Bytes) → StemOf n (edgeOf n)
+unfolding edgeOf
+stem-of n = go (endsWith n (suffix start)) (endsWith n (suffix end)) refl refl
+  where
+    go : (a b : Bool) → endsWith n (suffix start) ≡ a → endsWith n (suffix end) ≡ b → StemOf n (cond a (Start (length n - 6)) (cond b (End (length n - 4)) Neither))
+    go true b e f = (omega arith, stem n (suffix start) 6 refl e)
+    go false true e f = (omega arith, stem n (suffix end) 4 refl f)
+    go false false e f = (e, f)

@@ -1,0 +1,4 @@
+-- What the contracts of the search for lines by name cite.
+pub mod Suffixes
+pub mod Areas
+pub mod Marks

@@ -1,0 +1,17 @@
+-- Document 01, layer 4: a name that ends in the bytes `-start` or `-end`.
+use Prim.Native.Nat.{ℕ, _-_}
+use mathlib.Core.Bool.{Bool, cond, _&&_}
+use lib.Dec.{leb}
+use lib.ListN.{length, take, drop}
+use Rattle.line_placement.specs.Css.{Bytes, Side, start, end, suffix}
+use Rattle.line_placement.specs.Rule.{eqBytes}
+use Rattle.line_search.specs.declared.suffix.AreaEdge.{AreaEdge}
+use Rattle.line_search.specs.declared.suffix.AreaEdge.the-variants.{Start, End, Neither}
+
+-- whether a name ends in some bytes
+abbrev pub endsWith : Bytes → Bytes → Bool
+endsWith n s = leb (length s) (length n) && eqBytes (drop (length n - length s) n) s
+
+-- the edge that a name stands for, with the length of the area's name
+unfoldable pub edgeOf : Bytes → AreaEdge
+edgeOf n = cond (endsWith n (suffix start)) (Start (length n - 6)) (cond (endsWith n (suffix end)) (End (length n - 4)) Neither)

@@ -1,0 +1,34 @@
+use Rattle.named.specs.declared.count.Count.the-variants.{Forwards, Backwards}
+use Rattle.named.specs.Counts.{CountFits}
+use borrow.Author.Needs.{needs}
+use Rattle.named.proofs.count.counted_line.Statement.{statement}
+use Rattle.named.proofs.count.counted_line.Tie as tie
+
+enum-known-count : tie.Need-enum-known-count
+enum-known-count c = search needs
+
+nth-line-forwards-requires : tie.Need-nth-line-forwards-requires
+nth-line-forwards-requires c κs = let h : CountFits (Forwards (c .before .count .given .0 .0) (c .before .count .given .0 .1 .0)) = rw (c .before .count .given .1) at (c .before .before .before .pre .1) in (c .before .before .before .pre .0, h .0, h .1)
+
+enum-known-count-2 : tie.Need-enum-known-count-2
+enum-known-count-2 c = search needs
+
+nth-line-backwards-requires : tie.Need-nth-line-backwards-requires
+nth-line-backwards-requires c κs = let h : CountFits (Backwards (c .before .count2 .given .0 .0) (c .before .count2 .given .0 .1 .0)) = rw (c .before .count2 .given .1) at (c .before .before .before .pre .1) in (c .before .before .before .pre .0, h .0, h .1)
+
+returns : tie.Need-returns
+returns c = rw (c .before .before .count .given .1) (c .nth-line-forwards .ensures)
+
+returns-2 : tie.Need-returns-2
+returns-2 c = rw (c .before .before .count2 .given .1) (c .nth-line-backwards .ensures)
+
+pub counted-line-spec : {M : Type 1} → statement M
+counted-line-spec =
+    tie.close
+    (tie.spec
+    enum-known-count
+    nth-line-forwards-requires
+    enum-known-count-2
+    nth-line-backwards-requires
+    returns
+    returns-2)
