@@ -17,6 +17,7 @@ use Rattle.grid_track.specs.declared.GridTrack.{GridTrack}
 use Rattle.grid_track.specs.declared.RecordAnswer.{RecordAnswer}
 use Rattle.grid_track.specs.Written.{writtenOut}
 use Rattle.grid_track.specs.Lines.{Stands}
+use Rattle.grid_track.specs.Tracks.{zeroGridTrack}
 use Rattle.grid_track.specs.Records.{tracksIn, recordsIn, noTrack, recordAnswerOf}
 use Rattle.track_run.specs.Run.{fillAnswerOf, runAfter}
 use Rattle.tables.specs.declared.AxisState.{AxisState}
@@ -35,7 +36,7 @@ use Rattle.sheet_rules.proofs.Theorem.{Found, nowhere, found, sheet-found}
 use Rattle.sheet_rules.proofs.Only.{some-number}
 use Rattle.panel_rules.specs.Calls.{NameTables, NamedWords, namesIn, axisTracks, shortNames, enterRefusal, enterName, trackRecord}
 use Rattle.panel_rules.specs.Placing.{linePlacement, placedBy, resolvePlacement}
-use Rattle.panel_rules.specs.Runs.{Call, Accepted, runOf, sizeOf, placementOf, recordWith}
+use Rattle.panel_rules.specs.Runs.{Call, Accepted, runOf, marksOf, sizeOf, placementOf, recordWith, runWith}
 use Rattle.panel_rules.specs.Views.{entryName, bytesAfter, entriesAfter, placementAt, placementAfter, sizeAfter, tracksAfter}
 use Rattle.panel_rules.specs.Added.{sheetAxis, added, refusalAfter}
 use Rattle.panel_rules.specs.Book.{addedFrom, sheetBook, sheetTracks, book, bookBytes, tableRefusal, Regular}
@@ -47,7 +48,7 @@ use Rattle.panel_rules.proofs.Book as Book
 use Rattle.panel_rules.proofs.Run.{addedTo, placement-css, run-css, run-only}
 use Rattle.panel_rules.proofs.Order.{order-same}
 use Rattle.panel_rules.proofs.Tracks as Tracks
-use Rattle.panel_rules.proofs.Runs.{axis-fits, words-entries, added-to, few-tracks, run-entries, run-sizes, run-lists, run-names, run-records, run-placements}
+use Rattle.panel_rules.proofs.Runs.{axis-fits, words-entries, added-to, few-tracks, run-entries, run-sizes, run-lists, run-names, run-records, run-placements, run-filled, run-marks, marks-enough}
 use Rattle.panel_rules.proofs.ColumnsAlone.{columns-alone}
 use Rattle.panel_grid.specs.Demands.{SheetAnswered, EntryAnswered, PlacementAnswered, RecordAnswered, RunAnswered, FirstDemand, SecondDemand, RunTheorem, ThirdDemand}
 use Rattle.panel_grid.specs.Demands.{sheetAccepted, sheetRefused, sheetShort, entryAccepted, entryRefused, placementAccepted, placementOutside, placementShort, recordAccepted, recordOutside, recordShort, runAccepted, runShort}
@@ -183,6 +184,18 @@ module _ (n : Axis → ℕ) (s : List ℕ) (t : Tables) (calls : List Call) (ok 
       rw (run-records s t calls ok a items (2 * (sheetAxis s a .negative + j) - 1))
       (Tracks.track-accepted (n a) v a calls f (r .axes a) items long j from low, Tracks.track-after (n a) v a calls f (r .axes a) items long j from low)
 
+  lent : (a : Axis) (items : List ℕ) (run : List GridTrack) → tracksIn (tracksAfter (sheetAxis s a)) ≤ length items → recordsIn (tracksAfter (sheetAxis s a)) ≤ length run
+      → (j : ℕ) → 1 ≤ j → j ≤ sheetTracks (n a) (sheetAxis s a)
+      → Stands (getD (writtenOut (componentsOf (sheetAxis s a .template)) (n a)) (j - 1) noTrack) (getD items (sheetAxis s a .negative + j - 1) 0)
+      (getD (runWith (runOf s t calls) a items run) (2 * (sheetAxis s a .negative + j) - 1) zeroGridTrack)
+  lent a items run long room j from to =
+      let f = axis-fits s a in
+      let low : j ≤ length (writtenOut (componentsOf (sheetAxis s a .template)) (n a)) = rw (Tracks.written-tracks (n a) v a calls f (r .axes a)) to in
+      rw (run-filled s t calls ok a items run) (Tracks.track-run (n a) v a calls f (r .axes a) items long j from low run room)
+
+  marks : (a : Axis) → tracksIn (tracksAfter (sheetAxis s a)) ≤ length (marksOf (runOf s t calls .tables) a)
+  marks a = rw (run-marks s t calls ok a) (marks-enough s good a)
+
   pub run-theorem : RunTheorem n s t calls
   run-theorem =
       record {
@@ -191,6 +204,8 @@ module _ (n : Axis → ℕ) (s : List ℕ) (t : Tables) (calls : List Call) (ok 
         placed = λ i held. rw (placement-added i) (run-css n v calls (axis-fits s) (few-tracks s good) r i held);
         only = λ i held x e. rw (placement-added i) (run-only n v calls (axis-fits s) (few-tracks s good) r i held x e);
         tracks = tracks;
+        lent = lent;
+        marks = marks;
       }
 
 pub third-demand : ThirdDemand

@@ -33,7 +33,7 @@ use Rattle.sheet_rules.specs.Panels.{Tables}
 use Rattle.sheet_rules.specs.Read.{shortStores, refusedSheet, readSheet}
 use Rattle.panel_rules.specs.Calls.{NameTables, NamedWords, bookIn, namesIn, wordsIn, templateIn, sparesIn, axisTracks, shortNames, enterRefusal, EnteredName, enterName, trackRecord}
 use Rattle.panel_rules.specs.Placing.{refusedPlacement, resolvePlacement}
-use Rattle.panel_rules.specs.Runs.{Held, namesOf, areasOf, Call, refusalIn, Accepted, sheetHeld, runOf, sizeOf, placementOf, listsOf, nameOf, recordWith}
+use Rattle.panel_rules.specs.Runs.{Held, namesOf, areasOf, Call, refusalIn, Accepted, sheetHeld, runOf, sizeOf, placementOf, listsOf, nameOf, recordWith, runWith, marksOf}
 use Rattle.panel_rules.specs.Views.{entriesAfter, namesAfter, cssEnd, placementAt, placementAfter, sizeAfter, listsAfter, nameAfter, recordAfter, tracksAfter}
 use Rattle.panel_rules.specs.Added.{sheetAxis, added, refusalAfter}
 use Rattle.panel_rules.specs.Book.{book, bookNames, bookBytes, tableRefusal, sheetTracks, Regular}
@@ -124,6 +124,13 @@ pub record RunTheorem (n : Axis → ℕ) (s : List ℕ) (t : Tables) (calls : Li
       → (recordWith (runOf s t calls) a items (2 * (sheetAxis s a .negative + j) - 1) .refusal ≡ noRefusal)
       × Stands (getD (writtenOut (componentsOf (sheetAxis s a .template)) (n a)) (j - 1) noTrack) (getD items (sheetAxis s a .negative + j - 1) 0)
       (recordWith (runOf s t calls) a items (2 * (sheetAxis s a .negative + j) - 1) .track)
+  -- the same of a lent run that the call fills
+  pub lent : (a : Axis) (items : List ℕ) (run : List GridTrack) → tracksIn (tracksAfter (sheetAxis s a)) ≤ length items → recordsIn (tracksAfter (sheetAxis s a)) ≤ length run
+      → (j : ℕ) → 1 ≤ j → j ≤ sheetTracks (n a) (sheetAxis s a)
+      → Stands (getD (writtenOut (componentsOf (sheetAxis s a .template)) (n a)) (j - 1) noTrack) (getD items (sheetAxis s a .negative + j - 1) 0)
+      (getD (runWith (runOf s t calls) a items run) (2 * (sheetAxis s a .negative + j) - 1) zeroGridTrack)
+  -- the sheet's own marks are enough item bytes
+  pub marks : (a : Axis) → tracksIn (tracksAfter (sheetAxis s a)) ≤ length (marksOf (runOf s t calls .tables) a)
 
 pub record ThirdDemand : Type 0 where
   -- for every accepted sheet and every list of entry calls, refused ones included, from any lent contents

@@ -3,7 +3,8 @@ use Prim.Native.Nat.{ℕ, _≤_}
 use mathlib.Core.List.{List, [], _∷_, _++_}
 use mathlib.Core.Bool.{Bool, true, false, cond}
 use lib.Dec.{ltb}
-use lib.ListN.{length, set}
+use mathlib.Core.Path.{_∙_}
+use lib.ListN.{length, set, length-set}
 use Rattle.tables.specs.View.{Item, single, repeat, track, Unended, none, inside, Sizes, AxisView, AxisOutcome, refused, accepted, tracksIn, componentsOf, axisNames, axisBytes, noRoom, withTemplate, withItem, withPiece, withName, morePieces, repeatKind, trackBy, repeatBy, endBy, trackStep, repeatStep, endStep, nameStep, spareStep, itemStep, extraStep, axisStep}
 use Rattle.panel_rules.specs.Ranges.{AxisRange}
 
@@ -13,7 +14,7 @@ module _ (n : ℕ) where
   either false a b f g = g
 
   template-range : (v : AxisView) (is : List Item) (u : Unended) → AxisRange n v → AxisRange n (withTemplate v is u)
-  template-range v is u r = record { areas = r .areas; negative = r .negative; positive = r .positive }
+  template-range v is u r = record { areas = r .areas; negative = r .negative; positive = r .positive; marks = r .marks }
 
   pub track-range : (v : AxisView) (min max : ℕ) → AxisRange n v → AxisRange n (trackStep v min max .axis)
   unfolding trackStep
@@ -56,8 +57,8 @@ module _ (n : ℕ) where
       either (noRoom 4096 32768 (length (axisNames v)) (length (axisBytes v)) (length f)) (refused 8 v) (accepted (withName v (v .unended) f)) r (go (v .unended))
     where
       go : (u : Unended) → AxisRange n (withName v u f)
-      go none = record { areas = r .areas; negative = r .negative; positive = r .positive }
-      go (inside x) = record { areas = r .areas; negative = r .negative; positive = r .positive }
+      go none = record { areas = r .areas; negative = r .negative; positive = r .positive; marks = r .marks }
+      go (inside x) = record { areas = r .areas; negative = r .negative; positive = r .positive; marks = r .marks }
 
   pub spare-range : (v : AxisView) (min max : ℕ) → AxisRange n v → AxisRange n (spareStep v min max .axis)
   unfolding spareStep
@@ -65,7 +66,7 @@ module _ (n : ℕ) where
     where
       go : (t : Bool) → AxisRange n (cond t (refused 8 v) (accepted (record { line = v .line; template = v .template; unended = v .unended; spares = v .spares ++ (record { min = min; max = max } ∷ []); negative = v .negative; positive = v .positive; marks = v .marks; areas = v .areas })) .axis)
       go true = r
-      go false = record { areas = r .areas; negative = r .negative; positive = r .positive }
+      go false = record { areas = r .areas; negative = r .negative; positive = r .positive; marks = r .marks }
 
   pub item-range : (v : AxisView) (i : ℕ) → AxisRange n v → AxisRange n (itemStep v i .axis)
   unfolding itemStep
@@ -73,12 +74,12 @@ module _ (n : ℕ) where
     where
       go : (t : Bool) → AxisRange n (cond t (refused 4 v) (accepted (record { line = v .line; template = v .template; unended = v .unended; spares = v .spares; negative = v .negative; positive = v .positive; marks = set (v .marks) i 1; areas = v .areas })) .axis)
       go true = r
-      go false = record { areas = r .areas; negative = r .negative; positive = r .positive }
+      go false = record { areas = r .areas; negative = r .negative; positive = r .positive; marks = length-set (v .marks) i 1 ∙ r .marks }
 
   pub extra-range : (v : AxisView) (m p : ℕ) → m ≤ 10000 → p ≤ 10000 → AxisRange n v → AxisRange n (extraStep v m p .axis)
   unfolding extraStep
-  extra-range v m p h k r = record { areas = r .areas; negative = h; positive = k }
+  extra-range v m p h k r = record { areas = r .areas; negative = h; positive = k; marks = r .marks }
 
   pub axis-range : (v : AxisView) (definite inner rule gap : ℕ) → AxisRange n v → AxisRange n (axisStep v definite inner rule gap .axis)
   unfolding axisStep
-  axis-range v definite inner rule gap r = record { areas = r .areas; negative = r .negative; positive = r .positive }
+  axis-range v definite inner rule gap r = record { areas = r .areas; negative = r .negative; positive = r .positive; marks = r .marks }

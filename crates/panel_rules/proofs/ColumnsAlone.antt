@@ -14,18 +14,15 @@ use Rattle.panel_tables.specs.Axes.{stateIn}
 use Rattle.sheet_rules.specs.Panels.{entryWords}
 use Rattle.sheet_rules.specs.Read.{shortStores}
 use Rattle.sheet_rules.specs.Sheet.{sheetOf}
-use Rattle.sheet_rules.proofs.Fits.{sheet-fits}
 use Rattle.panel_rules.specs.declared.PlacementAnswer.{PlacementAnswer}
 use Rattle.panel_rules.specs.Runs.{Held, Call, refusalIn, sheetHeld, marksOf, sizeOf, placementOf, listsOf, nameOf, recordWith}
-use Rattle.panel_rules.specs.Views.{heldAfter, nameAfter, placementAfter, both}
+use Rattle.panel_rules.specs.Views.{heldAfter, nameAfter, placementAfter}
 use Rattle.panel_rules.specs.Book.{addedFrom}
 use Rattle.panel_rules.specs.Added.{sheetAxis, added, refusalAfter}
 use Rattle.panel_rules.specs.Alone.{columnCalls, columnRefusals, Run, heldBy, AcceptedRun, DifferInRows, SameColumns}
 use Rattle.panel_rules.proofs.Sheets.{accepted-sheet, sheet-held}
-use Rattle.panel_rules.proofs.Ends.{sheet-end}
 use Rattle.panel_rules.proofs.Held.{added-fit, run-held, run-refusal}
-use Rattle.panel_rules.proofs.Invariants.{sheet-range}
-use Rattle.panel_rules.proofs.Answers.{name-after, placement-after}
+use Rattle.panel_rules.proofs.Runs.{run-names, run-placements}
 use Rattle.panel_rules.proofs.Alone.{columns-view, columns-added}
 use Rattle.panel_rules.proofs.ColumnCalls.{refusalsAfter, columns-refusals}
 use Rattle.panel_rules.proofs.ColumnAnswers.{state-same, size-same, lists-same, records-same, marks-same, names-same, axes-same, placements-same}
@@ -51,16 +48,10 @@ module _ (r : Run) (ok : AcceptedRun r) where
   held-run = run-held s (r .tables) (r .calls) ok
 
   name-run : (line place : ℕ) → nameOf (heldBy r) Column line place ≡ nameAfter (view .columns) (entries Column) line place
-  name-run line place =
-      ap (λ (h : Held). nameOf h Column line place) held-run
-      ∙ name-after view (sheet-fits s) (sheet-range s) (sheet-end s no-fault) (r .tables) long (entries Column) (entries Row)
-      (added-fit s no-fault Column (r .calls)) (added-fit s no-fault Row (r .calls)) Column line place
+  name-run line place = run-names s (r .tables) (r .calls) ok Column line place
 
-  placement-run : (i : ℕ) → placementOf (heldBy r) i ≡ placementAfter view (both (entries Column) (entries Row)) i
-  placement-run i =
-      ap (λ (h : Held). placementOf h i) held-run
-      ∙ placement-after view (sheet-fits s) (sheet-range s) (sheet-end s no-fault) (r .tables) long (entries Column) (entries Row)
-      (added-fit s no-fault Column (r .calls)) (added-fit s no-fault Row (r .calls)) i
+  placement-run : (i : ℕ) → placementOf (heldBy r) i ≡ placementAfter view entries i
+  placement-run i = run-placements s (r .tables) (r .calls) ok i
 
   refusals-run : columnRefusals (sheetHeld s (r .tables)) (r .calls) ≡ refusalsAfter (view .columns) [] (columnCalls (r .calls))
   unfolding addedFrom
@@ -122,15 +113,15 @@ module _ (p q : Run) (d : DifferInRows p q) where
 
   -- a placement, over the views
   abbrev here : ℕ → PlacementAnswer
-  here i = placementAfter v (both (c Column) (c Row)) i
+  here i = placementAfter v c i
 
   abbrev there : ℕ → PlacementAnswer
-  there i = placementAfter u (both (e Column) (e Row)) i
+  there i = placementAfter u e i
 
   axes : (i : ℕ) → placementOf (heldBy p) i .axis ≡ placementOf (heldBy q) i .axis
   axes i =
       ap (λ (x : PlacementAnswer). x .axis) (placement-run p (d .first) i)
-      ∙ axes-same v u (both (c Column) (c Row)) (both (e Column) (e Row)) (same-views .2) i
+      ∙ axes-same v u c e (same-views .2) i
       ∙ sym (ap (λ (x : PlacementAnswer). x .axis) (placement-run q (d .second) i))
 
   placements : (i : ℕ) → placementOf (heldBy p) i .axis ≡ Column → placementOf (heldBy p) i ≡ placementOf (heldBy q) i
@@ -138,7 +129,7 @@ module _ (p q : Run) (d : DifferInRows p q) where
       let x : placementOf (heldBy p) i ≡ here i = placement-run p (d .first) i in
       let y : placementOf (heldBy q) i ≡ there i = placement-run q (d .second) i in
       x
-      ∙ placements-same v u (both (c Column) (c Row)) (both (e Column) (e Row)) (same-views .2) i columns (same-views .1) same-entries
+      ∙ placements-same v u c e (same-views .2) i columns (same-views .1) same-entries
       (sym (ap (λ (w : PlacementAnswer). w .axis) x) ∙ z)
       ∙ sym y
 

@@ -5,7 +5,7 @@ use mathlib.Core.List.{List, [], _∷_, _++_}
 use mathlib.Core.Bool.{Bool, true, false, cond}
 use native.Mathlib.Omega.{arith}
 use lib.Dec.{leb, ltb}
-use lib.ListN.{length}
+use lib.ListN.{length, length-replicate}
 use Rattle.coordinates.specs.declared.axis.Axis.{Axis}
 use Rattle.coordinates.specs.declared.axis.Axis.the-variants.{Column, Row}
 use Rattle.records.specs.declared.Record.{Record}
@@ -46,7 +46,7 @@ largest-more a [] x = omega arith
 largest-more a (y ∷ list) x = omega (arith, largest-more a list x)
 
 raised-range : (n end : ℕ) (v : AxisView) → AxisRange n v → AxisRange (max n (end - 1)) (raised v end)
-raised-range n end v r = record { areas = ap (λ (m : ℕ). max m (end - 1)) (r .areas); negative = r .negative; positive = r .positive }
+raised-range n end v r = record { areas = ap (λ (m : ℕ). max m (end - 1)) (r .areas); negative = r .negative; positive = r .positive; marks = r .marks }
 
 area-range : (v : PanelView) (n : List ℕ) (e : AreaEdges) → PanelRange v → PanelRange (areaStep v n e .panel)
 unfolding areaStep
@@ -117,7 +117,7 @@ staged-range n v r = record { axes = both; placements = r .placements }
 
 nothing-range : AxisRange 0 emptyAxis
 unfolding emptyAxis
-nothing-range = record { areas = refl; negative = zero-le; positive = zero-le }
+nothing-range = record { areas = refl; negative = zero-le; positive = zero-le; marks = length-replicate {A = ℕ} 30000 0 }
 
 empty-range : PanelRange emptyView
 unfolding emptyView
@@ -135,3 +135,7 @@ sheet-range s =
 -- "the larger of template count and largest area end - 1": an axis counts the tracks that the sheet's areas span
 pub areas-largest : (s : List ℕ) (a : Axis) → viewIn (sheetOf s .view) a .areas ≡ largest a (sheetOf s .view .areas)
 areas-largest s a = sheet-range s .axes a .areas
+
+-- a mark for each track index
+pub marks-length : (s : List ℕ) (a : Axis) → length (viewIn (sheetOf s .view) a .marks) ≡ 30000
+marks-length s a = sheet-range s .axes a .marks

@@ -1,14 +1,18 @@
 -- After an accepted sheet and any entry calls each call answers by the sheet's view and the entries that the table accepts. Assumes nothing.
 use Prim.Native.Nat.{ℕ, _≤_, _<_}
 use mathlib.Core.Path.{_≡_, refl, sym, ap, _∙_}
-use mathlib.Core.List.{List, [], _++_}
+use mathlib.Core.List.{List, [], _++_, map}
+use native.Mathlib.Omega.{arith}
 use lib.ListN.{length, length-map}
 use Rattle.coordinates.specs.declared.axis.Axis.{Axis}
 use Rattle.coordinates.specs.declared.axis.Axis.the-variants.{Column, Row}
 use Rattle.line_placement.specs.Css.{Bytes, Entry}
 use Rattle.name_store.specs.Entries.{entryOf, namedEntry}
 use Rattle.name_store.specs.Entries as Store
-use Rattle.tables.specs.View.{AxisView, axisBytes}
+use Rattle.grid_track.specs.declared.GridTrack.{GridTrack}
+use Rattle.grid_track.specs.Records.{tracksIn}
+use Rattle.track_run.specs.Run.{runAfter}
+use Rattle.tables.specs.View.{AxisView, sizesOf, componentsOf, axisBytes}
 use Rattle.tables.proofs.Fits.{Fits}
 use Rattle.panel_tables.specs.View.{PanelView}
 use Rattle.panel_tables.specs.Axes.{viewIn}
@@ -18,8 +22,8 @@ use Rattle.sheet_rules.specs.Panels.{Tables, entryWords}
 use Rattle.sheet_rules.proofs.Fits.{sheet-fits}
 use Rattle.sheet_end.proofs.Entries.{entries-read}
 use Rattle.panel_rules.specs.Calls.{bookIn}
-use Rattle.panel_rules.specs.Runs.{Held, namesOf, Call, Accepted, runOf, sizeOf, placementOf, listsOf, nameOf, recordWith}
-use Rattle.panel_rules.specs.Views.{entriesAfter, placementAt, placementAfter, sizeAfter, listsAfter, nameAfter, recordAfter, heldAfter, both}
+use Rattle.panel_rules.specs.Runs.{Held, namesOf, Call, Accepted, runOf, marksOf, sizeOf, placementOf, listsOf, nameOf, recordWith, runWith}
+use Rattle.panel_rules.specs.Views.{entriesAfter, placementAt, placementAfter, sizeAfter, listsAfter, nameAfter, tracksAfter, recordAfter, heldAfter, both}
 use Rattle.panel_rules.specs.Added.{sheetAxis, added}
 use Rattle.panel_rules.proofs.Ends.{sheet-end, no-fault}
 use Rattle.panel_rules.proofs.Sheets.{accepted-sheet}
@@ -103,3 +107,26 @@ module _ (s : List ℕ) (t : Tables) (calls : List Call) (ok : Accepted s t) whe
       of-closed (λ h. placementOf h i)
       ∙ Answers.placement-after v (sheet-fits s) (sheet-range s) (sheet-end s good) t (accepted-sheet s t ok .1) columns rows (added-fit s good Column calls) (added-fit s good Row calls) i
       ∙ same-entries i
+
+  -- the marks are the sheet's
+  pub run-marks : (a : Axis) → marksOf (runOf s t calls .tables) a ≡ sheetAxis s a .marks
+  unfolding heldAfter
+  run-marks Column = of-closed (λ h. marksOf (h .tables) Column)
+  run-marks Row = of-closed (λ h. marksOf (h .tables) Row)
+
+  -- of a lent run of records
+  pub run-filled : (a : Axis) (items : List ℕ) (run : List GridTrack)
+      → runWith (runOf s t calls) a items run ≡ runAfter (tracksAfter (sheetAxis s a)) (componentsOf (sheetAxis s a .template)) (map sizesOf (sheetAxis s a .spares)) items run
+  run-filled a items run =
+      of-closed (λ h. runWith h a items run)
+      ∙ rw (
+        Answers.tracks-after v (sheet-fits s) (sheet-range s) (sheet-end s good) t (accepted-sheet s t ok .1) columns rows (added-fit s good Column calls) (added-fit s good Row calls) a,
+        Answers.template-after v (sheet-fits s) (sheet-range s) (sheet-end s good) t (accepted-sheet s t ok .1) columns rows (added-fit s good Column calls) (added-fit s good Row calls) a,
+        Answers.spares-after v (sheet-fits s) (sheet-range s) (sheet-end s good) t (accepted-sheet s t ok .1) columns rows (added-fit s good Column calls) (added-fit s good Row calls) a,
+      )
+
+-- the sheet's marks are enough for all tracks
+pub marks-enough : (s : List ℕ) → sheetOf s .fault ≡ 0 → (a : Axis) → tracksIn (tracksAfter (sheetAxis s a)) ≤ length (sheetAxis s a .marks)
+marks-enough s z a =
+    let r = sheet-range s .axes a in
+    omega (arith, r .negative, r .positive, r .marks, few-tracks s z a)

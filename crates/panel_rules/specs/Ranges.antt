@@ -3,6 +3,7 @@ use Prim.Native.Nat.{ℕ, zero, suc, _-_, _≤_, max}
 use mathlib.Core.Path.{_≡_}
 use mathlib.Core.List.{List, [], _∷_}
 use lib.IntN.{ℤ, pos, negsuc}
+use lib.ListN.{length}
 use Rattle.coordinates.specs.declared.axis.Axis.{Axis}
 use Rattle.tables.specs.View.{AxisView}
 use Rattle.panel_tables.specs.View.{Area, End, Placement, PanelView}
@@ -40,11 +41,12 @@ EndRange e = NumberOf (e .end .kind) (e .end .number)
 abbrev pub PlacementRange : Placement → Type 0
 PlacementRange p = EndRange (p .start) × EndRange (p .end)
 
--- an axis: the tracks that the areas span, and "each implicit count 0..10,000"
+-- an axis: the tracks that the areas span, "each implicit count 0..10,000", and a mark for each "item index 0..29,999"
 pub record AxisRange (span : ℕ) (v : AxisView) : Type 0 where
   pub areas : v .areas ≡ span
   pub negative : v .negative ≤ 10000
   pub positive : v .positive ≤ 10000
+  pub marks : length (v .marks) ≡ 30000
 
 pub record PanelRange (v : PanelView) : Type 0 where
   pub axes : (a : Axis) → AxisRange (largest a (v .areas)) (viewIn v a)

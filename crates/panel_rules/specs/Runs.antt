@@ -8,14 +8,17 @@ use Rattle.coordinates.specs.declared.refusal.Refusal.{Refusal}
 use Rattle.coordinates.specs.Refusals.{noRefusal}
 use Rattle.line_placement.specs.Css.{Bytes}
 use Rattle.name_store.specs.LineNames.{ofAxis}
+use Rattle.grid_track.specs.declared.GridTrack.{GridTrack}
 use Rattle.grid_track.specs.declared.RecordAnswer.{RecordAnswer}
+use Rattle.track_run.specs.Run.{runAfter}
+use Rattle.tables.specs.declared.AxisState.{AxisState}
 use Rattle.panel_tables.specs.declared.Panel.{Panel}
 use Rattle.panel_tables.specs.Axes.{stateIn}
 use Rattle.sheet_rules.specs.Panels.{Tables}
 use Rattle.sheet_rules.specs.Read.{readSheet}
 use Rattle.panel_rules.specs.declared.PlacementAnswer.{PlacementAnswer}
 use Rattle.panel_rules.specs.declared.AxisSize.{AxisSize}
-use Rattle.panel_rules.specs.Calls.{NameTables, NamedWords, EnteredName, enterName, explicitSize, lineCountIn, lineNameIn, trackRecord, wordsIn}
+use Rattle.panel_rules.specs.Calls.{NameTables, NamedWords, EnteredName, enterName, templateIn, sparesIn, axisTracks, explicitSize, lineCountIn, lineNameIn, trackRecord, wordsIn}
 use Rattle.panel_rules.specs.Placing.{resolvePlacement}
 
 -- the state and everything lent with it
@@ -108,3 +111,10 @@ recordWith h a items index = trackRecord (stateIn (h .panel) a) (wordsIn (namesO
 -- and for the sheet's marks
 abbrev pub recordOf : Held → Axis → ℕ → RecordAnswer
 recordOf h a index = recordWith h a (marksOf (h .tables) a) index
+
+-- a lent run of records after the call that fills it
+abbrev pub runWith : Held → Axis → List ℕ → List GridTrack → List GridTrack
+runWith h a items run =
+    let s : AxisState = stateIn (h .panel) a in
+    let words : List ℕ = wordsIn (namesOf (h .tables)) a in
+    runAfter (axisTracks s) (templateIn s words) (sparesIn s words) items run
