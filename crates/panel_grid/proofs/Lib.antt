@@ -1,6 +1,7 @@
 -- Laws of the calls; the demands (`first-demand`, `second-demand`, `third-demand`), and the marked edges (`marked`).
 pub mod Carried
 pub mod Entered
+pub mod Filled
 pub mod HeldNumbers
 pub mod Placed
 pub mod Demands

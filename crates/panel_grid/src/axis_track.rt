@@ -3,17 +3,17 @@ ghost use mathlib.Core.Path.{_≡_};
 ghost use Prim.Native.Nat.{min};
 ghost use Rattle.panel_rules.specs.Calls.{axisTracks, trackRecord};
 ghost use Rattle.panel_grid.specs.Carried.{carriedTo, carriedRecord, carriedOn};
+use crate::part::components_of;
+use crate::part::maximums_of;
+use crate::part::minimums_of;
+use crate::part::spare_maximums_of;
+use crate::part::spare_minimums_of;
 use coordinates::TrackCounts;
 use grid_track::AxisTracks;
 use grid_track::GridTrack;
 use grid_track::RecordAnswer;
 use tables::AxisState;
 use tables::layout::AXIS_WORDS;
-use tables::layout::MAXIMUMS;
-use tables::layout::MINIMUMS;
-use tables::layout::SPARE_MAXIMUMS;
-use tables::layout::SPARE_MINIMUMS;
-use tables::layout::words_part;
 use track_run::state::FillState;
 
 // A count of tracks, at most 10,000.
@@ -52,11 +52,11 @@ pub fn record_on(
     ensures { λ r. ⌜ r ≡ trackRecord state (now (words .entry)) (now (items .entry)) index ⌝ }
 {
     grid_track::rule::track_record(
-        words_part(words, 0, state.components),
-        words_part(words, MINIMUMS, state.tracks),
-        words_part(words, MAXIMUMS, state.tracks),
-        words_part(words, SPARE_MINIMUMS, state.spares),
-        words_part(words, SPARE_MAXIMUMS, state.spares),
+        components_of(state, words),
+        minimums_of(state, words),
+        maximums_of(state, words),
+        spare_minimums_of(state, words),
+        spare_maximums_of(state, words),
         items,
         axis_tracks(state),
         index,
@@ -68,9 +68,9 @@ pub fn first_on(state: AxisState, words: &[u64; AXIS_WORDS], items: &[u8]) -> Fi
     ensures { λ r. ⌜ r ≡ carriedTo state (now (words .entry)) (now (items .entry)) 0 ⌝ }
 {
     track_run::state::begin(
-        words_part(words, 0, state.components),
-        words_part(words, MINIMUMS, state.tracks),
-        words_part(words, MAXIMUMS, state.tracks),
+        components_of(state, words),
+        minimums_of(state, words),
+        maximums_of(state, words),
         items,
         axis_tracks(state),
     )
@@ -87,11 +87,11 @@ pub fn carried_on(
     ensures { λ r. ⌜ r ≡ carriedRecord state (now (words .entry)) (now (items .entry)) at index ⌝ }
 {
     track_run::state::record_at(
-        words_part(words, 0, state.components),
-        words_part(words, MINIMUMS, state.tracks),
-        words_part(words, MAXIMUMS, state.tracks),
-        words_part(words, SPARE_MINIMUMS, state.spares),
-        words_part(words, SPARE_MAXIMUMS, state.spares),
+        components_of(state, words),
+        minimums_of(state, words),
+        maximums_of(state, words),
+        spare_minimums_of(state, words),
+        spare_maximums_of(state, words),
         items,
         at,
         index,
@@ -107,5 +107,5 @@ pub fn next_on(
 ) -> FillState
     ensures { λ r. ⌜ r ≡ carriedOn state (now (words .entry)) at index ⌝ }
 {
-    track_run::state::advance(words_part(words, 0, state.components), at, index)
+    track_run::state::advance(components_of(state, words), at, index)
 }

@@ -5,13 +5,12 @@ ghost use lib.ListN.{getD};
 ghost use Rattle.name_store.specs.Entries.{entriesOf};
 ghost use Rattle.name_store.specs.LineNames.{explicitLineNames};
 ghost use Rattle.panel_rules.specs.Calls.{NameTables, entryWordsIn, lineNameIn};
+use crate::part::entries_of;
 use crate::store::smaller;
 use coordinates::Axis;
 use panel_tables::Panel;
 use tables::AxisState;
 use tables::layout::AXIS_WORDS;
-use tables::layout::ENTRIES;
-use tables::layout::words_part;
 
 // A name of a line of one axis, by its place from 0.
 fn name_on<'a>(
@@ -23,13 +22,7 @@ fn name_on<'a>(
 ) -> &'a [u8]
     ensures { λ r. ⌜ now r ≡ getD (explicitLineNames (state .explicit) (entriesOf (entryWordsIn state (now (words .entry))) (now (store .entry))) line) place [] ⌝ }
 {
-    name_store::line_names::line_name(
-        words_part(words, ENTRIES, state.entries),
-        store,
-        state.explicit,
-        line,
-        place,
-    )
+    name_store::line_names::line_name(entries_of(state, words), store, state.explicit, line, place)
 }
 
 // A name of a line of an axis, by its place from 0: a part of the column store or of the row store. It is empty where that line

@@ -6,6 +6,7 @@ ghost use Rattle.named.specs.Placements.{zeroLine, refusedResolution, resolutio
 ghost use Rattle.panel_rules.specs.Calls.{NameTables, NamedWords, namesIn, entryWordsIn};
 ghost use Rattle.panel_rules.specs.Placing.{refusedPlacement, placedBy, resolvePlacement};
 use crate::ends::line_placement;
+use crate::part::entries_of;
 use crate::store::smaller;
 use coordinates::Axis;
 use coordinates::refusal;
@@ -24,7 +25,6 @@ use panel_tables::placement::PLACEMENT_WORDS;
 use panel_tables::placement::placement_at;
 use tables::AxisState;
 use tables::layout::AXIS_WORDS;
-use tables::layout::ENTRIES;
 use tables::layout::words_part;
 
 // No placement: both ends `auto`.
@@ -79,7 +79,7 @@ fn resolve_on(
     resolve_line_names(
         state.explicit as u16,
         axis,
-        words_part(words, ENTRIES, state.entries),
+        entries_of(state, words),
         store,
         words_part(areas, 0, held),
         words_part(areas, AREA_NAMES, held),

@@ -1,0 +1,69 @@
+// The words of an axis and their parts.
+ghost use mathlib.Core.Path.{_≡_};
+ghost use Rattle.name_store.specs.LineNames.{ofAxis};
+ghost use Rattle.tables.specs.Runs.{partOf};
+use coordinates::Axis;
+use tables::AxisState;
+use tables::layout::AXIS_WORDS;
+use tables::layout::ENTRIES;
+use tables::layout::MAXIMUMS;
+use tables::layout::MINIMUMS;
+use tables::layout::SPARE_MAXIMUMS;
+use tables::layout::SPARE_MINIMUMS;
+use tables::layout::words_part;
+
+// Of the columns' and the rows' words, those of an axis.
+pub fn words_in<'a>(
+    columns: &'a [u64; AXIS_WORDS],
+    rows: &'a [u64; AXIS_WORDS],
+    axis: Axis,
+) -> &'a [u64]
+    ensures { λ r. ⌜ now r ≡ ofAxis axis (now (columns .entry)) (now (rows .entry)) ⌝ }
+{
+    match axis {
+        Axis::Column => columns,
+        Axis::Row => rows,
+    }
+}
+
+// The components.
+pub fn components_of(state: AxisState, words: &[u64]) -> &[u64]
+    ensures { λ r. ⌜ now r ≡ partOf (now (words .entry)) 0 (state .components) ⌝ }
+{
+    words_part(words, 0, state.components)
+}
+
+// The minimum sizes of the template's tracks.
+pub fn minimums_of(state: AxisState, words: &[u64]) -> &[u64]
+    ensures { λ r. ⌜ now r ≡ partOf (now (words .entry)) 64 (state .tracks) ⌝ }
+{
+    words_part(words, MINIMUMS, state.tracks)
+}
+
+// Their maximum sizes.
+pub fn maximums_of(state: AxisState, words: &[u64]) -> &[u64]
+    ensures { λ r. ⌜ now r ≡ partOf (now (words .entry)) 2112 (state .tracks) ⌝ }
+{
+    words_part(words, MAXIMUMS, state.tracks)
+}
+
+// The minimum spare sizes.
+pub fn spare_minimums_of(state: AxisState, words: &[u64]) -> &[u64]
+    ensures { λ r. ⌜ now r ≡ partOf (now (words .entry)) 4160 (state .spares) ⌝ }
+{
+    words_part(words, SPARE_MINIMUMS, state.spares)
+}
+
+// The maximum spare sizes.
+pub fn spare_maximums_of(state: AxisState, words: &[u64]) -> &[u64]
+    ensures { λ r. ⌜ now r ≡ partOf (now (words .entry)) 4224 (state .spares) ⌝ }
+{
+    words_part(words, SPARE_MAXIMUMS, state.spares)
+}
+
+// The name entries.
+pub fn entries_of(state: AxisState, words: &[u64]) -> &[u64]
+    ensures { λ r. ⌜ now r ≡ partOf (now (words .entry)) 8384 (state .entries) ⌝ }
+{
+    words_part(words, ENTRIES, state.entries)
+}
