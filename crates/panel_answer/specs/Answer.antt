@@ -1,0 +1,59 @@
+-- What the panel program prints (document 01, panel sheet).
+use Prim.Native.Nat.{ℕ, suc}
+use mathlib.Core.Bool.{cond}
+use mathlib.Core.List.{List, [], _∷_, _++_}
+use lib.Dec.{eqb}
+use Rattle.coordinates.specs.declared.axis.Axis.{Axis}
+use Rattle.coordinates.specs.declared.axis.Axis.the-variants.{Column, Row}
+use Rattle.grid_track.specs.declared.GridTrack.{GridTrack}
+use Rattle.grid_track.specs.Records.{listed, recordsIn, recordsOf}
+use Rattle.panel_tables.specs.Axes.{stateIn}
+use Rattle.sheet_rules.specs.Panels.{Tables}
+use Rattle.sheet_rules.specs.Read.{SheetRead, readSheet}
+use Rattle.panel_rules.specs.declared.PlacementAnswer.{PlacementAnswer}
+use Rattle.panel_rules.specs.Calls.{wordsIn, templateIn, sparesIn, axisTracks}
+use Rattle.panel_rules.specs.Runs.{Held, namesOf, marksOf, sizeOf, placementOf}
+use Rattle.panel_text.specs.Lines.{sizeLine, recordLine, placeLine, refusedLine}
+
+-- "`size`: axis, repetitions, explicit count"
+abbrev pub sizeLineOf : Held → Axis → List ℕ
+sizeLineOf h a = sizeLine a (sizeOf h a .repetitions) (sizeOf h a .explicit)
+
+-- the records of an axis, for the marks of its `item` lines
+abbrev pub recordsOfAxis : Held → Axis → List GridTrack
+recordsOfAxis h a =
+    let s = stateIn (h .panel) a in
+    let words = wordsIn (namesOf (h .tables)) a in
+    recordsOf (axisTracks s) (templateIn s words) (sparesIn s words) (marksOf (h .tables) a)
+
+-- how many there are
+abbrev pub recordCount : Held → Axis → ℕ
+recordCount h a = recordsIn (axisTracks (stateIn (h .panel) a))
+
+-- a line for each record from record i on
+abbrev pub recordLines : ℕ → List GridTrack → List (List ℕ)
+recordLines i [] = []
+recordLines i (r ∷ rs) = recordLine i r ∷ recordLines (suc i) rs
+
+-- "`place`: axis, kind and number twice"
+abbrev pub placedLine : PlacementAnswer → List ℕ
+placedLine p = placeLine (p .axis) (p .line)
+
+abbrev pub placeLineOf : Held → ℕ → List ℕ
+placeLineOf h i = placedLine (placementOf h i)
+
+abbrev pub axisLines : Held → Axis → List (List ℕ)
+axisLines h a = sizeLineOf h a ∷ recordLines 0 (recordsOfAxis h a)
+
+-- "columns come first, then rows, then placements in sheet order"
+unfoldable pub answerLines : Held → List (List ℕ)
+answerLines h = axisLines h Column ++ (axisLines h Row ++ listed (placeLineOf h) (h .panel .placements))
+
+-- "a refused sheet prints only `refused`, number, line"
+unfoldable pub printedLines : List ℕ → Tables → List (List ℕ)
+unfolding answerLines
+printedLines sheet t =
+    let r : SheetRead = readSheet sheet t in
+    cond (eqb (r .answer .refusal .number) 0)
+    (answerLines (record { panel = r .answer .panel; tables = r .tables }))
+    (refusedLine (r .answer .refusal) ∷ [])

@@ -1,0 +1,3 @@
+-- What the contracts on the lines of an answer cite.
+pub mod Answer
+pub mod Walk

@@ -1,0 +1,58 @@
+-- The lines of an answer one after the other.
+use Prim.Native.Nat.{ℕ, zero, suc, _+_}
+use mathlib.Core.Bool.{cond}
+use mathlib.Core.List.{List, [], _∷_}
+use lib.Dec.{ltb}
+use Rattle.coordinates.specs.declared.axis.Axis.{Axis}
+use Rattle.coordinates.specs.declared.axis.Axis.the-variants.{Column, Row}
+use Rattle.grid_track.specs.Records.{recordsIn}
+use Rattle.name_store.specs.LineNames.{ofAxis}
+use Rattle.track_run.specs.declared.state.FillState.{FillState}
+use Rattle.panel_tables.specs.declared.Panel.{Panel}
+use Rattle.panel_tables.specs.Axes.{stateIn}
+use Rattle.panel_rules.specs.Calls.{wordsIn, axisTracks}
+use Rattle.panel_rules.specs.Runs.{Held, namesOf, marksOf}
+use Rattle.panel_grid.specs.Carried.{carriedTo, carriedRecord, carriedOn}
+use Rattle.panel_text.specs.Lines.{recordLine}
+use Rattle.panel_answer.specs.declared.AnswerLine.{AnswerLine}
+use Rattle.panel_answer.specs.declared.AnswerLine.the-variants.{Size, Record, Place, End}
+use Rattle.panel_answer.specs.Answer.{sizeLineOf, placeLineOf}
+
+-- the text of a line
+abbrev pub lineText : Held → AnswerLine → List ℕ
+lineText h (Size a) = sizeLineOf h a
+lineText h (Record a i s) = recordLine i (carriedRecord (stateIn (h .panel) a) (wordsIn (namesOf (h .tables)) a) (marksOf (h .tables) a) s i)
+lineText h (Place i) = placeLineOf h i
+lineText h End = []
+
+-- placement i, or the end
+abbrev pub placeFrom : Panel → ℕ → AnswerLine
+placeFrom p i = cond (ltb i (p .placements)) (Place i) End
+
+-- after the last record of an axis
+abbrev pub afterAxis : Panel → Axis → AnswerLine
+afterAxis p Column = Size Row
+afterAxis p Row = placeFrom p 0
+
+-- record i + 1 of an axis, or what comes after the axis
+abbrev pub recordFrom : Panel → List ℕ → Axis → ℕ → FillState → AnswerLine
+recordFrom p words a i s =
+    cond (ltb (i + 1) (recordsIn (axisTracks (stateIn p a)))) (Record a (i + 1) (carriedOn (stateIn p a) words s i)) (afterAxis p a)
+
+-- the line after a line
+abbrev pub nextLine : Panel → List ℕ → List ℕ → List ℕ → List ℕ → AnswerLine → AnswerLine
+nextLine p columns rows columnMarks rowMarks (Size a) = Record a 0 (carriedTo (stateIn p a) (ofAxis a columns rows) (ofAxis a columnMarks rowMarks) 0)
+nextLine p columns rows columnMarks rowMarks (Record a i s) = recordFrom p (ofAxis a columns rows) a i s
+nextLine p columns rows columnMarks rowMarks (Place i) = placeFrom p (i + 1)
+nextLine p columns rows columnMarks rowMarks End = End
+
+abbrev pub lineAfter : Held → AnswerLine → AnswerLine
+lineAfter h at = nextLine (h .panel) (h .tables .columns) (h .tables .rows) (h .tables .columnMarks) (h .tables .rowMarks) at
+
+-- the texts from a line on, at most so many
+abbrev pub following : Held → ℕ → AnswerLine → List (List ℕ)
+following h zero at = []
+following h (suc n) (Size a) = lineText h (Size a) ∷ following h n (lineAfter h (Size a))
+following h (suc n) (Record a i s) = lineText h (Record a i s) ∷ following h n (lineAfter h (Record a i s))
+following h (suc n) (Place i) = lineText h (Place i) ∷ following h n (lineAfter h (Place i))
+following h (suc n) End = []

@@ -1,0 +1,5 @@
+pub mod Puts
+pub mod Decimals
+pub mod Hexadecimals
+pub mod Wholes
+pub mod ReadBack
