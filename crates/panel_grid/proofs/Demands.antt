@@ -1,6 +1,7 @@
 -- The three demands hold. Assumes nothing.
 use Prim.Native.Nat.{ℕ, zero, suc, _+_, _*_, _-_, _≤_, _<_}
 use mathlib.Core.Path.{_≡_, refl, sym, ap, _∙_}
+use mathlib.Core.Logic.{_⊎_, inl, inr}
 use mathlib.Core.Bool.{Bool, true, false, cond}
 use mathlib.Core.List.{List, [], _∷_, _++_}
 use native.Mathlib.Omega.{arith}
@@ -94,12 +95,18 @@ placement-answered p t areas placements i = go (ltb i (p .placements)) refl
     x = namesIn p t areas (place .axis)
 
     by : ltb i (p .placements) ≡ true → (c : Bool) → leb (x .explicit) 10000 ≡ c → (d : Bool) → shortNames t ≡ d → PlacementAnswered p t areas placements i
-    by e false f d g = placementOutside (rw (e, resolution-refused x (placements .bytes) (linePlacement place) (leb-false (x .explicit) 10000 f)))
-    by e true f true g = placementShort g (rw (e, resolution-accepted x (placements .bytes) (linePlacement place) (leb-true (x .explicit) 10000 f), g))
-    by e true f false g = placementAccepted (rw (e, resolution-accepted x (placements .bytes) (linePlacement place) (leb-true (x .explicit) 10000 f), g))
+    by e false f d g =
+        let many = leb-false (x .explicit) 10000 f in
+        placementOutside (inr many) (rw (e, resolution-refused x (placements .bytes) (linePlacement place) many))
+    by e true f true g =
+        let few = leb-true (x .explicit) 10000 f in
+        placementShort (ltb-true i (p .placements) e) few g (rw (e, resolution-accepted x (placements .bytes) (linePlacement place) few, g))
+    by e true f false g =
+        let few = leb-true (x .explicit) 10000 f in
+        placementAccepted (ltb-true i (p .placements) e) few g (rw (e, resolution-accepted x (placements .bytes) (linePlacement place) few, g))
 
     go : (b : Bool) → ltb i (p .placements) ≡ b → PlacementAnswered p t areas placements i
-    go false e = placementOutside (rw e)
+    go false e = placementOutside (inl (ltb-false i (p .placements) e)) (rw e)
     go true e = by e (leb (x .explicit) 10000) refl (shortNames t) refl
 
 record-answered : (s : AxisState) (words items : List ℕ) (i : ℕ) → RecordAnswered s words items i
@@ -108,7 +115,7 @@ record-answered s words items i = go (leb (recordsIn (axisTracks s)) i) refl (lt
   where
     go : (b : Bool) → leb (recordsIn (axisTracks s)) i ≡ b → (c : Bool) → ltb (length items) (tracksIn (axisTracks s)) ≡ c → RecordAnswered s words items i
     go true e c f = recordOutside (leb-true (recordsIn (axisTracks s)) i e) (rw e)
-    go false e true f = recordShort (ltb-true (length items) (tracksIn (axisTracks s)) f) (rw (e, f))
+    go false e true f = recordShort (leb-false (recordsIn (axisTracks s)) i e) (ltb-true (length items) (tracksIn (axisTracks s)) f) (rw (e, f))
     go false e false f = recordAccepted (leb-false (recordsIn (axisTracks s)) i e) (ltb-false (length items) (tracksIn (axisTracks s)) f) (rw (e, f))
 
 run-answered : (s : AxisState) (words items : List ℕ) (run : List GridTrack) → RunAnswered s words items run
@@ -116,8 +123,8 @@ unfolding fillAnswerOf runAfter
 run-answered s words items run = go (ltb (length run) (recordsIn (axisTracks s))) refl (ltb (length items) (tracksIn (axisTracks s))) refl
   where
     go : (b : Bool) → ltb (length run) (recordsIn (axisTracks s)) ≡ b → (c : Bool) → ltb (length items) (tracksIn (axisTracks s)) ≡ c → RunAnswered s words items run
-    go true e c f = runShort (rw e) (rw e)
-    go false e true f = runShort (rw (e, f)) (rw (e, f))
+    go true e c f = runShort (inl (ltb-true (length run) (recordsIn (axisTracks s)) e)) (rw e) (rw e)
+    go false e true f = runShort (inr (ltb-true (length items) (tracksIn (axisTracks s)) f)) (rw (e, f)) (rw (e, f))
     go false e false f = runAccepted (ltb-false (length run) (recordsIn (axisTracks s)) e) (ltb-false (length items) (tracksIn (axisTracks s)) f) (rw (e, f))
 
 pub first-demand : FirstDemand

@@ -27,6 +27,7 @@ use Rattle.tables.specs.View.{AxisView, componentsOf, axisBytes}
 use Rattle.panel_tables.specs.declared.Panel.{Panel}
 use Rattle.panel_tables.specs.View.{PanelView}
 use Rattle.panel_tables.specs.Axes.{stateIn, viewIn}
+use Rattle.panel_tables.specs.Placements.{placementAt as placeAt}
 use Rattle.sheet_rules.specs.Sheet.{innerOf, strategyOf, sheetOf}
 use Rattle.sheet_rules.specs.Rows.{Row, numberOf, HoldsAt, FirstAt, Nowhere}
 use Rattle.sheet_rules.specs.Panels.{Tables}
@@ -55,23 +56,30 @@ pub data EntryAnswered (p : Panel) (t : NameTables) (a : Axis) (line : ℕ) (nam
   entryRefused : (n : ℕ) → enterRefusal p t a line name ≡ suc n
       → enterName p t a line name ≡ record { answer = record { refusal = refusalOf (suc n); panel = p }; tables = t } → EntryAnswered p t a line name
 
--- resolving a placement: 4 where it isn't held or the explicit count is no panel's, then 10
+-- resolving a placement: 4 where it isn't held, or where the explicit count of its axis is no panel's; then 10 where a store is short
+abbrev pub explicitFor : Panel → NamedWords → ℕ → ℕ
+explicitFor p placements i = stateIn p (placeAt (placements .words) i .axis) .explicit
+
 pub data PlacementAnswered (p : Panel) (t : NameTables) (areas placements : NamedWords) (i : ℕ) : Type 0 where
-  placementAccepted : resolvePlacement p t areas placements i .refusal ≡ noRefusal → PlacementAnswered p t areas placements i
-  placementOutside : resolvePlacement p t areas placements i ≡ refusedPlacement count → PlacementAnswered p t areas placements i
-  placementShort : shortNames t ≡ true → resolvePlacement p t areas placements i ≡ refusedPlacement short → PlacementAnswered p t areas placements i
+  placementAccepted : i < p .placements → explicitFor p placements i ≤ 10000 → shortNames t ≡ false
+      → resolvePlacement p t areas placements i .refusal ≡ noRefusal → PlacementAnswered p t areas placements i
+  placementOutside : (p .placements ≤ i) ⊎ (10000 < explicitFor p placements i)
+      → resolvePlacement p t areas placements i ≡ refusedPlacement count → PlacementAnswered p t areas placements i
+  placementShort : i < p .placements → explicitFor p placements i ≤ 10000 → shortNames t ≡ true
+      → resolvePlacement p t areas placements i ≡ refusedPlacement short → PlacementAnswered p t areas placements i
 
 -- one record: 4 for an index of 2N + 1 or more, then 10 for fewer than N item bytes
 pub data RecordAnswered (s : AxisState) (words items : List ℕ) (i : ℕ) : Type 0 where
   recordAccepted : i < recordsIn (axisTracks s) → tracksIn (axisTracks s) ≤ length items → trackRecord s words items i .refusal ≡ noRefusal → RecordAnswered s words items i
   recordOutside : recordsIn (axisTracks s) ≤ i → trackRecord s words items i ≡ refusedRecord count → RecordAnswered s words items i
-  recordShort : length items < tracksIn (axisTracks s) → trackRecord s words items i ≡ refusedRecord short → RecordAnswered s words items i
+  recordShort : i < recordsIn (axisTracks s) → length items < tracksIn (axisTracks s) → trackRecord s words items i ≡ refusedRecord short → RecordAnswered s words items i
 
 -- the lent run: 10 for fewer than 2N + 1 records or N item bytes, and then no record is written
 pub data RunAnswered (s : AxisState) (words items : List ℕ) (run : List GridTrack) : Type 0 where
   runAccepted : recordsIn (axisTracks s) ≤ length run → tracksIn (axisTracks s) ≤ length items
       → fillAnswerOf (axisTracks s) (length run) (length items) ≡ record { refusal = noRefusal; count = recordsIn (axisTracks s) } → RunAnswered s words items run
-  runShort : fillAnswerOf (axisTracks s) (length run) (length items) ≡ refusedFill
+  runShort : (length run < recordsIn (axisTracks s)) ⊎ (length items < tracksIn (axisTracks s))
+      → fillAnswerOf (axisTracks s) (length run) (length items) ≡ refusedFill
       → runAfter (axisTracks s) (templateIn s words) (sparesIn s words) items run ≡ run → RunAnswered s words items run
 
 pub record FirstDemand : Type 0 where
