@@ -5,6 +5,7 @@ pub mod entering;
 pub mod naming;
 mod part;
 pub mod placing;
+mod resolving;
 pub mod run;
 pub mod size;
 mod store;

@@ -257,8 +257,8 @@ module _ {M : Type 1} (𝓤 : URA M) (H : Heap 𝓤) (A : Atoms 𝓤) (W : Given
   abbrev II : Fml
   II = ShrSlice (named 1) κI u8 .own yI (iv ∷ [])
 
-  abbrev M0 : Fml
-  M0 = MutSlice (named 2) κR R .own x (s ∷ [])
+  abbrev Lent : Fml
+  Lent = MutSlice (named 2) κR R .own x (s ∷ [])
 
   -- a part of the words
   abbrev IS : RefT (List ℕ) → Val → Fml
@@ -365,8 +365,8 @@ module _ {M : Type 1} (𝓤 : URA M) (H : Heap 𝓤) (A : Atoms 𝓤) (W : Given
   abbrev to-fill : (y₁ y₂ y₃ y₄ y₅ : RefT (List ℕ)) (v₁ v₂ v₃ v₄ v₅ : Val) (tr : AxisTracks) (tv : Val) → Fill 𝓤 H A at-mem run .Ghost
   to-fill y₁ y₂ y₃ y₄ y₅ v₁ v₂ v₃ v₄ v₅ tr tv = (((κR, (κA, (κA, (κA, (κA, (κA, (κI, tt))))))), (qR, (s₁, (s₂, (s₃, (s₄, (s₅, (qI, tt))))))), tt, (x, (y₁, (y₂, (y₃, (y₄, (y₅, (yI, (tr, tt)))))))), (s ∷ [], (v₁ ∷ [], (v₂ ∷ [], (v₃ ∷ [], (v₄ ∷ [], (v₅ ∷ [], (iv ∷ [], (tv ∷ [], tt))))))))), tt)
 
-  goes-fill : (y₁ y₂ y₃ y₄ y₅ : RefT (List ℕ)) (v₁ v₂ v₃ v₄ v₅ : Val) (tr : AxisTracks) (tv : Val) (tr-is : Is Q tr (tv ∷ [])) → ent 𝓤 (⋆ 𝓤 H A (‵ (flft κR qR) ∷ ‵ (flft κA s₁) ∷ ‵ (flft κA s₂) ∷ ‵ (flft κA s₃) ∷ ‵ (flft κA s₄) ∷ ‵ (flft κA s₅) ∷ ‵ (flft κI qI) ∷ ‵ M0 ∷ ‵ (IS y₁ v₁) ∷ ‵ (IS y₂ v₂) ∷ ‵ (IS y₃ v₃) ∷ ‵ (IS y₄ v₄) ∷ ‵ (IS y₅ v₅) ∷ ‵ II ∷ [])) (Fill 𝓤 H A at-mem run .pre (to-fill y₁ y₂ y₃ y₄ y₅ v₁ v₂ v₃ v₄ v₅ tr tv))
-  goes-fill y₁ y₂ y₃ y₄ y₅ v₁ v₂ v₃ v₄ v₅ tr tv tr-is = qed W (‵ (flft κR qR) ∷ ‵ (flft κA s₁) ∷ ‵ (flft κA s₂) ∷ ‵ (flft κA s₃) ∷ ‵ (flft κA s₄) ∷ ‵ (flft κA s₅) ∷ ‵ (flft κI qI) ∷ ‵ M0 ∷ ‵ (IS y₁ v₁) ∷ ‵ (IS y₂ v₂) ∷ ‵ (IS y₃ v₃) ∷ ‵ (IS y₄ v₄) ∷ ‵ (IS y₅ v₅) ∷ ‵ II ∷ []) ∵ nothing ! $ owned ! Q (Is Q) (LL.makes P.the-type P′.the-plain 𝓤 H A) tr (tv ∷ []) tr-is $ fjoin ! $ move ! (14 ∷ 0 ∷ []) $ fjoin ! $ move ! (13 ∷ 0 ∷ []) $ fjoin ! $ move ! (12 ∷ 0 ∷ []) $ fjoin ! $ move ! (11 ∷ 0 ∷ []) $ fjoin ! $ move ! (10 ∷ 0 ∷ []) $ fjoin ! $ move ! (9 ∷ 0 ∷ []) $ fjoin ! $ move ! (8 ∷ 0 ∷ []) $ fjoin ! $ nothing ! $ move ! (8 ∷ 0 ∷ []) $ join ! $ move ! (7 ∷ 0 ∷ []) $ join ! $ move ! (6 ∷ 0 ∷ []) $ join ! $ move ! (5 ∷ 0 ∷ []) $ join ! $ move ! (4 ∷ 0 ∷ []) $ join ! $ move ! (3 ∷ 0 ∷ []) $ join ! $ move ! (2 ∷ 0 ∷ []) $ join ! $ join ! $ nothing ! $ move ! (1 ∷ 0 ∷ []) $ done !
+  goes-fill : (y₁ y₂ y₃ y₄ y₅ : RefT (List ℕ)) (v₁ v₂ v₃ v₄ v₅ : Val) (tr : AxisTracks) (tv : Val) (tr-is : Is Q tr (tv ∷ [])) → ent 𝓤 (⋆ 𝓤 H A (‵ (flft κR qR) ∷ ‵ (flft κA s₁) ∷ ‵ (flft κA s₂) ∷ ‵ (flft κA s₃) ∷ ‵ (flft κA s₄) ∷ ‵ (flft κA s₅) ∷ ‵ (flft κI qI) ∷ ‵ Lent ∷ ‵ (IS y₁ v₁) ∷ ‵ (IS y₂ v₂) ∷ ‵ (IS y₃ v₃) ∷ ‵ (IS y₄ v₄) ∷ ‵ (IS y₅ v₅) ∷ ‵ II ∷ [])) (Fill 𝓤 H A at-mem run .pre (to-fill y₁ y₂ y₃ y₄ y₅ v₁ v₂ v₃ v₄ v₅ tr tv))
+  goes-fill y₁ y₂ y₃ y₄ y₅ v₁ v₂ v₃ v₄ v₅ tr tv tr-is = qed W (‵ (flft κR qR) ∷ ‵ (flft κA s₁) ∷ ‵ (flft κA s₂) ∷ ‵ (flft κA s₃) ∷ ‵ (flft κA s₄) ∷ ‵ (flft κA s₅) ∷ ‵ (flft κI qI) ∷ ‵ Lent ∷ ‵ (IS y₁ v₁) ∷ ‵ (IS y₂ v₂) ∷ ‵ (IS y₃ v₃) ∷ ‵ (IS y₄ v₄) ∷ ‵ (IS y₅ v₅) ∷ ‵ II ∷ []) ∵ nothing ! $ owned ! Q (Is Q) (LL.makes P.the-type P′.the-plain 𝓤 H A) tr (tv ∷ []) tr-is $ fjoin ! $ move ! (14 ∷ 0 ∷ []) $ fjoin ! $ move ! (13 ∷ 0 ∷ []) $ fjoin ! $ move ! (12 ∷ 0 ∷ []) $ fjoin ! $ move ! (11 ∷ 0 ∷ []) $ fjoin ! $ move ! (10 ∷ 0 ∷ []) $ fjoin ! $ move ! (9 ∷ 0 ∷ []) $ fjoin ! $ move ! (8 ∷ 0 ∷ []) $ fjoin ! $ nothing ! $ move ! (8 ∷ 0 ∷ []) $ join ! $ move ! (7 ∷ 0 ∷ []) $ join ! $ move ! (6 ∷ 0 ∷ []) $ join ! $ move ! (5 ∷ 0 ∷ []) $ join ! $ move ! (4 ∷ 0 ∷ []) $ join ! $ move ! (3 ∷ 0 ∷ []) $ join ! $ move ! (2 ∷ 0 ∷ []) $ join ! $ join ! $ nothing ! $ move ! (1 ∷ 0 ∷ []) $ done !
 
   p-typed : T (hasTy E′.mir ev) × WT ev
   p-typed = LL.lawful E.the-type E′.the-laws 𝓤 H A W .typed p _ p-is .0
@@ -389,7 +389,7 @@ module _ {M : Type 1} (𝓤 : URA M) (H : Heap 𝓤) (A : Atoms 𝓤) (W : Given
   module _ (C : Calls 𝓤 H) (Λ : Loops 𝓤 H) (fm : FmC 𝓤 H (W .laws) C) (known-state-in : Triple 𝓤 (C #state-in) (StateIn 𝓤 H A at-mem run)) (known-words-in : Triple 𝓤 (C #words-in) (WordsIn 𝓤 H A at-mem run)) (known-components-of : Triple 𝓤 (C #components-of) (Components 𝓤 H A at-mem run)) (known-minimums-of : Triple 𝓤 (C #minimums-of) (Minimums 𝓤 H A at-mem run)) (known-maximums-of : Triple 𝓤 (C #maximums-of) (Maximums 𝓤 H A at-mem run)) (known-spare-minimums-of : Triple 𝓤 (C #spare-minimums-of) (SpareMinimums 𝓤 H A at-mem run)) (known-spare-maximums-of : Triple 𝓤 (C #spare-maximums-of) (SpareMaximums 𝓤 H A at-mem run)) (known-axis-tracks : Triple 𝓤 (C #axis-tracks) (TracksOf 𝓤 H A at-mem run)) (known-fill : Triple 𝓤 (C #fill) (Fill 𝓤 H A at-mem run))
       (l₀ l₁ l₂ l₃ l₄ l₅ l₆ l₇ l₈ l₉ l₁₀ l₁₁ l₁₂ l₁₃ l₁₄ l₁₅ l₁₆ : ℕ) where
     abbrev Γ : List (Item 𝓤)
-    Γ = ‵ (flft κA qA) ∷ ‵ (flft κI qI) ∷ ‵ (flft κR qR) ∷ ‵ IC ∷ ‵ IR ∷ ‵ II ∷ ‵ M0 ∷ []
+    Γ = ‵ (flft κA qA) ∷ ‵ (flft κI qI) ∷ ‵ (flft κR qR) ∷ ‵ IC ∷ ‵ IR ∷ ‵ II ∷ ‵ Lent ∷ []
 
     abbrev En : Env 𝓤 H
     En = EnvL 𝓤 H A W C Λ F′.mir E′.mir refT X′.mir itemsT recsT U′.mir wordsT P′.mir ptrT sliceT body.t-1 ev cv rv xv iv s p-typed c-typed r-typed x-typed i-typed s-typed Γ Post l₀ l₁ l₂ l₃ l₄ l₅ l₆ l₇ l₈ l₉ l₁₀ l₁₁ l₁₂ l₁₃ l₁₄ l₁₅ l₁₆
@@ -398,84 +398,93 @@ module _ {M : Type 1} (𝓤 : URA M) (H : Heap 𝓤) (A : Atoms 𝓤) (W : Given
     abbrev Locals : Item 𝓤 → Item 𝓤 → Item 𝓤 → Item 𝓤 → Item 𝓤 → Item 𝓤 → Item 𝓤 → Item 𝓤 → Item 𝓤 → Item 𝓤 → List (Item 𝓤)
     Locals i₇ i₈ i₉ i₁₀ i₁₁ i₁₂ i₁₃ i₁₄ i₁₅ i₁₆ = i₁₆ ∷ ‵ (fdies sliceT l₁₆) ∷ i₁₅ ∷ ‵ (fdies ptrT l₁₅) ∷ i₁₄ ∷ ‵ (fdies P′.mir l₁₄) ∷ i₁₃ ∷ ‵ (fdies wordsT l₁₃) ∷ i₁₂ ∷ ‵ (fdies wordsT l₁₂) ∷ i₁₁ ∷ ‵ (fdies wordsT l₁₁) ∷ i₁₀ ∷ ‵ (fdies wordsT l₁₀) ∷ i₉ ∷ ‵ (fdies wordsT l₉) ∷ i₈ ∷ ‵ (fdies wordsT l₈) ∷ i₇ ∷ ‵ (fdies U′.mir l₇) ∷ ‵ (fat fullShare recsT l₆ 0 s) ∷ ‵ (fdies recsT l₆) ∷ ‵ (fat fullShare itemsT l₅ 0 iv) ∷ ‵ (fdies itemsT l₅) ∷ ‵ (fat fullShare X′.mir l₄ 0 xv) ∷ ‵ (fdies X′.mir l₄) ∷ ‵ (fat fullShare refT l₃ 0 rv) ∷ ‵ (fdies refT l₃) ∷ ‵ (fat fullShare refT l₂ 0 cv) ∷ ‵ (fdies refT l₂) ∷ ‵ (fat fullShare E′.mir l₁ 0 ev) ∷ ‵ (fdies E′.mir l₁) ∷ ‵ (froom F′.mir l₀ 0) ∷ ‵ (fdies F′.mir l₀) ∷ []
 
-    stage9 : (g : AxisState) (gv : Val) (g-is : Is K g (gv ∷ [])) (e₀ : g ≡ stateIn p ax) (w : RefT (List ℕ)) (wv : Val) (ew : w .now ≡ ofAxis ax (yC .now) (yR .now)) (y₁ : RefT (List ℕ)) (v₁ : Val) (e₁ : y₁ .now ≡ partOf (w .now) 0 (g .components)) (y₂ : RefT (List ℕ)) (v₂ : Val) (e₂ : y₂ .now ≡ partOf (w .now) 64 (g .tracks)) (y₃ : RefT (List ℕ)) (v₃ : Val) (e₃ : y₃ .now ≡ partOf (w .now) 2112 (g .tracks)) (y₄ : RefT (List ℕ)) (v₄ : Val) (e₄ : y₄ .now ≡ partOf (w .now) 4160 (g .spares)) (y₅ : RefT (List ℕ)) (v₅ : Val) (e₅ : y₅ .now ≡ partOf (w .now) 4224 (g .spares)) (tr : AxisTracks) (tv : Val) (tr-is : Is Q tr (tv ∷ [])) (et : tr ≡ axisTracks g) → ent 𝓤 (⋆ 𝓤 H A (‵ (flft κA qA) ∷ ‵ (flft κI qI) ∷ ‵ (flft κR qR) ∷ ‵ II ∷ ‵ M0 ∷ ‵ (IS y₁ v₁) ∷ ‵ (IS y₂ v₂) ∷ ‵ (IS y₃ v₃) ∷ ‵ (IS y₄ v₄) ∷ ‵ (IS y₅ v₅) ∷ Locals (‵ (fat fullShare U′.mir l₇ 0 gv)) (‵ (fat fullShare wordsT l₈ 0 wv)) (‵ (fat fullShare wordsT l₉ 0 v₁)) (‵ (fat fullShare wordsT l₁₀ 0 v₂)) (‵ (fat fullShare wordsT l₁₁ 0 v₃)) (‵ (fat fullShare wordsT l₁₂ 0 v₄)) (‵ (fat fullShare wordsT l₁₃ 0 v₅)) (‵ (fat fullShare P′.mir l₁₄ 0 tv)) (‵ (froom ptrT l₁₅ 0)) (‵ (froom sliceT l₁₆ 0)))) (Wp 𝓤 H C Λ En body.t-9 (atReturn 𝓤 H En Post))
-    stage9 g gv g-is e₀ w wv ew y₁ v₁ e₁ y₂ v₂ e₂ y₃ v₃ e₃ y₄ v₄ e₄ y₅ v₅ e₅ tr tv tr-is et =
-        qed W (‵ (flft κA qA) ∷ ‵ (flft κI qI) ∷ ‵ (flft κR qR) ∷ ‵ II ∷ ‵ M0 ∷ ‵ (IS y₁ v₁) ∷ ‵ (IS y₂ v₂) ∷ ‵ (IS y₃ v₃) ∷ ‵ (IS y₄ v₄) ∷ ‵ (IS y₅ v₅) ∷ Locals (‵ (fat fullShare U′.mir l₇ 0 gv)) (‵ (fat fullShare wordsT l₈ 0 wv)) (‵ (fat fullShare wordsT l₉ 0 v₁)) (‵ (fat fullShare wordsT l₁₀ 0 v₂)) (‵ (fat fullShare wordsT l₁₁ 0 v₃)) (‵ (fat fullShare wordsT l₁₂ 0 v₄)) (‵ (fat fullShare wordsT l₁₃ 0 v₅)) (‵ (fat fullShare P′.mir l₁₄ 0 tv)) (‵ (froom ptrT l₁₅ 0)) (‵ (froom sliceT l₁₆ 0))) ∵ exec ! C Λ En body.t-9 (atRet En Post) $
+    -- the run is lent on, and what is left is given back
+    at-run : (g : AxisState) (gv : Val) (g-is : Is K g (gv ∷ [])) (e₀ : g ≡ stateIn p ax) (w : RefT (List ℕ)) (wv : Val) (ew : w .now ≡ ofAxis ax (yC .now) (yR .now)) (y₁ : RefT (List ℕ)) (v₁ : Val) (e₁ : y₁ .now ≡ partOf (w .now) 0 (g .components)) (y₂ : RefT (List ℕ)) (v₂ : Val) (e₂ : y₂ .now ≡ partOf (w .now) 64 (g .tracks)) (y₃ : RefT (List ℕ)) (v₃ : Val) (e₃ : y₃ .now ≡ partOf (w .now) 2112 (g .tracks)) (y₄ : RefT (List ℕ)) (v₄ : Val) (e₄ : y₄ .now ≡ partOf (w .now) 4160 (g .spares)) (y₅ : RefT (List ℕ)) (v₅ : Val) (e₅ : y₅ .now ≡ partOf (w .now) 4224 (g .spares)) (tr : AxisTracks) (tv : Val) (tr-is : Is Q tr (tv ∷ [])) (et : tr ≡ axisTracks g) → ent 𝓤 (⋆ 𝓤 H A (‵ (flft κA qA) ∷ ‵ (flft κI qI) ∷ ‵ (flft κR qR) ∷ ‵ II ∷ ‵ Lent ∷ ‵ (IS y₁ v₁) ∷ ‵ (IS y₂ v₂) ∷ ‵ (IS y₃ v₃) ∷ ‵ (IS y₄ v₄) ∷ ‵ (IS y₅ v₅) ∷ Locals (‵ (fat fullShare U′.mir l₇ 0 gv)) (‵ (fat fullShare wordsT l₈ 0 wv)) (‵ (fat fullShare wordsT l₉ 0 v₁)) (‵ (fat fullShare wordsT l₁₀ 0 v₂)) (‵ (fat fullShare wordsT l₁₁ 0 v₃)) (‵ (fat fullShare wordsT l₁₂ 0 v₄)) (‵ (fat fullShare wordsT l₁₃ 0 v₅)) (‵ (fat fullShare P′.mir l₁₄ 0 tv)) (‵ (froom ptrT l₁₅ 0)) (‵ (froom sliceT l₁₆ 0)))) (Wp 𝓤 H C Λ En body.t-9 (atReturn 𝓤 H En Post))
+    at-run g gv g-is e₀ w wv ew y₁ v₁ e₁ y₂ v₂ e₂ y₃ v₃ e₃ y₄ v₄ e₄ y₅ v₅ e₅ tr tv tr-is et =
+        qed W (‵ (flft κA qA) ∷ ‵ (flft κI qI) ∷ ‵ (flft κR qR) ∷ ‵ II ∷ ‵ Lent ∷ ‵ (IS y₁ v₁) ∷ ‵ (IS y₂ v₂) ∷ ‵ (IS y₃ v₃) ∷ ‵ (IS y₄ v₄) ∷ ‵ (IS y₅ v₅) ∷ Locals (‵ (fat fullShare U′.mir l₇ 0 gv)) (‵ (fat fullShare wordsT l₈ 0 wv)) (‵ (fat fullShare wordsT l₉ 0 v₁)) (‵ (fat fullShare wordsT l₁₀ 0 v₂)) (‵ (fat fullShare wordsT l₁₁ 0 v₃)) (‵ (fat fullShare wordsT l₁₂ 0 v₄)) (‵ (fat fullShare wordsT l₁₃ 0 v₅)) (‵ (fat fullShare P′.mir l₁₄ 0 tv)) (‵ (froom ptrT l₁₅ 0)) (‵ (froom sliceT l₁₆ 0))) ∵ exec ! C Λ En body.t-9 (atRet En Post) $
         assigns ! (addr ! (from ! (fld ! refl (hop ! (look-in ! 30 (sub ! 0 refl (whole !))) (stop !))))) (from ! (stop !)) (init ! 12 refl (tt, tt)) $ assigns ! (agg ! (and-then ! (load ! (from ! (stop !)) (look ! 12 refl)) (and-then ! (load ! (from ! (fld ! refl (stop !))) (look-in ! 30 (sub ! 1 refl (whole !)))) (no-more !)))) (from ! (stop !)) (init ! 10 refl (tt, (tt, (record { fits = room .0 }, tt)))) $ move ! (0 ∷ []) $ use1 W (‵ (flft κA s₁) ⊛ ‵ (flft κA t₁)) (W .lfts .lft-split κA qA) $ split ! $ move ! (1 ∷ []) $ use1 W (‵ (flft κA s₂) ⊛ ‵ (flft κA t₂)) (W .lfts .lft-split κA t₁) $ split ! $ move ! (1 ∷ []) $ use1 W (‵ (flft κA s₃) ⊛ ‵ (flft κA t₃)) (W .lfts .lft-split κA t₂) $ split ! $ move ! (1 ∷ []) $ use1 W (‵ (flft κA s₄) ⊛ ‵ (flft κA s₅)) (W .lfts .lft-split κA t₃) $ split ! $ move ! (13 ∷ 7 ∷ []) $ join ! $ move ! (12 ∷ 0 ∷ []) $ join ! $ move ! (11 ∷ 0 ∷ []) $ join ! $ move ! (10 ∷ 0 ∷ []) $ join ! $ move ! (9 ∷ 0 ∷ []) $ join ! $ move ! (8 ∷ 0 ∷ []) $ join ! $ move ! (6 ∷ 0 ∷ []) $ join ! $ move ! (2 ∷ 0 ∷ []) $ join ! $ move ! (1 ∷ 0 ∷ []) $ join ! $ move ! (1 ∷ 0 ∷ []) $ join ! $ move ! (1 ∷ 0 ∷ []) $ join ! $ move ! (1 ∷ 0 ∷ []) $ join ! $ move ! (1 ∷ 0 ∷ []) $ join ! $ use1 W (raw (Fill 𝓤 H A at-mem run .pre (to-fill y₁ y₂ y₃ y₄ y₅ v₁ v₂ v₃ v₄ v₅ tr tv))) (goes-fill y₁ y₂ y₃ y₄ y₅ v₁ v₂ v₃ v₄ v₅ tr tv tr-is) $ calls-at ! fm (Fill 𝓤 H A at-mem run) known-fill (to-fill y₁ y₂ y₃ y₄ y₅ v₁ v₂ v₃ v₄ v₅ tr tv) (and-then ! (load ! (from ! (stop !)) (look ! 1 refl)) (and-then ! (load ! (from ! (stop !)) (look ! 15 refl)) (and-then ! (load ! (from ! (stop !)) (look ! 13 refl)) (and-then ! (load ! (from ! (stop !)) (look ! 11 refl)) (and-then ! (load ! (from ! (stop !)) (look ! 9 refl)) (and-then ! (load ! (from ! (stop !)) (look ! 7 refl)) (and-then ! (load ! (from ! (stop !)) (look ! 23 refl)) (and-then ! (load ! (from ! (stop !)) (look ! 5 refl)) (no-more !))))))))) (λ v.
         use1 W (later (some (λ (u : FillAnswer). ((‵ (flft κR qR) ⊛ (‵ (flft κA s₁) ⊛ (‵ (flft κA s₂) ⊛ (‵ (flft κA s₃) ⊛ (‵ (flft κA s₄) ⊛ (‵ (flft κA s₅) ⊛ (‵ (flft κI qI) ⊛ ‵ ftrue))))))) ⊛ ‵ (S .own u (v ∷ []))) ⊛ raw (ensured 𝓤 H A fill.ended (fill.clauses 𝓤 H A at-mem run) (κR, (κA, (κA, (κA, (κA, (κA, (κI, tt))))))) (x, (y₁, (y₂, (y₃, (y₄, (y₅, (yI, (tr, tt)))))))) tt u)))) (id⊢ 𝓤 _) $ await ! tt $ pick ! (λ u.
         split ! $ move ! (1 ∷ []) $ use1 W (some (λ (ws : List GridTrack × (Unit {0} × (Unit {0} × (Unit {0} × (Unit {0} × (Unit {0} × (Unit {0} × (Unit {0} × Unit {0})))))))). ‵ (lasts fill.ended (κR, (κA, (κA, (κA, (κA, (κA, (κI, tt))))))) (x, (y₁, (y₂, (y₃, (y₄, (y₅, (yI, (tr, tt)))))))) ws) ⊛ raw (fact 𝓤 ((u ≡ fillAnswerOf tr (length xs) (length (yI .now))) × (ws .0 ≡ runAfter tr (templateOf (y₁ .now) (y₂ .now) (y₃ .now)) (sparesOf (y₄ .now) (y₅ .now)) (yI .now) xs))))) (id⊢ 𝓤 _) $ pick ! (λ ws.
         split ! $ move ! (1 ∷ []) $ heard ! ((u ≡ fillAnswerOf tr (length xs) (length (yI .now))) × (ws .0 ≡ runAfter tr (templateOf (y₁ .now) (y₂ .now) (y₃ .now)) (sparesOf (y₄ .now) (y₅ .now)) (yI .now) xs)) (λ e. fsplit ! $ fsplit ! $ move ! (1 ∷ []) $ feqL ! (λ len. move ! (1 ∷ []) $ drop ! $ move ! (1 ∷ []) $ split ! $ move ! (1 ∷ []) $ peeks ! S (Is S) (shows 𝓤 H A S) u (v ∷ []) (λ is. drop ! $ move ! (0 ∷ []) $ split ! $ move ! (1 ∷ []) $ split ! $ move ! (1 ∷ []) $ split ! $ move ! (1 ∷ []) $ split ! $ move ! (1 ∷ []) $ split ! $ move ! (1 ∷ []) $ split ! $ move ! (1 ∷ []) $ split ! $ move ! (1 ∷ []) $ drop ! $ move ! (2 ∷ 1 ∷ []) $ use2 W (‵ (flft κA t₃)) (W .lfts .lft-join κA t₃) $ move ! (2 ∷ 0 ∷ []) $ use2 W (‵ (flft κA t₂)) (W .lfts .lft-join κA t₂) $ move ! (2 ∷ 0 ∷ []) $ use2 W (‵ (flft κA t₁)) (W .lfts .lft-join κA t₁) $ move ! (2 ∷ 0 ∷ []) $ use2 W (‵ (flft κA qA)) (W .lfts .lft-join κA qA) $ land ! (from ! (stop !)) (init ! 36 refl (LL.lawful F.the-type F′.the-laws 𝓤 H A W .typed u _ is .0)) $ returns ! (look ! 36 refl) $ forget ! 36 refl $ forget ! 34 refl $ forget ! 32 refl $ forget ! 30 refl $ forget ! 28 refl $ forget ! 26 refl $ forget ! 24 refl $ forget ! 22 refl $ forget ! 20 refl $ forget ! 18 refl $ forget ! 16 refl $ forget ! 14 refl $ forget ! 12 refl $ forget ! 10 refl $ forget ! 8 refl $ forget ! 6 refl $ forget ! 4 refl $ move ! (36 ∷ 37 ∷ []) $ free1 ! $ move ! (34 ∷ 35 ∷ []) $ free1 ! $ move ! (32 ∷ 33 ∷ []) $ free1 ! $ move ! (30 ∷ 31 ∷ []) $ free1 ! $ move ! (28 ∷ 29 ∷ []) $ free1 ! $ move ! (26 ∷ 27 ∷ []) $ free1 ! $ move ! (24 ∷ 25 ∷ []) $ free1 ! $ move ! (22 ∷ 23 ∷ []) $ free1 ! $ move ! (20 ∷ 21 ∷ []) $ free1 ! $ move ! (18 ∷ 19 ∷ []) $ free1 ! $ move ! (16 ∷ 17 ∷ []) $ free1 ! $ move ! (14 ∷ 15 ∷ []) $ free1 ! $ move ! (12 ∷ 13 ∷ []) $ free1 ! $ move ! (10 ∷ 11 ∷ []) $ free1 ! $ move ! (8 ∷ 9 ∷ []) $ free1 ! $ move ! (6 ∷ 7 ∷ []) $ free1 ! $ move ! (4 ∷ 5 ∷ []) $ free1 ! $ free0 ! $ move ! (0 ∷ 1 ∷ 2 ∷ 3 ∷ []) $ by ! (exits u v (ws .0) len (run-of p ax (yC .now) (yR .now) (yI .now) xs g (w .now) e₀ ew (y₁ .now) (y₂ .now) (y₃ .now) (y₄ .now) (y₅ .now) e₁ e₂ e₃ e₄ e₅ tr et u (ws .0) (e .0) (e .1)) is)))))))
 
-    stage8 : (g : AxisState) (gv : Val) (g-is : Is K g (gv ∷ [])) (e₀ : g ≡ stateIn p ax) (w : RefT (List ℕ)) (wv : Val) (ew : w .now ≡ ofAxis ax (yC .now) (yR .now)) (y₁ : RefT (List ℕ)) (v₁ : Val) (e₁ : y₁ .now ≡ partOf (w .now) 0 (g .components)) (y₂ : RefT (List ℕ)) (v₂ : Val) (e₂ : y₂ .now ≡ partOf (w .now) 64 (g .tracks)) (y₃ : RefT (List ℕ)) (v₃ : Val) (e₃ : y₃ .now ≡ partOf (w .now) 2112 (g .tracks)) (y₄ : RefT (List ℕ)) (v₄ : Val) (e₄ : y₄ .now ≡ partOf (w .now) 4160 (g .spares)) (y₅ : RefT (List ℕ)) (v₅ : Val) (e₅ : y₅ .now ≡ partOf (w .now) 4224 (g .spares)) → ent 𝓤 (⋆ 𝓤 H A (‵ (flft κA qA) ∷ ‵ (flft κI qI) ∷ ‵ (flft κR qR) ∷ ‵ II ∷ ‵ M0 ∷ ‵ (IS y₁ v₁) ∷ ‵ (IS y₂ v₂) ∷ ‵ (IS y₃ v₃) ∷ ‵ (IS y₄ v₄) ∷ ‵ (IS y₅ v₅) ∷ Locals (‵ (fat fullShare U′.mir l₇ 0 gv)) (‵ (fat fullShare wordsT l₈ 0 wv)) (‵ (fat fullShare wordsT l₉ 0 v₁)) (‵ (fat fullShare wordsT l₁₀ 0 v₂)) (‵ (fat fullShare wordsT l₁₁ 0 v₃)) (‵ (fat fullShare wordsT l₁₂ 0 v₄)) (‵ (fat fullShare wordsT l₁₃ 0 v₅)) (‵ (froom P′.mir l₁₄ 0)) (‵ (froom ptrT l₁₅ 0)) (‵ (froom sliceT l₁₆ 0)))) (Wp 𝓤 H C Λ En body.t-8 (atReturn 𝓤 H En Post))
-    stage8 g gv g-is e₀ w wv ew y₁ v₁ e₁ y₂ v₂ e₂ y₃ v₃ e₃ y₄ v₄ e₄ y₅ v₅ e₅ =
-        qed W (‵ (flft κA qA) ∷ ‵ (flft κI qI) ∷ ‵ (flft κR qR) ∷ ‵ II ∷ ‵ M0 ∷ ‵ (IS y₁ v₁) ∷ ‵ (IS y₂ v₂) ∷ ‵ (IS y₃ v₃) ∷ ‵ (IS y₄ v₄) ∷ ‵ (IS y₅ v₅) ∷ Locals (‵ (fat fullShare U′.mir l₇ 0 gv)) (‵ (fat fullShare wordsT l₈ 0 wv)) (‵ (fat fullShare wordsT l₉ 0 v₁)) (‵ (fat fullShare wordsT l₁₀ 0 v₂)) (‵ (fat fullShare wordsT l₁₁ 0 v₃)) (‵ (fat fullShare wordsT l₁₂ 0 v₄)) (‵ (fat fullShare wordsT l₁₃ 0 v₅)) (‵ (froom P′.mir l₁₄ 0)) (‵ (froom ptrT l₁₅ 0)) (‵ (froom sliceT l₁₆ 0))) ∵ exec ! C Λ En body.t-8 (atRet En Post) $
+    -- what the records ask of the axis
+    at-tracks : (g : AxisState) (gv : Val) (g-is : Is K g (gv ∷ [])) (e₀ : g ≡ stateIn p ax) (w : RefT (List ℕ)) (wv : Val) (ew : w .now ≡ ofAxis ax (yC .now) (yR .now)) (y₁ : RefT (List ℕ)) (v₁ : Val) (e₁ : y₁ .now ≡ partOf (w .now) 0 (g .components)) (y₂ : RefT (List ℕ)) (v₂ : Val) (e₂ : y₂ .now ≡ partOf (w .now) 64 (g .tracks)) (y₃ : RefT (List ℕ)) (v₃ : Val) (e₃ : y₃ .now ≡ partOf (w .now) 2112 (g .tracks)) (y₄ : RefT (List ℕ)) (v₄ : Val) (e₄ : y₄ .now ≡ partOf (w .now) 4160 (g .spares)) (y₅ : RefT (List ℕ)) (v₅ : Val) (e₅ : y₅ .now ≡ partOf (w .now) 4224 (g .spares)) → ent 𝓤 (⋆ 𝓤 H A (‵ (flft κA qA) ∷ ‵ (flft κI qI) ∷ ‵ (flft κR qR) ∷ ‵ II ∷ ‵ Lent ∷ ‵ (IS y₁ v₁) ∷ ‵ (IS y₂ v₂) ∷ ‵ (IS y₃ v₃) ∷ ‵ (IS y₄ v₄) ∷ ‵ (IS y₅ v₅) ∷ Locals (‵ (fat fullShare U′.mir l₇ 0 gv)) (‵ (fat fullShare wordsT l₈ 0 wv)) (‵ (fat fullShare wordsT l₉ 0 v₁)) (‵ (fat fullShare wordsT l₁₀ 0 v₂)) (‵ (fat fullShare wordsT l₁₁ 0 v₃)) (‵ (fat fullShare wordsT l₁₂ 0 v₄)) (‵ (fat fullShare wordsT l₁₃ 0 v₅)) (‵ (froom P′.mir l₁₄ 0)) (‵ (froom ptrT l₁₅ 0)) (‵ (froom sliceT l₁₆ 0)))) (Wp 𝓤 H C Λ En body.t-8 (atReturn 𝓤 H En Post))
+    at-tracks g gv g-is e₀ w wv ew y₁ v₁ e₁ y₂ v₂ e₂ y₃ v₃ e₃ y₄ v₄ e₄ y₅ v₅ e₅ =
+        qed W (‵ (flft κA qA) ∷ ‵ (flft κI qI) ∷ ‵ (flft κR qR) ∷ ‵ II ∷ ‵ Lent ∷ ‵ (IS y₁ v₁) ∷ ‵ (IS y₂ v₂) ∷ ‵ (IS y₃ v₃) ∷ ‵ (IS y₄ v₄) ∷ ‵ (IS y₅ v₅) ∷ Locals (‵ (fat fullShare U′.mir l₇ 0 gv)) (‵ (fat fullShare wordsT l₈ 0 wv)) (‵ (fat fullShare wordsT l₉ 0 v₁)) (‵ (fat fullShare wordsT l₁₀ 0 v₂)) (‵ (fat fullShare wordsT l₁₁ 0 v₃)) (‵ (fat fullShare wordsT l₁₂ 0 v₄)) (‵ (fat fullShare wordsT l₁₃ 0 v₅)) (‵ (froom P′.mir l₁₄ 0)) (‵ (froom ptrT l₁₅ 0)) (‵ (froom sliceT l₁₆ 0))) ∵ exec ! C Λ En body.t-8 (atRet En Post) $
         use0 W (raw (TracksOf 𝓤 H A at-mem run .pre (to-axis-tracks g gv))) (goes-axis-tracks g gv g-is) $ calls-at ! fm (TracksOf 𝓤 H A at-mem run) known-axis-tracks (to-axis-tracks g gv) (and-then ! (load ! (from ! (stop !)) (look ! 29 refl)) (no-more !)) (λ tv.
         use1 W (later (some (λ (r : AxisTracks). (‵ ftrue ⊛ ‵ (Q .own r (tv ∷ []))) ⊛ raw (ensured 𝓤 H A axis-tracks.ended (axis-tracks.clauses 𝓤 H A at-mem run) tt (g, tt) tt r)))) (id⊢ 𝓤 _) $ await ! tt $ pick ! (λ tr.
-        split ! $ move ! (1 ∷ []) $ use1 W (raw (fact 𝓤 (tr ≡ axisTracks g))) (tracks-told 𝓤 H A at-mem run g tr) $ heard ! (tr ≡ axisTracks g) (λ et. split ! $ drop ! $ peeks ! Q (Is Q) (shows 𝓤 H A Q) tr (tv ∷ []) (λ tr-is. drop ! $ land ! (from ! (stop !)) (init ! 14 refl (LL.lawful P.the-type P′.the-laws 𝓤 H A W .typed tr _ tr-is .0)) $ by ! (stage9 g gv g-is e₀ w wv ew y₁ v₁ e₁ y₂ v₂ e₂ y₃ v₃ e₃ y₄ v₄ e₄ y₅ v₅ e₅ tr tv tr-is et)))))
+        split ! $ move ! (1 ∷ []) $ use1 W (raw (fact 𝓤 (tr ≡ axisTracks g))) (tracks-told 𝓤 H A at-mem run g tr) $ heard ! (tr ≡ axisTracks g) (λ et. split ! $ drop ! $ peeks ! Q (Is Q) (shows 𝓤 H A Q) tr (tv ∷ []) (λ tr-is. drop ! $ land ! (from ! (stop !)) (init ! 14 refl (LL.lawful P.the-type P′.the-laws 𝓤 H A W .typed tr _ tr-is .0)) $ by ! (at-run g gv g-is e₀ w wv ew y₁ v₁ e₁ y₂ v₂ e₂ y₃ v₃ e₃ y₄ v₄ e₄ y₅ v₅ e₅ tr tv tr-is et)))))
 
-    stage7 : (g : AxisState) (gv : Val) (g-is : Is K g (gv ∷ [])) (e₀ : g ≡ stateIn p ax) (w : RefT (List ℕ)) (wv : Val) (ew : w .now ≡ ofAxis ax (yC .now) (yR .now)) (y₁ : RefT (List ℕ)) (v₁ : Val) (e₁ : y₁ .now ≡ partOf (w .now) 0 (g .components)) (y₂ : RefT (List ℕ)) (v₂ : Val) (e₂ : y₂ .now ≡ partOf (w .now) 64 (g .tracks)) (y₃ : RefT (List ℕ)) (v₃ : Val) (e₃ : y₃ .now ≡ partOf (w .now) 2112 (g .tracks)) (y₄ : RefT (List ℕ)) (v₄ : Val) (e₄ : y₄ .now ≡ partOf (w .now) 4160 (g .spares)) → ent 𝓤 (⋆ 𝓤 H A (‵ (flft κA qA) ∷ ‵ (flft κI qI) ∷ ‵ (flft κR qR) ∷ ‵ (IS w wv) ∷ ‵ II ∷ ‵ M0 ∷ ‵ (IS y₁ v₁) ∷ ‵ (IS y₂ v₂) ∷ ‵ (IS y₃ v₃) ∷ ‵ (IS y₄ v₄) ∷ Locals (‵ (fat fullShare U′.mir l₇ 0 gv)) (‵ (fat fullShare wordsT l₈ 0 wv)) (‵ (fat fullShare wordsT l₉ 0 v₁)) (‵ (fat fullShare wordsT l₁₀ 0 v₂)) (‵ (fat fullShare wordsT l₁₁ 0 v₃)) (‵ (fat fullShare wordsT l₁₂ 0 v₄)) (‵ (froom wordsT l₁₃ 0)) (‵ (froom P′.mir l₁₄ 0)) (‵ (froom ptrT l₁₅ 0)) (‵ (froom sliceT l₁₆ 0)))) (Wp 𝓤 H C Λ En body.t-7 (atReturn 𝓤 H En Post))
-    stage7 g gv g-is e₀ w wv ew y₁ v₁ e₁ y₂ v₂ e₂ y₃ v₃ e₃ y₄ v₄ e₄ =
-        qed W (‵ (flft κA qA) ∷ ‵ (flft κI qI) ∷ ‵ (flft κR qR) ∷ ‵ (IS w wv) ∷ ‵ II ∷ ‵ M0 ∷ ‵ (IS y₁ v₁) ∷ ‵ (IS y₂ v₂) ∷ ‵ (IS y₃ v₃) ∷ ‵ (IS y₄ v₄) ∷ Locals (‵ (fat fullShare U′.mir l₇ 0 gv)) (‵ (fat fullShare wordsT l₈ 0 wv)) (‵ (fat fullShare wordsT l₉ 0 v₁)) (‵ (fat fullShare wordsT l₁₀ 0 v₂)) (‵ (fat fullShare wordsT l₁₁ 0 v₃)) (‵ (fat fullShare wordsT l₁₂ 0 v₄)) (‵ (froom wordsT l₁₃ 0)) (‵ (froom P′.mir l₁₄ 0)) (‵ (froom ptrT l₁₅ 0)) (‵ (froom sliceT l₁₆ 0))) ∵ exec ! C Λ En body.t-7 (atRet En Post) $
+    -- the maximum spare sizes
+    at-spare-maximums : (g : AxisState) (gv : Val) (g-is : Is K g (gv ∷ [])) (e₀ : g ≡ stateIn p ax) (w : RefT (List ℕ)) (wv : Val) (ew : w .now ≡ ofAxis ax (yC .now) (yR .now)) (y₁ : RefT (List ℕ)) (v₁ : Val) (e₁ : y₁ .now ≡ partOf (w .now) 0 (g .components)) (y₂ : RefT (List ℕ)) (v₂ : Val) (e₂ : y₂ .now ≡ partOf (w .now) 64 (g .tracks)) (y₃ : RefT (List ℕ)) (v₃ : Val) (e₃ : y₃ .now ≡ partOf (w .now) 2112 (g .tracks)) (y₄ : RefT (List ℕ)) (v₄ : Val) (e₄ : y₄ .now ≡ partOf (w .now) 4160 (g .spares)) → ent 𝓤 (⋆ 𝓤 H A (‵ (flft κA qA) ∷ ‵ (flft κI qI) ∷ ‵ (flft κR qR) ∷ ‵ (IS w wv) ∷ ‵ II ∷ ‵ Lent ∷ ‵ (IS y₁ v₁) ∷ ‵ (IS y₂ v₂) ∷ ‵ (IS y₃ v₃) ∷ ‵ (IS y₄ v₄) ∷ Locals (‵ (fat fullShare U′.mir l₇ 0 gv)) (‵ (fat fullShare wordsT l₈ 0 wv)) (‵ (fat fullShare wordsT l₉ 0 v₁)) (‵ (fat fullShare wordsT l₁₀ 0 v₂)) (‵ (fat fullShare wordsT l₁₁ 0 v₃)) (‵ (fat fullShare wordsT l₁₂ 0 v₄)) (‵ (froom wordsT l₁₃ 0)) (‵ (froom P′.mir l₁₄ 0)) (‵ (froom ptrT l₁₅ 0)) (‵ (froom sliceT l₁₆ 0)))) (Wp 𝓤 H C Λ En body.t-7 (atReturn 𝓤 H En Post))
+    at-spare-maximums g gv g-is e₀ w wv ew y₁ v₁ e₁ y₂ v₂ e₂ y₃ v₃ e₃ y₄ v₄ e₄ =
+        qed W (‵ (flft κA qA) ∷ ‵ (flft κI qI) ∷ ‵ (flft κR qR) ∷ ‵ (IS w wv) ∷ ‵ II ∷ ‵ Lent ∷ ‵ (IS y₁ v₁) ∷ ‵ (IS y₂ v₂) ∷ ‵ (IS y₃ v₃) ∷ ‵ (IS y₄ v₄) ∷ Locals (‵ (fat fullShare U′.mir l₇ 0 gv)) (‵ (fat fullShare wordsT l₈ 0 wv)) (‵ (fat fullShare wordsT l₉ 0 v₁)) (‵ (fat fullShare wordsT l₁₀ 0 v₂)) (‵ (fat fullShare wordsT l₁₁ 0 v₃)) (‵ (fat fullShare wordsT l₁₂ 0 v₄)) (‵ (froom wordsT l₁₃ 0)) (‵ (froom P′.mir l₁₄ 0)) (‵ (froom ptrT l₁₅ 0)) (‵ (froom sliceT l₁₆ 0))) ∵ exec ! C Λ En body.t-7 (atRet En Post) $
         move ! (3 ∷ []) $ move ! (1 ∷ 0 ∷ []) $ join ! $ use1 W (raw (SpareMaximums 𝓤 H A at-mem run .pre (to-spare-maximums-of g gv w wv))) (goes-spare-maximums-of g gv w wv g-is) $ calls-at ! fm (SpareMaximums 𝓤 H A at-mem run) known-spare-maximums-of (to-spare-maximums-of g gv w wv) (and-then ! (load ! (from ! (stop !)) (look ! 27 refl)) (and-then ! (load ! (from ! (stop !)) (look ! 25 refl)) (no-more !))) (λ v₅.
         use1 W (later (some (λ (r : RefT (List ℕ)). ((‵ (flft κA qA) ⊛ ‵ ftrue) ⊛ ‵ (IS r v₅)) ⊛ raw (ensured 𝓤 H A spare-maximums-of.ended (spare-maximums-of.clauses 𝓤 H A at-mem run) (κA, tt) (g, (w, tt)) tt r)))) (id⊢ 𝓤 _) $ await ! tt $ pick ! (λ y₅.
-        split ! $ move ! (1 ∷ []) $ use1 W (raw (fact 𝓤 (y₅ .now ≡ partOf (w .now) 4224 (g .spares)))) (spare-maximums-of-told 𝓤 H A at-mem run κA g w y₅) $ heard ! (y₅ .now ≡ partOf (w .now) 4224 (g .spares)) (λ e₅. split ! $ split ! $ move ! (1 ∷ []) $ drop ! $ move ! (1 ∷ []) $ peeks ! (ShrSlice erased κA u64) (Is (ShrSlice erased κA u64)) (shows 𝓤 H A (ShrSlice erased κA u64)) y₅ (v₅ ∷ []) (λ is. land ! (from ! (stop !)) (init ! 16 refl (shr-slice-lawful 𝓤 H A W erased κA u64 .typed y₅ _ is .0)) $ move ! (1 ∷ 2 ∷ 3 ∷ 4 ∷ 5 ∷ 6 ∷ 7 ∷ 8 ∷ 9 ∷ 0 ∷ []) $ by ! (stage8 g gv g-is e₀ w wv ew y₁ v₁ e₁ y₂ v₂ e₂ y₃ v₃ e₃ y₄ v₄ e₄ y₅ v₅ e₅)))))
+        split ! $ move ! (1 ∷ []) $ use1 W (raw (fact 𝓤 (y₅ .now ≡ partOf (w .now) 4224 (g .spares)))) (spare-maximums-of-told 𝓤 H A at-mem run κA g w y₅) $ heard ! (y₅ .now ≡ partOf (w .now) 4224 (g .spares)) (λ e₅. split ! $ split ! $ move ! (1 ∷ []) $ drop ! $ move ! (1 ∷ []) $ peeks ! (ShrSlice erased κA u64) (Is (ShrSlice erased κA u64)) (shows 𝓤 H A (ShrSlice erased κA u64)) y₅ (v₅ ∷ []) (λ is. land ! (from ! (stop !)) (init ! 16 refl (shr-slice-lawful 𝓤 H A W erased κA u64 .typed y₅ _ is .0)) $ move ! (1 ∷ 2 ∷ 3 ∷ 4 ∷ 5 ∷ 6 ∷ 7 ∷ 8 ∷ 9 ∷ 0 ∷ []) $ by ! (at-tracks g gv g-is e₀ w wv ew y₁ v₁ e₁ y₂ v₂ e₂ y₃ v₃ e₃ y₄ v₄ e₄ y₅ v₅ e₅)))))
 
-    stage6 : (g : AxisState) (gv : Val) (g-is : Is K g (gv ∷ [])) (e₀ : g ≡ stateIn p ax) (w : RefT (List ℕ)) (wv : Val) (ew : w .now ≡ ofAxis ax (yC .now) (yR .now)) (y₁ : RefT (List ℕ)) (v₁ : Val) (e₁ : y₁ .now ≡ partOf (w .now) 0 (g .components)) (y₂ : RefT (List ℕ)) (v₂ : Val) (e₂ : y₂ .now ≡ partOf (w .now) 64 (g .tracks)) (y₃ : RefT (List ℕ)) (v₃ : Val) (e₃ : y₃ .now ≡ partOf (w .now) 2112 (g .tracks)) → ent 𝓤 (⋆ 𝓤 H A (‵ (flft κA qA) ∷ ‵ (flft κI qI) ∷ ‵ (flft κR qR) ∷ ‵ (IS w wv) ∷ ‵ II ∷ ‵ M0 ∷ ‵ (IS y₁ v₁) ∷ ‵ (IS y₂ v₂) ∷ ‵ (IS y₃ v₃) ∷ Locals (‵ (fat fullShare U′.mir l₇ 0 gv)) (‵ (fat fullShare wordsT l₈ 0 wv)) (‵ (fat fullShare wordsT l₉ 0 v₁)) (‵ (fat fullShare wordsT l₁₀ 0 v₂)) (‵ (fat fullShare wordsT l₁₁ 0 v₃)) (‵ (froom wordsT l₁₂ 0)) (‵ (froom wordsT l₁₃ 0)) (‵ (froom P′.mir l₁₄ 0)) (‵ (froom ptrT l₁₅ 0)) (‵ (froom sliceT l₁₆ 0)))) (Wp 𝓤 H C Λ En body.t-6 (atReturn 𝓤 H En Post))
-    stage6 g gv g-is e₀ w wv ew y₁ v₁ e₁ y₂ v₂ e₂ y₃ v₃ e₃ =
-        qed W (‵ (flft κA qA) ∷ ‵ (flft κI qI) ∷ ‵ (flft κR qR) ∷ ‵ (IS w wv) ∷ ‵ II ∷ ‵ M0 ∷ ‵ (IS y₁ v₁) ∷ ‵ (IS y₂ v₂) ∷ ‵ (IS y₃ v₃) ∷ Locals (‵ (fat fullShare U′.mir l₇ 0 gv)) (‵ (fat fullShare wordsT l₈ 0 wv)) (‵ (fat fullShare wordsT l₉ 0 v₁)) (‵ (fat fullShare wordsT l₁₀ 0 v₂)) (‵ (fat fullShare wordsT l₁₁ 0 v₃)) (‵ (froom wordsT l₁₂ 0)) (‵ (froom wordsT l₁₃ 0)) (‵ (froom P′.mir l₁₄ 0)) (‵ (froom ptrT l₁₅ 0)) (‵ (froom sliceT l₁₆ 0))) ∵ exec ! C Λ En body.t-6 (atRet En Post) $
+    -- the minimum spare sizes
+    at-spare-minimums : (g : AxisState) (gv : Val) (g-is : Is K g (gv ∷ [])) (e₀ : g ≡ stateIn p ax) (w : RefT (List ℕ)) (wv : Val) (ew : w .now ≡ ofAxis ax (yC .now) (yR .now)) (y₁ : RefT (List ℕ)) (v₁ : Val) (e₁ : y₁ .now ≡ partOf (w .now) 0 (g .components)) (y₂ : RefT (List ℕ)) (v₂ : Val) (e₂ : y₂ .now ≡ partOf (w .now) 64 (g .tracks)) (y₃ : RefT (List ℕ)) (v₃ : Val) (e₃ : y₃ .now ≡ partOf (w .now) 2112 (g .tracks)) → ent 𝓤 (⋆ 𝓤 H A (‵ (flft κA qA) ∷ ‵ (flft κI qI) ∷ ‵ (flft κR qR) ∷ ‵ (IS w wv) ∷ ‵ II ∷ ‵ Lent ∷ ‵ (IS y₁ v₁) ∷ ‵ (IS y₂ v₂) ∷ ‵ (IS y₃ v₃) ∷ Locals (‵ (fat fullShare U′.mir l₇ 0 gv)) (‵ (fat fullShare wordsT l₈ 0 wv)) (‵ (fat fullShare wordsT l₉ 0 v₁)) (‵ (fat fullShare wordsT l₁₀ 0 v₂)) (‵ (fat fullShare wordsT l₁₁ 0 v₃)) (‵ (froom wordsT l₁₂ 0)) (‵ (froom wordsT l₁₃ 0)) (‵ (froom P′.mir l₁₄ 0)) (‵ (froom ptrT l₁₅ 0)) (‵ (froom sliceT l₁₆ 0)))) (Wp 𝓤 H C Λ En body.t-6 (atReturn 𝓤 H En Post))
+    at-spare-minimums g gv g-is e₀ w wv ew y₁ v₁ e₁ y₂ v₂ e₂ y₃ v₃ e₃ =
+        qed W (‵ (flft κA qA) ∷ ‵ (flft κI qI) ∷ ‵ (flft κR qR) ∷ ‵ (IS w wv) ∷ ‵ II ∷ ‵ Lent ∷ ‵ (IS y₁ v₁) ∷ ‵ (IS y₂ v₂) ∷ ‵ (IS y₃ v₃) ∷ Locals (‵ (fat fullShare U′.mir l₇ 0 gv)) (‵ (fat fullShare wordsT l₈ 0 wv)) (‵ (fat fullShare wordsT l₉ 0 v₁)) (‵ (fat fullShare wordsT l₁₀ 0 v₂)) (‵ (fat fullShare wordsT l₁₁ 0 v₃)) (‵ (froom wordsT l₁₂ 0)) (‵ (froom wordsT l₁₃ 0)) (‵ (froom P′.mir l₁₄ 0)) (‵ (froom ptrT l₁₅ 0)) (‵ (froom sliceT l₁₆ 0))) ∵ exec ! C Λ En body.t-6 (atRet En Post) $
         move ! (3 ∷ []) $ use1 W (‵ (IS w wv) ⊛ ‵ (IS w wv)) (shr-slice-copy 𝓤 H A W erased κA u64 .twice w (wv ∷ [])) $ split ! $ move ! (0 ∷ []) $ move ! (2 ∷ 0 ∷ []) $ join ! $ use1 W (raw (SpareMinimums 𝓤 H A at-mem run .pre (to-spare-minimums-of g gv w wv))) (goes-spare-minimums-of g gv w wv g-is) $ calls-at ! fm (SpareMinimums 𝓤 H A at-mem run) known-spare-minimums-of (to-spare-minimums-of g gv w wv) (and-then ! (load ! (from ! (stop !)) (look ! 27 refl)) (and-then ! (load ! (from ! (stop !)) (look ! 25 refl)) (no-more !))) (λ v₄.
         use1 W (later (some (λ (r : RefT (List ℕ)). ((‵ (flft κA qA) ⊛ ‵ ftrue) ⊛ ‵ (IS r v₄)) ⊛ raw (ensured 𝓤 H A spare-minimums-of.ended (spare-minimums-of.clauses 𝓤 H A at-mem run) (κA, tt) (g, (w, tt)) tt r)))) (id⊢ 𝓤 _) $ await ! tt $ pick ! (λ y₄.
-        split ! $ move ! (1 ∷ []) $ use1 W (raw (fact 𝓤 (y₄ .now ≡ partOf (w .now) 4160 (g .spares)))) (spare-minimums-of-told 𝓤 H A at-mem run κA g w y₄) $ heard ! (y₄ .now ≡ partOf (w .now) 4160 (g .spares)) (λ e₄. split ! $ split ! $ move ! (1 ∷ []) $ drop ! $ move ! (1 ∷ []) $ peeks ! (ShrSlice erased κA u64) (Is (ShrSlice erased κA u64)) (shows 𝓤 H A (ShrSlice erased κA u64)) y₄ (v₄ ∷ []) (λ is. land ! (from ! (stop !)) (init ! 18 refl (shr-slice-lawful 𝓤 H A W erased κA u64 .typed y₄ _ is .0)) $ move ! (1 ∷ 3 ∷ 4 ∷ 2 ∷ 5 ∷ 6 ∷ 7 ∷ 8 ∷ 9 ∷ 0 ∷ []) $ by ! (stage7 g gv g-is e₀ w wv ew y₁ v₁ e₁ y₂ v₂ e₂ y₃ v₃ e₃ y₄ v₄ e₄)))))
+        split ! $ move ! (1 ∷ []) $ use1 W (raw (fact 𝓤 (y₄ .now ≡ partOf (w .now) 4160 (g .spares)))) (spare-minimums-of-told 𝓤 H A at-mem run κA g w y₄) $ heard ! (y₄ .now ≡ partOf (w .now) 4160 (g .spares)) (λ e₄. split ! $ split ! $ move ! (1 ∷ []) $ drop ! $ move ! (1 ∷ []) $ peeks ! (ShrSlice erased κA u64) (Is (ShrSlice erased κA u64)) (shows 𝓤 H A (ShrSlice erased κA u64)) y₄ (v₄ ∷ []) (λ is. land ! (from ! (stop !)) (init ! 18 refl (shr-slice-lawful 𝓤 H A W erased κA u64 .typed y₄ _ is .0)) $ move ! (1 ∷ 3 ∷ 4 ∷ 2 ∷ 5 ∷ 6 ∷ 7 ∷ 8 ∷ 9 ∷ 0 ∷ []) $ by ! (at-spare-maximums g gv g-is e₀ w wv ew y₁ v₁ e₁ y₂ v₂ e₂ y₃ v₃ e₃ y₄ v₄ e₄)))))
 
-    stage5 : (g : AxisState) (gv : Val) (g-is : Is K g (gv ∷ [])) (e₀ : g ≡ stateIn p ax) (w : RefT (List ℕ)) (wv : Val) (ew : w .now ≡ ofAxis ax (yC .now) (yR .now)) (y₁ : RefT (List ℕ)) (v₁ : Val) (e₁ : y₁ .now ≡ partOf (w .now) 0 (g .components)) (y₂ : RefT (List ℕ)) (v₂ : Val) (e₂ : y₂ .now ≡ partOf (w .now) 64 (g .tracks)) → ent 𝓤 (⋆ 𝓤 H A (‵ (flft κA qA) ∷ ‵ (flft κI qI) ∷ ‵ (flft κR qR) ∷ ‵ (IS w wv) ∷ ‵ II ∷ ‵ M0 ∷ ‵ (IS y₁ v₁) ∷ ‵ (IS y₂ v₂) ∷ Locals (‵ (fat fullShare U′.mir l₇ 0 gv)) (‵ (fat fullShare wordsT l₈ 0 wv)) (‵ (fat fullShare wordsT l₉ 0 v₁)) (‵ (fat fullShare wordsT l₁₀ 0 v₂)) (‵ (froom wordsT l₁₁ 0)) (‵ (froom wordsT l₁₂ 0)) (‵ (froom wordsT l₁₃ 0)) (‵ (froom P′.mir l₁₄ 0)) (‵ (froom ptrT l₁₅ 0)) (‵ (froom sliceT l₁₆ 0)))) (Wp 𝓤 H C Λ En body.t-5 (atReturn 𝓤 H En Post))
-    stage5 g gv g-is e₀ w wv ew y₁ v₁ e₁ y₂ v₂ e₂ =
-        qed W (‵ (flft κA qA) ∷ ‵ (flft κI qI) ∷ ‵ (flft κR qR) ∷ ‵ (IS w wv) ∷ ‵ II ∷ ‵ M0 ∷ ‵ (IS y₁ v₁) ∷ ‵ (IS y₂ v₂) ∷ Locals (‵ (fat fullShare U′.mir l₇ 0 gv)) (‵ (fat fullShare wordsT l₈ 0 wv)) (‵ (fat fullShare wordsT l₉ 0 v₁)) (‵ (fat fullShare wordsT l₁₀ 0 v₂)) (‵ (froom wordsT l₁₁ 0)) (‵ (froom wordsT l₁₂ 0)) (‵ (froom wordsT l₁₃ 0)) (‵ (froom P′.mir l₁₄ 0)) (‵ (froom ptrT l₁₅ 0)) (‵ (froom sliceT l₁₆ 0))) ∵ exec ! C Λ En body.t-5 (atRet En Post) $
+    -- the maximum sizes
+    at-maximums : (g : AxisState) (gv : Val) (g-is : Is K g (gv ∷ [])) (e₀ : g ≡ stateIn p ax) (w : RefT (List ℕ)) (wv : Val) (ew : w .now ≡ ofAxis ax (yC .now) (yR .now)) (y₁ : RefT (List ℕ)) (v₁ : Val) (e₁ : y₁ .now ≡ partOf (w .now) 0 (g .components)) (y₂ : RefT (List ℕ)) (v₂ : Val) (e₂ : y₂ .now ≡ partOf (w .now) 64 (g .tracks)) → ent 𝓤 (⋆ 𝓤 H A (‵ (flft κA qA) ∷ ‵ (flft κI qI) ∷ ‵ (flft κR qR) ∷ ‵ (IS w wv) ∷ ‵ II ∷ ‵ Lent ∷ ‵ (IS y₁ v₁) ∷ ‵ (IS y₂ v₂) ∷ Locals (‵ (fat fullShare U′.mir l₇ 0 gv)) (‵ (fat fullShare wordsT l₈ 0 wv)) (‵ (fat fullShare wordsT l₉ 0 v₁)) (‵ (fat fullShare wordsT l₁₀ 0 v₂)) (‵ (froom wordsT l₁₁ 0)) (‵ (froom wordsT l₁₂ 0)) (‵ (froom wordsT l₁₃ 0)) (‵ (froom P′.mir l₁₄ 0)) (‵ (froom ptrT l₁₅ 0)) (‵ (froom sliceT l₁₆ 0)))) (Wp 𝓤 H C Λ En body.t-5 (atReturn 𝓤 H En Post))
+    at-maximums g gv g-is e₀ w wv ew y₁ v₁ e₁ y₂ v₂ e₂ =
+        qed W (‵ (flft κA qA) ∷ ‵ (flft κI qI) ∷ ‵ (flft κR qR) ∷ ‵ (IS w wv) ∷ ‵ II ∷ ‵ Lent ∷ ‵ (IS y₁ v₁) ∷ ‵ (IS y₂ v₂) ∷ Locals (‵ (fat fullShare U′.mir l₇ 0 gv)) (‵ (fat fullShare wordsT l₈ 0 wv)) (‵ (fat fullShare wordsT l₉ 0 v₁)) (‵ (fat fullShare wordsT l₁₀ 0 v₂)) (‵ (froom wordsT l₁₁ 0)) (‵ (froom wordsT l₁₂ 0)) (‵ (froom wordsT l₁₃ 0)) (‵ (froom P′.mir l₁₄ 0)) (‵ (froom ptrT l₁₅ 0)) (‵ (froom sliceT l₁₆ 0))) ∵ exec ! C Λ En body.t-5 (atRet En Post) $
         move ! (3 ∷ []) $ use1 W (‵ (IS w wv) ⊛ ‵ (IS w wv)) (shr-slice-copy 𝓤 H A W erased κA u64 .twice w (wv ∷ [])) $ split ! $ move ! (0 ∷ []) $ move ! (2 ∷ 0 ∷ []) $ join ! $ use1 W (raw (Maximums 𝓤 H A at-mem run .pre (to-maximums-of g gv w wv))) (goes-maximums-of g gv w wv g-is) $ calls-at ! fm (Maximums 𝓤 H A at-mem run) known-maximums-of (to-maximums-of g gv w wv) (and-then ! (load ! (from ! (stop !)) (look ! 26 refl)) (and-then ! (load ! (from ! (stop !)) (look ! 24 refl)) (no-more !))) (λ v₃.
         use1 W (later (some (λ (r : RefT (List ℕ)). ((‵ (flft κA qA) ⊛ ‵ ftrue) ⊛ ‵ (IS r v₃)) ⊛ raw (ensured 𝓤 H A maximums-of.ended (maximums-of.clauses 𝓤 H A at-mem run) (κA, tt) (g, (w, tt)) tt r)))) (id⊢ 𝓤 _) $ await ! tt $ pick ! (λ y₃.
-        split ! $ move ! (1 ∷ []) $ use1 W (raw (fact 𝓤 (y₃ .now ≡ partOf (w .now) 2112 (g .tracks)))) (maximums-of-told 𝓤 H A at-mem run κA g w y₃) $ heard ! (y₃ .now ≡ partOf (w .now) 2112 (g .tracks)) (λ e₃. split ! $ split ! $ move ! (1 ∷ []) $ drop ! $ move ! (1 ∷ []) $ peeks ! (ShrSlice erased κA u64) (Is (ShrSlice erased κA u64)) (shows 𝓤 H A (ShrSlice erased κA u64)) y₃ (v₃ ∷ []) (λ is. land ! (from ! (stop !)) (init ! 19 refl (shr-slice-lawful 𝓤 H A W erased κA u64 .typed y₃ _ is .0)) $ move ! (1 ∷ 3 ∷ 4 ∷ 2 ∷ 5 ∷ 6 ∷ 7 ∷ 8 ∷ 0 ∷ []) $ by ! (stage6 g gv g-is e₀ w wv ew y₁ v₁ e₁ y₂ v₂ e₂ y₃ v₃ e₃)))))
+        split ! $ move ! (1 ∷ []) $ use1 W (raw (fact 𝓤 (y₃ .now ≡ partOf (w .now) 2112 (g .tracks)))) (maximums-of-told 𝓤 H A at-mem run κA g w y₃) $ heard ! (y₃ .now ≡ partOf (w .now) 2112 (g .tracks)) (λ e₃. split ! $ split ! $ move ! (1 ∷ []) $ drop ! $ move ! (1 ∷ []) $ peeks ! (ShrSlice erased κA u64) (Is (ShrSlice erased κA u64)) (shows 𝓤 H A (ShrSlice erased κA u64)) y₃ (v₃ ∷ []) (λ is. land ! (from ! (stop !)) (init ! 19 refl (shr-slice-lawful 𝓤 H A W erased κA u64 .typed y₃ _ is .0)) $ move ! (1 ∷ 3 ∷ 4 ∷ 2 ∷ 5 ∷ 6 ∷ 7 ∷ 8 ∷ 0 ∷ []) $ by ! (at-spare-minimums g gv g-is e₀ w wv ew y₁ v₁ e₁ y₂ v₂ e₂ y₃ v₃ e₃)))))
 
-    stage4 : (g : AxisState) (gv : Val) (g-is : Is K g (gv ∷ [])) (e₀ : g ≡ stateIn p ax) (w : RefT (List ℕ)) (wv : Val) (ew : w .now ≡ ofAxis ax (yC .now) (yR .now)) (y₁ : RefT (List ℕ)) (v₁ : Val) (e₁ : y₁ .now ≡ partOf (w .now) 0 (g .components)) → ent 𝓤 (⋆ 𝓤 H A (‵ (flft κA qA) ∷ ‵ (flft κI qI) ∷ ‵ (flft κR qR) ∷ ‵ (IS w wv) ∷ ‵ II ∷ ‵ M0 ∷ ‵ (IS y₁ v₁) ∷ Locals (‵ (fat fullShare U′.mir l₇ 0 gv)) (‵ (fat fullShare wordsT l₈ 0 wv)) (‵ (fat fullShare wordsT l₉ 0 v₁)) (‵ (froom wordsT l₁₀ 0)) (‵ (froom wordsT l₁₁ 0)) (‵ (froom wordsT l₁₂ 0)) (‵ (froom wordsT l₁₃ 0)) (‵ (froom P′.mir l₁₄ 0)) (‵ (froom ptrT l₁₅ 0)) (‵ (froom sliceT l₁₆ 0)))) (Wp 𝓤 H C Λ En body.t-4 (atReturn 𝓤 H En Post))
-    stage4 g gv g-is e₀ w wv ew y₁ v₁ e₁ =
-        qed W (‵ (flft κA qA) ∷ ‵ (flft κI qI) ∷ ‵ (flft κR qR) ∷ ‵ (IS w wv) ∷ ‵ II ∷ ‵ M0 ∷ ‵ (IS y₁ v₁) ∷ Locals (‵ (fat fullShare U′.mir l₇ 0 gv)) (‵ (fat fullShare wordsT l₈ 0 wv)) (‵ (fat fullShare wordsT l₉ 0 v₁)) (‵ (froom wordsT l₁₀ 0)) (‵ (froom wordsT l₁₁ 0)) (‵ (froom wordsT l₁₂ 0)) (‵ (froom wordsT l₁₃ 0)) (‵ (froom P′.mir l₁₄ 0)) (‵ (froom ptrT l₁₅ 0)) (‵ (froom sliceT l₁₆ 0))) ∵ exec ! C Λ En body.t-4 (atRet En Post) $
+    -- the minimum sizes
+    at-minimums : (g : AxisState) (gv : Val) (g-is : Is K g (gv ∷ [])) (e₀ : g ≡ stateIn p ax) (w : RefT (List ℕ)) (wv : Val) (ew : w .now ≡ ofAxis ax (yC .now) (yR .now)) (y₁ : RefT (List ℕ)) (v₁ : Val) (e₁ : y₁ .now ≡ partOf (w .now) 0 (g .components)) → ent 𝓤 (⋆ 𝓤 H A (‵ (flft κA qA) ∷ ‵ (flft κI qI) ∷ ‵ (flft κR qR) ∷ ‵ (IS w wv) ∷ ‵ II ∷ ‵ Lent ∷ ‵ (IS y₁ v₁) ∷ Locals (‵ (fat fullShare U′.mir l₇ 0 gv)) (‵ (fat fullShare wordsT l₈ 0 wv)) (‵ (fat fullShare wordsT l₉ 0 v₁)) (‵ (froom wordsT l₁₀ 0)) (‵ (froom wordsT l₁₁ 0)) (‵ (froom wordsT l₁₂ 0)) (‵ (froom wordsT l₁₃ 0)) (‵ (froom P′.mir l₁₄ 0)) (‵ (froom ptrT l₁₅ 0)) (‵ (froom sliceT l₁₆ 0)))) (Wp 𝓤 H C Λ En body.t-4 (atReturn 𝓤 H En Post))
+    at-minimums g gv g-is e₀ w wv ew y₁ v₁ e₁ =
+        qed W (‵ (flft κA qA) ∷ ‵ (flft κI qI) ∷ ‵ (flft κR qR) ∷ ‵ (IS w wv) ∷ ‵ II ∷ ‵ Lent ∷ ‵ (IS y₁ v₁) ∷ Locals (‵ (fat fullShare U′.mir l₇ 0 gv)) (‵ (fat fullShare wordsT l₈ 0 wv)) (‵ (fat fullShare wordsT l₉ 0 v₁)) (‵ (froom wordsT l₁₀ 0)) (‵ (froom wordsT l₁₁ 0)) (‵ (froom wordsT l₁₂ 0)) (‵ (froom wordsT l₁₃ 0)) (‵ (froom P′.mir l₁₄ 0)) (‵ (froom ptrT l₁₅ 0)) (‵ (froom sliceT l₁₆ 0))) ∵ exec ! C Λ En body.t-4 (atRet En Post) $
         move ! (3 ∷ []) $ use1 W (‵ (IS w wv) ⊛ ‵ (IS w wv)) (shr-slice-copy 𝓤 H A W erased κA u64 .twice w (wv ∷ [])) $ split ! $ move ! (0 ∷ []) $ move ! (2 ∷ 0 ∷ []) $ join ! $ use1 W (raw (Minimums 𝓤 H A at-mem run .pre (to-minimums-of g gv w wv))) (goes-minimums-of g gv w wv g-is) $ calls-at ! fm (Minimums 𝓤 H A at-mem run) known-minimums-of (to-minimums-of g gv w wv) (and-then ! (load ! (from ! (stop !)) (look ! 25 refl)) (and-then ! (load ! (from ! (stop !)) (look ! 23 refl)) (no-more !))) (λ v₂.
         use1 W (later (some (λ (r : RefT (List ℕ)). ((‵ (flft κA qA) ⊛ ‵ ftrue) ⊛ ‵ (IS r v₂)) ⊛ raw (ensured 𝓤 H A minimums-of.ended (minimums-of.clauses 𝓤 H A at-mem run) (κA, tt) (g, (w, tt)) tt r)))) (id⊢ 𝓤 _) $ await ! tt $ pick ! (λ y₂.
-        split ! $ move ! (1 ∷ []) $ use1 W (raw (fact 𝓤 (y₂ .now ≡ partOf (w .now) 64 (g .tracks)))) (minimums-of-told 𝓤 H A at-mem run κA g w y₂) $ heard ! (y₂ .now ≡ partOf (w .now) 64 (g .tracks)) (λ e₂. split ! $ split ! $ move ! (1 ∷ []) $ drop ! $ move ! (1 ∷ []) $ peeks ! (ShrSlice erased κA u64) (Is (ShrSlice erased κA u64)) (shows 𝓤 H A (ShrSlice erased κA u64)) y₂ (v₂ ∷ []) (λ is. land ! (from ! (stop !)) (init ! 20 refl (shr-slice-lawful 𝓤 H A W erased κA u64 .typed y₂ _ is .0)) $ move ! (1 ∷ 3 ∷ 4 ∷ 2 ∷ 5 ∷ 6 ∷ 7 ∷ 0 ∷ []) $ by ! (stage5 g gv g-is e₀ w wv ew y₁ v₁ e₁ y₂ v₂ e₂)))))
+        split ! $ move ! (1 ∷ []) $ use1 W (raw (fact 𝓤 (y₂ .now ≡ partOf (w .now) 64 (g .tracks)))) (minimums-of-told 𝓤 H A at-mem run κA g w y₂) $ heard ! (y₂ .now ≡ partOf (w .now) 64 (g .tracks)) (λ e₂. split ! $ split ! $ move ! (1 ∷ []) $ drop ! $ move ! (1 ∷ []) $ peeks ! (ShrSlice erased κA u64) (Is (ShrSlice erased κA u64)) (shows 𝓤 H A (ShrSlice erased κA u64)) y₂ (v₂ ∷ []) (λ is. land ! (from ! (stop !)) (init ! 20 refl (shr-slice-lawful 𝓤 H A W erased κA u64 .typed y₂ _ is .0)) $ move ! (1 ∷ 3 ∷ 4 ∷ 2 ∷ 5 ∷ 6 ∷ 7 ∷ 0 ∷ []) $ by ! (at-maximums g gv g-is e₀ w wv ew y₁ v₁ e₁ y₂ v₂ e₂)))))
 
-    stage3 : (g : AxisState) (gv : Val) (g-is : Is K g (gv ∷ [])) (e₀ : g ≡ stateIn p ax) (w : RefT (List ℕ)) (wv : Val) (ew : w .now ≡ ofAxis ax (yC .now) (yR .now)) → ent 𝓤 (⋆ 𝓤 H A (‵ (flft κA qA) ∷ ‵ (flft κI qI) ∷ ‵ (flft κR qR) ∷ ‵ (IS w wv) ∷ ‵ II ∷ ‵ M0 ∷ Locals (‵ (fat fullShare U′.mir l₇ 0 gv)) (‵ (fat fullShare wordsT l₈ 0 wv)) (‵ (froom wordsT l₉ 0)) (‵ (froom wordsT l₁₀ 0)) (‵ (froom wordsT l₁₁ 0)) (‵ (froom wordsT l₁₂ 0)) (‵ (froom wordsT l₁₃ 0)) (‵ (froom P′.mir l₁₄ 0)) (‵ (froom ptrT l₁₅ 0)) (‵ (froom sliceT l₁₆ 0)))) (Wp 𝓤 H C Λ En body.t-3 (atReturn 𝓤 H En Post))
-    stage3 g gv g-is e₀ w wv ew =
-        qed W (‵ (flft κA qA) ∷ ‵ (flft κI qI) ∷ ‵ (flft κR qR) ∷ ‵ (IS w wv) ∷ ‵ II ∷ ‵ M0 ∷ Locals (‵ (fat fullShare U′.mir l₇ 0 gv)) (‵ (fat fullShare wordsT l₈ 0 wv)) (‵ (froom wordsT l₉ 0)) (‵ (froom wordsT l₁₀ 0)) (‵ (froom wordsT l₁₁ 0)) (‵ (froom wordsT l₁₂ 0)) (‵ (froom wordsT l₁₃ 0)) (‵ (froom P′.mir l₁₄ 0)) (‵ (froom ptrT l₁₅ 0)) (‵ (froom sliceT l₁₆ 0))) ∵ exec ! C Λ En body.t-3 (atRet En Post) $
+    -- their parts, each with a reference to the words of its own
+    at-components : (g : AxisState) (gv : Val) (g-is : Is K g (gv ∷ [])) (e₀ : g ≡ stateIn p ax) (w : RefT (List ℕ)) (wv : Val) (ew : w .now ≡ ofAxis ax (yC .now) (yR .now)) → ent 𝓤 (⋆ 𝓤 H A (‵ (flft κA qA) ∷ ‵ (flft κI qI) ∷ ‵ (flft κR qR) ∷ ‵ (IS w wv) ∷ ‵ II ∷ ‵ Lent ∷ Locals (‵ (fat fullShare U′.mir l₇ 0 gv)) (‵ (fat fullShare wordsT l₈ 0 wv)) (‵ (froom wordsT l₉ 0)) (‵ (froom wordsT l₁₀ 0)) (‵ (froom wordsT l₁₁ 0)) (‵ (froom wordsT l₁₂ 0)) (‵ (froom wordsT l₁₃ 0)) (‵ (froom P′.mir l₁₄ 0)) (‵ (froom ptrT l₁₅ 0)) (‵ (froom sliceT l₁₆ 0)))) (Wp 𝓤 H C Λ En body.t-3 (atReturn 𝓤 H En Post))
+    at-components g gv g-is e₀ w wv ew =
+        qed W (‵ (flft κA qA) ∷ ‵ (flft κI qI) ∷ ‵ (flft κR qR) ∷ ‵ (IS w wv) ∷ ‵ II ∷ ‵ Lent ∷ Locals (‵ (fat fullShare U′.mir l₇ 0 gv)) (‵ (fat fullShare wordsT l₈ 0 wv)) (‵ (froom wordsT l₉ 0)) (‵ (froom wordsT l₁₀ 0)) (‵ (froom wordsT l₁₁ 0)) (‵ (froom wordsT l₁₂ 0)) (‵ (froom wordsT l₁₃ 0)) (‵ (froom P′.mir l₁₄ 0)) (‵ (froom ptrT l₁₅ 0)) (‵ (froom sliceT l₁₆ 0))) ∵ exec ! C Λ En body.t-3 (atRet En Post) $
         move ! (3 ∷ []) $ use1 W (‵ (IS w wv) ⊛ ‵ (IS w wv)) (shr-slice-copy 𝓤 H A W erased κA u64 .twice w (wv ∷ [])) $ split ! $ move ! (0 ∷ []) $ move ! (2 ∷ 0 ∷ []) $ join ! $ use1 W (raw (Components 𝓤 H A at-mem run .pre (to-components-of g gv w wv))) (goes-components-of g gv w wv g-is) $ calls-at ! fm (Components 𝓤 H A at-mem run) known-components-of (to-components-of g gv w wv) (and-then ! (load ! (from ! (stop !)) (look ! 24 refl)) (and-then ! (load ! (from ! (stop !)) (look ! 22 refl)) (no-more !))) (λ v₁.
         use1 W (later (some (λ (r : RefT (List ℕ)). ((‵ (flft κA qA) ⊛ ‵ ftrue) ⊛ ‵ (IS r v₁)) ⊛ raw (ensured 𝓤 H A components-of.ended (components-of.clauses 𝓤 H A at-mem run) (κA, tt) (g, (w, tt)) tt r)))) (id⊢ 𝓤 _) $ await ! tt $ pick ! (λ y₁.
-        split ! $ move ! (1 ∷ []) $ use1 W (raw (fact 𝓤 (y₁ .now ≡ partOf (w .now) 0 (g .components)))) (components-of-told 𝓤 H A at-mem run κA g w y₁) $ heard ! (y₁ .now ≡ partOf (w .now) 0 (g .components)) (λ e₁. split ! $ split ! $ move ! (1 ∷ []) $ drop ! $ move ! (1 ∷ []) $ peeks ! (ShrSlice erased κA u64) (Is (ShrSlice erased κA u64)) (shows 𝓤 H A (ShrSlice erased κA u64)) y₁ (v₁ ∷ []) (λ is. land ! (from ! (stop !)) (init ! 21 refl (shr-slice-lawful 𝓤 H A W erased κA u64 .typed y₁ _ is .0)) $ move ! (1 ∷ 3 ∷ 4 ∷ 2 ∷ 5 ∷ 6 ∷ 0 ∷ []) $ by ! (stage4 g gv g-is e₀ w wv ew y₁ v₁ e₁)))))
+        split ! $ move ! (1 ∷ []) $ use1 W (raw (fact 𝓤 (y₁ .now ≡ partOf (w .now) 0 (g .components)))) (components-of-told 𝓤 H A at-mem run κA g w y₁) $ heard ! (y₁ .now ≡ partOf (w .now) 0 (g .components)) (λ e₁. split ! $ split ! $ move ! (1 ∷ []) $ drop ! $ move ! (1 ∷ []) $ peeks ! (ShrSlice erased κA u64) (Is (ShrSlice erased κA u64)) (shows 𝓤 H A (ShrSlice erased κA u64)) y₁ (v₁ ∷ []) (λ is. land ! (from ! (stop !)) (init ! 21 refl (shr-slice-lawful 𝓤 H A W erased κA u64 .typed y₁ _ is .0)) $ move ! (1 ∷ 3 ∷ 4 ∷ 2 ∷ 5 ∷ 6 ∷ 0 ∷ []) $ by ! (at-minimums g gv g-is e₀ w wv ew y₁ v₁ e₁)))))
 
-    stage2 : (g : AxisState) (gv : Val) (g-is : Is K g (gv ∷ [])) (e₀ : g ≡ stateIn p ax) → ent 𝓤 (⋆ 𝓤 H A (‵ (flft κA qA) ∷ ‵ (flft κI qI) ∷ ‵ (flft κR qR) ∷ ‵ IC ∷ ‵ IR ∷ ‵ II ∷ ‵ M0 ∷ Locals (‵ (fat fullShare U′.mir l₇ 0 gv)) (‵ (froom wordsT l₈ 0)) (‵ (froom wordsT l₉ 0)) (‵ (froom wordsT l₁₀ 0)) (‵ (froom wordsT l₁₁ 0)) (‵ (froom wordsT l₁₂ 0)) (‵ (froom wordsT l₁₃ 0)) (‵ (froom P′.mir l₁₄ 0)) (‵ (froom ptrT l₁₅ 0)) (‵ (froom sliceT l₁₆ 0)))) (Wp 𝓤 H C Λ En body.t-2 (atReturn 𝓤 H En Post))
-    stage2 g gv g-is e₀ =
-        qed W (‵ (flft κA qA) ∷ ‵ (flft κI qI) ∷ ‵ (flft κR qR) ∷ ‵ IC ∷ ‵ IR ∷ ‵ II ∷ ‵ M0 ∷ Locals (‵ (fat fullShare U′.mir l₇ 0 gv)) (‵ (froom wordsT l₈ 0)) (‵ (froom wordsT l₉ 0)) (‵ (froom wordsT l₁₀ 0)) (‵ (froom wordsT l₁₁ 0)) (‵ (froom wordsT l₁₂ 0)) (‵ (froom wordsT l₁₃ 0)) (‵ (froom P′.mir l₁₄ 0)) (‵ (froom ptrT l₁₅ 0)) (‵ (froom sliceT l₁₆ 0))) ∵ exec ! C Λ En body.t-2 (atRet En Post) $
+    -- the words of the axis
+    at-words : (g : AxisState) (gv : Val) (g-is : Is K g (gv ∷ [])) (e₀ : g ≡ stateIn p ax) → ent 𝓤 (⋆ 𝓤 H A (‵ (flft κA qA) ∷ ‵ (flft κI qI) ∷ ‵ (flft κR qR) ∷ ‵ IC ∷ ‵ IR ∷ ‵ II ∷ ‵ Lent ∷ Locals (‵ (fat fullShare U′.mir l₇ 0 gv)) (‵ (froom wordsT l₈ 0)) (‵ (froom wordsT l₉ 0)) (‵ (froom wordsT l₁₀ 0)) (‵ (froom wordsT l₁₁ 0)) (‵ (froom wordsT l₁₂ 0)) (‵ (froom wordsT l₁₃ 0)) (‵ (froom P′.mir l₁₄ 0)) (‵ (froom ptrT l₁₅ 0)) (‵ (froom sliceT l₁₆ 0)))) (Wp 𝓤 H C Λ En body.t-2 (atReturn 𝓤 H En Post))
+    at-words g gv g-is e₀ =
+        qed W (‵ (flft κA qA) ∷ ‵ (flft κI qI) ∷ ‵ (flft κR qR) ∷ ‵ IC ∷ ‵ IR ∷ ‵ II ∷ ‵ Lent ∷ Locals (‵ (fat fullShare U′.mir l₇ 0 gv)) (‵ (froom wordsT l₈ 0)) (‵ (froom wordsT l₉ 0)) (‵ (froom wordsT l₁₀ 0)) (‵ (froom wordsT l₁₁ 0)) (‵ (froom wordsT l₁₂ 0)) (‵ (froom wordsT l₁₃ 0)) (‵ (froom P′.mir l₁₄ 0)) (‵ (froom ptrT l₁₅ 0)) (‵ (froom sliceT l₁₆ 0))) ∵ exec ! C Λ En body.t-2 (atRet En Post) $
         move ! (3 ∷ 4 ∷ []) $ join ! $ move ! (1 ∷ 0 ∷ []) $ join ! $ use1 W (raw (WordsIn 𝓤 H A at-mem run .pre to-words-in)) goes-words-in $ calls-at ! fm (WordsIn 𝓤 H A at-mem run) known-words-in to-words-in (and-then ! (load ! (from ! (stop !)) (look ! 33 refl)) (and-then ! (load ! (from ! (stop !)) (look ! 31 refl)) (and-then ! (load ! (from ! (stop !)) (look ! 29 refl)) (no-more !)))) (λ wv.
         use1 W (later (some (λ (r : RefT (List ℕ)). ((‵ (flft κA qA) ⊛ ‵ ftrue) ⊛ ‵ (IS r wv)) ⊛ raw (ensured 𝓤 H A words-in.ended (words-in.clauses 𝓤 H A at-mem run) (κA, tt) (yC, (yR, (ax, tt))) tt r)))) (id⊢ 𝓤 _) $ await ! tt $ pick ! (λ w.
-        split ! $ move ! (1 ∷ []) $ use1 W (raw (fact 𝓤 (w .now ≡ ofAxis ax (yC .now) (yR .now)))) (words-told 𝓤 H A at-mem run κA yC yR ax w) $ heard ! (w .now ≡ ofAxis ax (yC .now) (yR .now)) (λ ew. split ! $ split ! $ move ! (1 ∷ []) $ drop ! $ move ! (1 ∷ []) $ peeks ! (ShrSlice erased κA u64) (Is (ShrSlice erased κA u64)) (shows 𝓤 H A (ShrSlice erased κA u64)) w (wv ∷ []) (λ is. land ! (from ! (stop !)) (init ! 22 refl (shr-slice-lawful 𝓤 H A W erased κA u64 .typed w _ is .0)) $ move ! (1 ∷ 2 ∷ 3 ∷ 0 ∷ 4 ∷ 5 ∷ []) $ by ! (stage3 g gv g-is e₀ w wv ew)))))
+        split ! $ move ! (1 ∷ []) $ use1 W (raw (fact 𝓤 (w .now ≡ ofAxis ax (yC .now) (yR .now)))) (words-told 𝓤 H A at-mem run κA yC yR ax w) $ heard ! (w .now ≡ ofAxis ax (yC .now) (yR .now)) (λ ew. split ! $ split ! $ move ! (1 ∷ []) $ drop ! $ move ! (1 ∷ []) $ peeks ! (ShrSlice erased κA u64) (Is (ShrSlice erased κA u64)) (shows 𝓤 H A (ShrSlice erased κA u64)) w (wv ∷ []) (λ is. land ! (from ! (stop !)) (init ! 22 refl (shr-slice-lawful 𝓤 H A W erased κA u64 .typed w _ is .0)) $ move ! (1 ∷ 2 ∷ 3 ∷ 0 ∷ 4 ∷ 5 ∷ []) $ by ! (at-components g gv g-is e₀ w wv ew)))))
 
-    stage1 : ent 𝓤 (⋆ 𝓤 H A (‵ (flft κA qA) ∷ ‵ (flft κI qI) ∷ ‵ (flft κR qR) ∷ ‵ IC ∷ ‵ IR ∷ ‵ II ∷ ‵ M0 ∷ Locals (‵ (froom U′.mir l₇ 0)) (‵ (froom wordsT l₈ 0)) (‵ (froom wordsT l₉ 0)) (‵ (froom wordsT l₁₀ 0)) (‵ (froom wordsT l₁₁ 0)) (‵ (froom wordsT l₁₂ 0)) (‵ (froom wordsT l₁₃ 0)) (‵ (froom P′.mir l₁₄ 0)) (‵ (froom ptrT l₁₅ 0)) (‵ (froom sliceT l₁₆ 0)))) (Wp 𝓤 H C Λ En body.t-1 (atReturn 𝓤 H En Post))
-    stage1 =
-        qed W (‵ (flft κA qA) ∷ ‵ (flft κI qI) ∷ ‵ (flft κR qR) ∷ ‵ IC ∷ ‵ IR ∷ ‵ II ∷ ‵ M0 ∷ Locals (‵ (froom U′.mir l₇ 0)) (‵ (froom wordsT l₈ 0)) (‵ (froom wordsT l₉ 0)) (‵ (froom wordsT l₁₀ 0)) (‵ (froom wordsT l₁₁ 0)) (‵ (froom wordsT l₁₂ 0)) (‵ (froom wordsT l₁₃ 0)) (‵ (froom P′.mir l₁₄ 0)) (‵ (froom ptrT l₁₅ 0)) (‵ (froom sliceT l₁₆ 0))) ∵ exec ! C Λ En body.t-1 (atRet En Post) $
+    -- the axis's state
+    at-state : ent 𝓤 (⋆ 𝓤 H A (‵ (flft κA qA) ∷ ‵ (flft κI qI) ∷ ‵ (flft κR qR) ∷ ‵ IC ∷ ‵ IR ∷ ‵ II ∷ ‵ Lent ∷ Locals (‵ (froom U′.mir l₇ 0)) (‵ (froom wordsT l₈ 0)) (‵ (froom wordsT l₉ 0)) (‵ (froom wordsT l₁₀ 0)) (‵ (froom wordsT l₁₁ 0)) (‵ (froom wordsT l₁₂ 0)) (‵ (froom wordsT l₁₃ 0)) (‵ (froom P′.mir l₁₄ 0)) (‵ (froom ptrT l₁₅ 0)) (‵ (froom sliceT l₁₆ 0)))) (Wp 𝓤 H C Λ En body.t-1 (atReturn 𝓤 H En Post))
+    at-state =
+        qed W (‵ (flft κA qA) ∷ ‵ (flft κI qI) ∷ ‵ (flft κR qR) ∷ ‵ IC ∷ ‵ IR ∷ ‵ II ∷ ‵ Lent ∷ Locals (‵ (froom U′.mir l₇ 0)) (‵ (froom wordsT l₈ 0)) (‵ (froom wordsT l₉ 0)) (‵ (froom wordsT l₁₀ 0)) (‵ (froom wordsT l₁₁ 0)) (‵ (froom wordsT l₁₂ 0)) (‵ (froom wordsT l₁₃ 0)) (‵ (froom P′.mir l₁₄ 0)) (‵ (froom ptrT l₁₅ 0)) (‵ (froom sliceT l₁₆ 0))) ∵ exec ! C Λ En body.t-1 (atRet En Post) $
         use0 W (raw (StateIn 𝓤 H A at-mem run .pre to-state-in)) goes-state-in $ calls-at ! fm (StateIn 𝓤 H A at-mem run) known-state-in to-state-in (and-then ! (load ! (from ! (stop !)) (look ! 38 refl)) (and-then ! (load ! (from ! (stop !)) (look ! 32 refl)) (no-more !))) (λ gv.
         use1 W (later (some (λ (r : AxisState). (‵ ftrue ⊛ ‵ (K .own r (gv ∷ []))) ⊛ raw (ensured 𝓤 H A state-in.ended (state-in.clauses 𝓤 H A at-mem run) tt (p, (ax, tt)) tt r)))) (id⊢ 𝓤 _) $ await ! tt $ pick ! (λ g.
-        split ! $ move ! (1 ∷ []) $ use1 W (raw (fact 𝓤 (g ≡ stateIn p ax))) (state-told 𝓤 H A at-mem run p ax g) $ heard ! (g ≡ stateIn p ax) (λ e₀. split ! $ drop ! $ peeks ! K (Is K) (shows 𝓤 H A K) g (gv ∷ []) (λ g-is. drop ! $ land ! (from ! (stop !)) (init ! 25 refl (LL.lawful U.the-type U′.the-laws 𝓤 H A W .typed g _ g-is .0)) $ by ! (stage2 g gv g-is e₀)))))
+        split ! $ move ! (1 ∷ []) $ use1 W (raw (fact 𝓤 (g ≡ stateIn p ax))) (state-told 𝓤 H A at-mem run p ax g) $ heard ! (g ≡ stateIn p ax) (λ e₀. split ! $ drop ! $ peeks ! K (Is K) (shows 𝓤 H A K) g (gv ∷ []) (λ g-is. drop ! $ land ! (from ! (stop !)) (init ! 25 refl (LL.lawful U.the-type U′.the-laws 𝓤 H A W .typed g _ g-is .0)) $ by ! (at-words g gv g-is e₀)))))
 
     abbrev Began : List (Item 𝓤)
     Began = Begun 𝓤 H A W C Λ F′.mir E′.mir refT X′.mir itemsT recsT U′.mir wordsT P′.mir ptrT sliceT body.t-1 ev cv rv xv iv s p-typed c-typed r-typed x-typed i-typed s-typed Γ Post l₀ l₁ l₂ l₃ l₄ l₅ l₆ l₇ l₈ l₉ l₁₀ l₁₁ l₁₂ l₁₃ l₁₄ l₁₅ l₁₆
 
     begins : ent 𝓤 (⋆ 𝓤 H A Began) (Wp 𝓤 H C Λ En body.t-1 (atReturn 𝓤 H En Post))
-    begins = qed W Began ∵ move ! (34 ∷ 35 ∷ 36 ∷ 37 ∷ 38 ∷ 39 ∷ 40 ∷ []) $ by ! stage1
+    begins = qed W Began ∵ move ! (34 ∷ 35 ∷ 36 ∷ 37 ∷ 38 ∷ 39 ∷ 40 ∷ []) $ by ! at-state
 
-  opened : ent 𝓤 (sem 𝓤 H A (owns (G ∷ ShrRef (named 0) κA N ∷ ShrRef (named 0) κA N ∷ B ∷ ShrSlice (named 1) κI u8 ∷ MutSlice (named 2) κR R ∷ []) a vals)) (⋆ 𝓤 H A (‵ IC ∷ ‵ IR ∷ ‵ II ∷ ‵ M0 ∷ []))
+  opened : ent 𝓤 (sem 𝓤 H A (owns (G ∷ ShrRef (named 0) κA N ∷ ShrRef (named 0) κA N ∷ B ∷ ShrSlice (named 1) κI u8 ∷ MutSlice (named 2) κR R ∷ []) a vals)) (⋆ 𝓤 H A (‵ IC ∷ ‵ IR ∷ ‵ II ∷ ‵ Lent ∷ []))
   opened = qed W (‵ (owns (G ∷ ShrRef (named 0) κA N ∷ ShrRef (named 0) κA N ∷ B ∷ ShrSlice (named 1) κI u8 ∷ MutSlice (named 2) κR R ∷ []) a vals) ∷ []) ∵ fsplit ! $ move ! (1 ∷ []) $ fsplit ! $ move ! (1 ∷ []) $ fsplit ! $ move ! (1 ∷ []) $ fsplit ! $ move ! (1 ∷ []) $ fsplit ! $ move ! (1 ∷ []) $ fsplit ! $ keep ! (5 ∷ 4 ∷ 2 ∷ 0 ∷ []) $ done !
 
   walk : (C : Calls 𝓤 H) (Λ : Loops 𝓤 H) → FmC 𝓤 H (W .laws) C → Triple 𝓤 (C #state-in) (StateIn 𝓤 H A at-mem run) → Triple 𝓤 (C #words-in) (WordsIn 𝓤 H A at-mem run) → Triple 𝓤 (C #components-of) (Components 𝓤 H A at-mem run) → Triple 𝓤 (C #minimums-of) (Minimums 𝓤 H A at-mem run) → Triple 𝓤 (C #maximums-of) (Maximums 𝓤 H A at-mem run) → Triple 𝓤 (C #spare-minimums-of) (SpareMinimums 𝓤 H A at-mem run) → Triple 𝓤 (C #spare-maximums-of) (SpareMaximums 𝓤 H A at-mem run) → Triple 𝓤 (C #axis-tracks) (TracksOf 𝓤 H A at-mem run) → Triple 𝓤 (C #fill) (Fill 𝓤 H A at-mem run)
       → ent 𝓤 (onEntry 𝓤 H A call.signature (κA, (κI, (κR, tt))) (qA, (qI, (qR, tt))) a vals) (WpFn 𝓤 H C Λ code.function (ev ∷ cv ∷ rv ∷ xv ∷ iv ∷ s ∷ []) Post)
   walk C Λ fm known-state-in known-words-in known-components-of known-minimums-of known-maximums-of known-spare-minimums-of known-spare-maximums-of known-axis-tracks known-fill =
-      qed W ((‵ (flft κA qA) ⊛ (‵ (flft κI qI) ⊛ (‵ (flft κR qR) ⊛ ‵ ftrue))) ∷ ‵ (owns (G ∷ ShrRef (named 0) κA N ∷ ShrRef (named 0) κA N ∷ B ∷ ShrSlice (named 1) κI u8 ∷ MutSlice (named 2) κR R ∷ []) a vals) ∷ []) ∵ split ! $ move ! (1 ∷ []) $ split ! $ move ! (1 ∷ []) $ split ! $ move ! (1 ∷ []) $ drop ! $ move ! (3 ∷ []) $ use1 W (‵ IC ⊛ (‵ IR ⊛ (‵ II ⊛ ‵ M0))) opened $ split ! $ move ! (1 ∷ []) $ split ! $ move ! (1 ∷ []) $ split ! $ move ! (6 ∷ 5 ∷ 4 ∷ 3 ∷ 2 ∷ 0 ∷ 1 ∷ []) $
-      by ! (enters 𝓤 H A W C Λ F′.mir E′.mir refT X′.mir itemsT recsT U′.mir wordsT P′.mir ptrT sliceT body.t-1 ev cv rv xv iv s p-typed c-typed r-typed x-typed i-typed s-typed (‵ (flft κA qA) ∷ ‵ (flft κI qI) ∷ ‵ (flft κR qR) ∷ ‵ IC ∷ ‵ IR ∷ ‵ II ∷ ‵ M0 ∷ []) Post (begins C Λ fm known-state-in known-words-in known-components-of known-minimums-of known-maximums-of known-spare-minimums-of known-spare-maximums-of known-axis-tracks known-fill))
+      qed W ((‵ (flft κA qA) ⊛ (‵ (flft κI qI) ⊛ (‵ (flft κR qR) ⊛ ‵ ftrue))) ∷ ‵ (owns (G ∷ ShrRef (named 0) κA N ∷ ShrRef (named 0) κA N ∷ B ∷ ShrSlice (named 1) κI u8 ∷ MutSlice (named 2) κR R ∷ []) a vals) ∷ []) ∵ split ! $ move ! (1 ∷ []) $ split ! $ move ! (1 ∷ []) $ split ! $ move ! (1 ∷ []) $ drop ! $ move ! (3 ∷ []) $ use1 W (‵ IC ⊛ (‵ IR ⊛ (‵ II ⊛ ‵ Lent))) opened $ split ! $ move ! (1 ∷ []) $ split ! $ move ! (1 ∷ []) $ split ! $ move ! (6 ∷ 5 ∷ 4 ∷ 3 ∷ 2 ∷ 0 ∷ 1 ∷ []) $
+      by ! (enters 𝓤 H A W C Λ F′.mir E′.mir refT X′.mir itemsT recsT U′.mir wordsT P′.mir ptrT sliceT body.t-1 ev cv rv xv iv s p-typed c-typed r-typed x-typed i-typed s-typed (‵ (flft κA qA) ∷ ‵ (flft κI qI) ∷ ‵ (flft κR qR) ∷ ‵ IC ∷ ‵ IR ∷ ‵ II ∷ ‵ Lent ∷ []) Post (begins C Λ fm known-state-in known-words-in known-components-of known-minimums-of known-maximums-of known-spare-minimums-of known-spare-maximums-of known-axis-tracks known-fill))
 
 module _ {M : Type 1} (𝓤 : URA M) (H : Heap 𝓤) (A : Atoms 𝓤) (W : Given 𝓤 H A) (at-mem : Memory → SProp 𝓤) (run : Routine → Fun 𝓤) (𝓣 : Tables 𝓤 H)
     (known-state-in : Triple 𝓤 (𝓣 .C #state-in) (StateIn 𝓤 H A at-mem run)) (known-words-in : Triple 𝓤 (𝓣 .C #words-in) (WordsIn 𝓤 H A at-mem run)) (known-components-of : Triple 𝓤 (𝓣 .C #components-of) (Components 𝓤 H A at-mem run)) (known-minimums-of : Triple 𝓤 (𝓣 .C #minimums-of) (Minimums 𝓤 H A at-mem run)) (known-maximums-of : Triple 𝓤 (𝓣 .C #maximums-of) (Maximums 𝓤 H A at-mem run)) (known-spare-minimums-of : Triple 𝓤 (𝓣 .C #spare-minimums-of) (SpareMinimums 𝓤 H A at-mem run)) (known-spare-maximums-of : Triple 𝓤 (𝓣 .C #spare-maximums-of) (SpareMaximums 𝓤 H A at-mem run)) (known-axis-tracks : Triple 𝓤 (𝓣 .C #axis-tracks) (TracksOf 𝓤 H A at-mem run)) (known-fill : Triple 𝓤 (𝓣 .C #fill) (Fill 𝓤 H A at-mem run)) where

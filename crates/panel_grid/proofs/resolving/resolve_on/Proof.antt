@@ -1,8 +1,8 @@
 use borrow.Author.Tests.{lt-leb}
 use Rattle.named.specs.Placements.{resolutionOf}
 use borrow.Author.Needs.{needs}
-use Rattle.panel_grid.proofs.placing.resolve_on.Statement.{statement}
-use Rattle.panel_grid.proofs.placing.resolve_on.Tie as tie
+use Rattle.panel_grid.proofs.resolving.resolve_on.Statement.{statement}
+use Rattle.panel_grid.proofs.resolving.resolve_on.Tie as tie
 
 refused-resolution-requires : tie.Need-refused-resolution-requires
 refused-resolution-requires c κs = search needs

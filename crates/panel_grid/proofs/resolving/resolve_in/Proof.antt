@@ -1,6 +1,6 @@
 use borrow.Author.Needs.{needs}
-use Rattle.panel_grid.proofs.placing.resolve_in.Statement.{statement}
-use Rattle.panel_grid.proofs.placing.resolve_in.Tie as tie
+use Rattle.panel_grid.proofs.resolving.resolve_in.Statement.{statement}
+use Rattle.panel_grid.proofs.resolving.resolve_in.Tie as tie
 
 enum-told : tie.Need-enum-told
 enum-told c = search needs

@@ -1,6 +1,6 @@
 use borrow.Author.Needs.{needs}
-use Rattle.panel_grid.proofs.placing.refused_resolution.Statement.{statement}
-use Rattle.panel_grid.proofs.placing.refused_resolution.Tie as tie
+use Rattle.panel_grid.proofs.resolving.refused_resolution.Statement.{statement}
+use Rattle.panel_grid.proofs.resolving.refused_resolution.Tie as tie
 
 refusal-of-requires : tie.Need-refusal-of-requires
 refusal-of-requires c κs = search needs
