@@ -3,3 +3,5 @@ pub mod Suffixes
 pub mod Marking
 pub mod Tables
 pub mod Walk
+pub mod HighestLine
+pub mod Windows

@@ -6,11 +6,11 @@ use Prim.Native.Nat.{ℕ, _+_, _-_, _≤_, _<_}
 use native.Mathlib.Omega.{arith}
 use borrow.Author.Tests.{le-leb, lt-leb, leb-true, eqb-true, eq-eqb}
 use lib.Dec.{eqb, leb}
-use lib.ListN.{length, take, drop, getD, length-append, length-drop, take-append-drop}
+use lib.ListN.{length, take, drop, getD, length-append, length-take, length-drop, take-append-drop}
 use lib.Seq.{take-all, getD-append-add}
 use Rattle.line_placement.specs.Css.{Bytes, start, end, suffix}
 use Rattle.line_placement.specs.Rule.{eqBytes}
-use Rattle.line_search.specs.Suffixes.{endsWith, edgeOf}
+use Rattle.line_search.specs.Suffixes.{endsWith, edgeOf, stemOf}
 use Rattle.line_search.specs.declared.suffix.AreaEdge.{AreaEdge}
 use Rattle.line_search.specs.declared.suffix.AreaEdge.the-variants.{Start, End, Neither}
 
@@ -92,16 +92,35 @@ stems a b s =
     (λ h. rw (cancel a b s (eq-bytes (a ++ s) (b ++ s) h)) (bytes-eq b))
     (λ h. rw (eq-bytes a b h) (bytes-eq (b ++ s)))
 
--- a name with no such tail is not joined; one with it is, where its stem is
-pub joined-no : (n a s : Bytes) → endsWith n s ≡ false → eqBytes n (a ++ s) ≡ false
-joined-no n a s h = bytes-differ n (a ++ s) (λ e. let q : endsWith n s ≡ true = rw e (ends-joined a s) in never (sym h ∙ q))
+-- a name shorter than the stem is not joined; any other is compared part by part
+pub joined-short : (n a s : Bytes) → length n < length a → eqBytes n (a ++ s) ≡ false
+joined-short n a s h = bytes-differ n (a ++ s) (λ e. omega (arith, ap length e, length-append a s))
 
-pub joined-yes : (n a s : Bytes) → endsWith n s ≡ true
-    → eqBytes (take (length n - length s - 0) (drop 0 n)) a ≡ eqBytes n (a ++ s)
-joined-yes n a s h =
-    let z : length n - length s - 0 ≡ length n - length s = omega arith in
-    let e : n ≡ take (length n - length s) n ++ s = ends-stem n s h in
-    rw z (sym (ap (λ (l : Bytes). eqBytes l (a ++ s)) e ∙ stems (take (length n - length s) n) a s))
+and-assoc : (a b c : Bool) → (a && (b && c)) ≡ ((a && b) && c)
+and-assoc true b c = refl
+and-assoc false b c = refl
+
+parts : (a b c d : Bytes) → length a ≡ length c → eqBytes (a ++ b) (c ++ d) ≡ (eqBytes a c && eqBytes b d)
+parts [] b [] d e = refl
+parts [] b (y ∷ c) d e = absurd (omega arith)
+parts (x ∷ a) b [] d e = absurd (omega arith)
+parts (x ∷ a) b (y ∷ c) d e = rw (parts a b c d (omega arith)) (and-assoc (eqb x y) (eqBytes a c) (eqBytes b d))
+
+pub joined-parts : (n a s : Bytes) → length a ≤ length n
+    → eqBytes n (a ++ s) ≡ (eqBytes (take (length a - 0) (drop 0 n)) a && eqBytes (take (length n - length a) (drop (length a) n)) s)
+joined-parts n a s h =
+    let z : length a - 0 ≡ length a = omega arith in
+    let l : length (take (length a) n) ≡ length a = rw length-take (omega arith) in
+    rw (z, tail-all n (length a))
+    (ap (λ (t : Bytes). eqBytes t (a ++ s)) (sym (take-append-drop (length a) n)) ∙ parts (take (length a) n) (drop (length a) n) a s l)
+
+pub and-no : (a : Bool) → (a && false) ≡ false
+and-no true = refl
+and-no false = refl
+
+pub and-yes : (a : Bool) → (a && true) ≡ a
+and-yes true = refl
+and-yes false = refl
 
 -- `-start` and `-end` end in other bytes
 pub other-ends : (a b : Bytes) → a ++ suffix start ≡ b ++ suffix end → ⊥
@@ -116,22 +135,17 @@ other-ends a b e =
 pub not-joined : (a n s : Bytes) → endsWith n s ≡ false → eqBytes (a ++ s) n ≡ false
 not-joined a n s h = bytes-differ (a ++ s) n (λ e. let q : endsWith n s ≡ true = rw (← e) (ends-joined a s) in never (sym h ∙ q))
 
--- the stem of a name that stands for an edge, and what a name that stands for none does not end in
-abbrev pub StemOf : Bytes → AreaEdge → Type 0
-StemOf n (Start k) = (k ≤ length n) × (n ≡ take (k - 0) (drop 0 n) ++ suffix start)
-StemOf n (End k) = (k ≤ length n) × (n ≡ take (k - 0) (drop 0 n) ++ suffix end)
-StemOf n Neither = (endsWith n (suffix start) ≡ false) × (endsWith n (suffix end) ≡ false)
+-- what a name is made of, by the edge that it stands for
+abbrev pub MadeOf : Bytes → AreaEdge → Type 0
+MadeOf n Start = stemOf n Start ++ suffix start ≡ n
+MadeOf n End = stemOf n End ++ suffix end ≡ n
+MadeOf n Neither = (endsWith n (suffix start) ≡ false) × (endsWith n (suffix end) ≡ false)
 
-stem : (n s : Bytes) (k : ℕ) → k ≡ length s → endsWith n s ≡ true → n ≡ take (length n - k - 0) (drop 0 n) ++ s
-stem n s k e h =
-    let z : length n - k - 0 ≡ length n - length s = omega arith in
-    rw z (ends-stem n s h)
-
-pub stem-of : (n : Bytes) → StemOf n (edgeOf n)
+pub made-of : (n : Bytes) → MadeOf n (edgeOf n)
 unfolding edgeOf
-stem-of n = go (endsWith n (suffix start)) (endsWith n (suffix end)) refl refl
+made-of n = go (endsWith n (suffix start)) (endsWith n (suffix end)) refl refl
   where
-    go : (a b : Bool) → endsWith n (suffix start) ≡ a → endsWith n (suffix end) ≡ b → StemOf n (cond a (Start (length n - 6)) (cond b (End (length n - 4)) Neither))
-    go true b e f = (omega arith, stem n (suffix start) 6 refl e)
-    go false true e f = (omega arith, stem n (suffix end) 4 refl f)
+    go : (a b : Bool) → endsWith n (suffix start) ≡ a → endsWith n (suffix end) ≡ b → MadeOf n (cond a Start (cond b End Neither))
+    go true b e f = sym (ends-stem n (suffix start) e)
+    go false true e f = sym (ends-stem n (suffix end) f)
     go false false e f = (e, f)

@@ -1,7 +1,7 @@
 -- The drawn areas of a panel as lent tables: a word of edges and a word of where the name lies for each area, and the bytes of the names.
-use Prim.Native.Nat.{ℕ, _/_, _%_}
-use mathlib.Core.Bool.{Bool, _&&_, _||_}
-use mathlib.Core.List.{List, [], _∷_}
+use Prim.Native.Nat.{ℕ, suc, _/_, _%_}
+use mathlib.Core.Bool.{Bool, false, _&&_, _||_}
+use mathlib.Core.List.{List, [], _∷_, _++_}
 use lib.Dec.{eqb}
 use lib.ListN.{getD, drop}
 use Rattle.coordinates.specs.declared.axis.Axis.{Axis}
@@ -11,6 +11,9 @@ use Rattle.line_placement.specs.Rule.{any, eqBytes, written?, drawn?}
 use Rattle.name_store.specs.Entries.{entryOf, nameIn, entriesOf}
 use Rattle.line_search.specs.declared.GridAreaEnd.{GridAreaEnd}
 use Rattle.line_search.specs.declared.GridAreaEnd.the-variants.{Start, End}
+use Rattle.line_search.specs.declared.suffix.AreaEdge.{AreaEdge}
+use Rattle.line_search.specs.declared.suffix.AreaEdge.the-variants as Sought
+use Rattle.line_search.specs.Suffixes.{tailOf}
 
 -- the end that is placed
 abbrev pub sideOf : GridAreaEnd → Side
@@ -54,3 +57,18 @@ bearsIn axis entries store edges areas areastore = bears (entriesOf entries stor
 -- whether a line is an edge of the area of a name
 abbrev pub edged? : Bytes → Side → ℕ → Area → Bool
 edged? nm s number a = eqb (edge a s) number && eqBytes (a .name) nm
+
+-- whether a line is the edge sought of an area of a name
+abbrev pub edgedBy : List Area → Bytes → AreaEdge → ℕ → Bool
+edgedBy areas nm Sought.Start number = any (edged? nm start number) areas
+edgedBy areas nm Sought.End number = any (edged? nm end number) areas
+edgedBy areas nm Sought.Neither number = false
+
+-- whether a line bears a name in two parts: a stem, and the suffix of an edge
+unfoldable pub bearsJoined : List Entry → List Area → Bytes → AreaEdge → ℕ → Bool
+bearsJoined book areas stem sought number = any (written? (stem ++ tailOf sought) number) book || edgedBy areas stem sought number
+
+-- the same for origin-zero line l, by the lent tables
+unfoldable pub soughtIn : Axis → List ℕ → List ℕ → List ℕ → List ℕ → List ℕ → Bytes → AreaEdge → ℕ → Bool
+soughtIn axis entries store edges areas areastore stem sought l =
+    bearsJoined (entriesOf entries store) (areasOf axis edges areas areastore) stem sought (suc l)

@@ -2,3 +2,4 @@
 pub mod Suffixes
 pub mod Areas
 pub mod Marks
+pub mod HighestLine

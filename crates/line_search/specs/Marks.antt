@@ -1,24 +1,33 @@
--- Marks of lines, a byte for each, as the search reads them.
+-- Marks of the lines of a window, a byte for each, as the search reads them.
 use mathlib.Core.Path.{_≡_}
-use mathlib.Core.Bool.{Bool, _||_}
+use mathlib.Core.Bool.{Bool, _&&_, _||_}
 use mathlib.Core.List.{List}
-use Prim.Native.Nat.{ℕ, _<_}
-use lib.Dec.{eqb}
+use Prim.Native.Nat.{ℕ, zero, suc, _+_, _-_, _<_}
+use lib.Dec.{eqb, ltb}
 use lib.ListN.{length, getD}
-use Rattle.line_placement.specs.Rule.{Seek, at, left}
-use Rattle.line_search.specs.declared.search.Found.{Found}
-use Rattle.line_search.specs.declared.search.Found.the-variants.{At, Left}
+use Rattle.line_placement.specs.Rule.{Seek, at, left, onward}
+use Rattle.line_search.specs.declared.Found.{Found}
+use Rattle.line_search.specs.declared.Found.the-variants.{At, Left}
 
--- line l is marked
+-- place k of the window is marked
 abbrev pub marked : List ℕ → ℕ → Bool
-marked ms l = eqb (getD ms l 0) 1
+marked ms k = eqb (getD ms k 0) 1
 
--- the marks after those lines were marked too at which p holds
+-- the marks after those places were marked too at which p holds
 pub record Adds (before after : List ℕ) (p : ℕ → Bool) : Type 0 where
   pub kept : length after ≡ length before
-  pub lines : (k : ℕ) → k < 20000 → k < length before → marked after k ≡ (marked before k || p k)
+  pub places : (k : ℕ) → k < length before → marked after k ≡ (marked before k || p k)
+
+-- the line of a number is among the count lines from low on
+abbrev pub liesIn : ℕ → ℕ → ℕ → Bool
+liesIn low count number = ltb low number && ltb (number - low - 1) count
 
 -- the answer of a search
 abbrev pub seekOf : Found → Seek
 seekOf (At l) = at l
 seekOf (Left m) = left m
+
+-- pass over m marked numbers among the k from f on, the last first, and answer the next
+unfoldable pub back : (ℕ → Bool) → ℕ → ℕ → ℕ → Seek
+back p f zero m = left m
+back p f (suc k) m = onward (p (f + k)) (f + k) m (λ j. back p f k j)

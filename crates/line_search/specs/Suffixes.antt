@@ -1,6 +1,7 @@
 -- Document 01, layer 4: a name that ends in the bytes `-start` or `-end`.
 use Prim.Native.Nat.{ℕ, _-_}
 use mathlib.Core.Bool.{Bool, cond, _&&_}
+use mathlib.Core.List.{[]}
 use lib.Dec.{leb}
 use lib.ListN.{length, take, drop}
 use Rattle.line_placement.specs.Css.{Bytes, Side, start, end, suffix}
@@ -12,6 +13,21 @@ use Rattle.line_search.specs.declared.suffix.AreaEdge.the-variants.{Star
 abbrev pub endsWith : Bytes → Bytes → Bool
 endsWith n s = leb (length s) (length n) && eqBytes (drop (length n - length s) n) s
 
--- the edge that a name stands for, with the length of the area's name
+-- the edge that a name stands for
 unfoldable pub edgeOf : Bytes → AreaEdge
-edgeOf n = cond (endsWith n (suffix start)) (Start (length n - 6)) (cond (endsWith n (suffix end)) (End (length n - 4)) Neither)
+edgeOf n = cond (endsWith n (suffix start)) Start (cond (endsWith n (suffix end)) End Neither)
+
+-- the edge at a side
+abbrev pub sideEdge : Side → AreaEdge
+sideEdge start = Start
+sideEdge end = End
+
+-- what stands after the stem of a name for an edge
+abbrev pub tailOf : AreaEdge → Bytes
+tailOf Start = suffix start
+tailOf End = suffix end
+tailOf Neither = []
+
+-- the part of a name before it
+abbrev pub stemOf : Bytes → AreaEdge → Bytes
+stemOf n edge = take (length n - length (tailOf edge)) n

@@ -1,5 +1,5 @@
 // The drawn areas of an axis: which of their edges have a name.
-ghost use Prim.Native.Nat.{suc};
+ghost use Prim.Native.Nat.{_+_, suc};
 ghost use Rattle.line_placement.specs.Rule.{any};
 ghost use Rattle.line_search.specs.Areas.{areaOf, areasOf, axisPart, edgeIn, edged?, sideOf};
 ghost use Rattle.line_search.specs.Marks.{Adds};
@@ -22,7 +22,7 @@ fn axis_part(axis: Axis, word: u64) -> u64
 }
 
 // The number of an area's edge line in an axis.
-fn edge_in(axis: Axis, end: GridAreaEnd, word: u64) -> u32
+pub fn edge_in(axis: Axis, end: GridAreaEnd, word: u64) -> u32
     ensures { λ r. ⌜ r ≡ edgeIn axis (sideOf end) word ⌝ }
 {
     let part = axis_part(axis, word);
@@ -32,9 +32,10 @@ fn edge_in(axis: Axis, end: GridAreaEnd, word: u64) -> u32
     }
 }
 
-// Mark an edge of a drawn area that has the name.
+// Mark an edge of a drawn area that has the name. A name whose edge lies outside is not looked at.
 fn mark_area(
-    marks: &mut [u8; 20000],
+    marks: &mut [u8],
+    low: u32,
     axis: Axis,
     word: u64,
     area: u64,
@@ -42,11 +43,15 @@ fn mark_area(
     name: &[u8],
     end: GridAreaEnd,
 )
-    ensures { λ r. ⌜ Adds (now (marks .entry)) (now (marks .exit)) (λ k. edged? (now (name .entry)) (sideOf end) (suc k) (areaOf axis word area (now (areastore .entry)))) ⌝ }
+    ensures { λ r. ⌜ Adds (now (marks .entry)) (now (marks .exit)) (λ k. edged? (now (name .entry)) (sideOf end) (suc (low + k)) (areaOf axis word area (now (areastore .entry)))) ⌝ }
 {
+    let number = edge_in(axis, end, word);
+    if !marks::lies_in(low, marks.len(), number) {
+        return;
+    }
     let entry = entry::entry_of(area);
     if bytes::same_bytes(entry::name_in(areastore, entry), name) {
-        marks::mark_line(marks, edge_in(axis, end, word));
+        marks::mark_line(marks, low, number);
     }
 }
 
@@ -62,7 +67,8 @@ fn word_at(words: &[u64], at: usize) -> u64
 
 // Mark an edge of each drawn area that has the name.
 pub fn mark_areas(
-    marks: &mut [u8; 20000],
+    marks: &mut [u8],
+    low: u32,
     axis: Axis,
     edges: &[u64],
     areas: &[u64],
@@ -70,19 +76,12 @@ pub fn mark_areas(
     name: &[u8],
     end: GridAreaEnd,
 )
-    ensures { λ r. ⌜ Adds (now (marks .entry)) (now (marks .exit)) (λ k. any (edged? (now (name .entry)) (sideOf end) (suc k)) (areasOf axis (now (edges .entry)) (now (areas .entry)) (now (areastore .entry)))) ⌝ }
+    ensures { λ r. ⌜ Adds (now (marks .entry)) (now (marks .exit)) (λ k. any (edged? (now (name .entry)) (sideOf end) (suc (low + k))) (areasOf axis (now (edges .entry)) (now (areas .entry)) (now (areastore .entry)))) ⌝ }
 {
     let mut i = 0;
     while i < edges.len() {
-        mark_area(
-            marks,
-            axis,
-            edges[i],
-            word_at(areas, i),
-            areastore,
-            name,
-            end,
-        );
+        let area = word_at(areas, i);
+        mark_area(marks, low, axis, edges[i], area, areastore, name, end);
         i += 1;
     }
 }

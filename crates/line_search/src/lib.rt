@@ -1,8 +1,18 @@
 // Layer 4, the lines that bear a name: those of entries, and the edges of drawn areas.
 mod areas;
-pub mod marks;
+mod backwards;
+mod forwards;
+mod highest;
+mod marks;
 pub mod search;
+mod seek;
 mod suffix;
+
+// The line that a search comes to, or how many lines of the name were still to be passed over.
+pub enum Found {
+    At(u32),
+    Left(u32),
+}
 
 // An edge of an area, and the end of a placement that is placed.
 pub enum GridAreaEnd {

@@ -1,14 +1,17 @@
-// Names in two parts: a name before `-start` or `-end`.
-ghost use mathlib.Core.Path.{_≡_};
-ghost use mathlib.Core.List.{_++_};
+// Names in two parts: a stem, and `-start`, `-end` or nothing.
 ghost use Rattle.line_placement.specs.Rule.{eqBytes};
-ghost use Rattle.line_search.specs.Suffixes.{endsWith, edgeOf};
+ghost use Rattle.line_search.specs.Areas.{sideOf};
+ghost use Rattle.line_search.specs.Suffixes.{edgeOf, endsWith, sideEdge, stemOf, tailOf};
+ghost use lib.ListN.{length};
+ghost use mathlib.Core.List.{_++_};
+ghost use mathlib.Core.Path.{_≡_};
+use crate::GridAreaEnd;
 use name_store::bytes;
 
-// The edge that a name stands for, with the length of the area's name before the suffix.
+// The edge of an area that a name stands for.
 pub enum AreaEdge {
-    Start(usize),
-    End(usize),
+    Start,
+    End,
     Neither,
 }
 
@@ -29,21 +32,58 @@ pub fn edge_of(name: &[u8]) -> AreaEdge
     ensures { λ r. ⌜ r ≡ edgeOf (now (name .entry)) ⌝ }
 {
     if ends_with(name, b"-start") {
-        return AreaEdge::Start(name.len() - 6);
+        return AreaEdge::Start;
     }
     if ends_with(name, b"-end") {
-        return AreaEdge::End(name.len() - 4);
+        return AreaEdge::End;
     }
     AreaEdge::Neither
 }
 
-// Whether the name is the stem followed by the suffix.
-pub fn is_joined(name: &[u8], stem: &[u8], suffix: &[u8]) -> bool
-    ensures { λ r. ⌜ r ≡ eqBytes (now (name .entry)) (now (stem .entry) ++ now (suffix .entry)) ⌝ }
+// The edge at an end of a placement.
+pub fn edge_at(end: GridAreaEnd) -> AreaEdge
+    ensures { λ r. ⌜ r ≡ sideEdge (sideOf end) ⌝ }
 {
-    if !ends_with(name, suffix) {
+    match end {
+        GridAreaEnd::Start => AreaEdge::Start,
+        GridAreaEnd::End => AreaEdge::End,
+    }
+}
+
+// How many bytes stand after the stem.
+fn tail_length(edge: AreaEdge) -> usize
+    ensures { λ r. ⌜ r ≡ length (tailOf edge) ⌝ }
+{
+    match edge {
+        AreaEdge::Start => 6,
+        AreaEdge::End => 4,
+        AreaEdge::Neither => 0,
+    }
+}
+
+// The part of a name before the suffix of an edge.
+pub fn stem_of(name: &[u8], edge: AreaEdge) -> &[u8]
+    ensures { λ r. ⌜ now r ≡ stemOf (now (name .entry)) edge ⌝ }
+{
+    let n = name.len();
+    let tail = tail_length(edge);
+    if n < tail {
+        return &name[0..0];
+    }
+    let at = n - tail;
+    &name[0..at]
+}
+
+// Whether the name is the stem followed by the tail. A name of another length is told without a look at its bytes.
+pub fn is_joined(name: &[u8], stem: &[u8], tail: &[u8]) -> bool
+    ensures { λ r. ⌜ r ≡ eqBytes (now (name .entry)) (now (stem .entry) ++ now (tail .entry)) ⌝ }
+{
+    let at = stem.len();
+    if name.len() < at {
         return false;
     }
-    let at = name.len() - suffix.len();
+    if !bytes::same_bytes(&name[at..], tail) {
+        return false;
+    }
     bytes::same_bytes(&name[0..at], stem)
 }

@@ -3,76 +3,71 @@ use mathlib.Core.Path.{_≡_, refl, sym, _∙_, ap}
 use mathlib.Core.Logic.{⊎-elim}
 use mathlib.Core.Bool.{Bool, true, false}
 use mathlib.Core.List.{List, _++_}
-use Prim.Native.Nat.{ℕ, zero, suc, pred, _+_, _-_, _≤_, _<_, min}
+use Prim.Native.Nat.{ℕ, zero, suc, pred, _+_, _-_, _≤_, _<_, max, min}
 use native.Mathlib.Numerals.{add-one}
 use native.Mathlib.Omega.{arith}
 use borrow.Author.Tests.{ne-eqb}
 use lib.Dec.{eqb}
 use lib.IntN.{ℤ, pos, negsuc, _+ℤ_, _-ℤ_}
-use lib.ListN.{replicate, length-replicate, getD-replicate}
 use Rattle.coordinates.specs.Lines.{held, Within}
 use Rattle.coordinates.proofs.Lines.{held-within, lt-or-ge}
 use Rattle.line_placement.specs.Css.{Bytes, Side, suffix}
-use Rattle.line_placement.specs.Rule.{Seek, at, left, seek, top, upFrom, forwards, lineOf, backwards, marks, orFirst, find, spanFrom}
+use Rattle.line_placement.specs.Rule.{Seek, at, left, onward, seek, settle, top, upFrom, forwards, lineOf, backwards, marks, orFirst, find, spanFrom}
 use Rattle.line_placement.specs.Css as Css
 use Rattle.line_placement.proofs.Counting.{seek-below}
-use Rattle.coordinates.specs.Signed.{integerOf}
-use Rattle.coordinates.specs.declared.signed.Signed.the-variants.{NonNegative}
-use Rattle.line_search.specs.Marks.{marked, Adds}
-use Rattle.named.specs.Counts.{countedLine, isZero, indexCount, CountedSpan}
+use Rattle.coordinates.specs.Signed.{integerOf, Small}
+use Rattle.coordinates.specs.declared.signed.Signed.{Signed}
+use Rattle.coordinates.specs.declared.signed.Signed.the-variants.{NonNegative, Negative}
+use Rattle.line_search.specs.Marks.{seekOf, back}
+use Rattle.line_search.specs.declared.Found.{Found}
+use Rattle.line_search.specs.declared.Found.the-variants.{At, Left}
+use Rattle.named.specs.Counts.{countedLine, isZero, indexCount, CountedSpan, firstLine, LeftFits, foundLine}
 use Rattle.named.specs.declared.count.Count.{Count}
 use Rattle.named.specs.declared.count.Count.the-variants.{Forwards, Backwards}
 use Rattle.line_search.proofs.Suffixes.{never}
-use Rattle.line_search.proofs.Walk.{seek-same}
+use Rattle.line_search.proofs.Walk.{left-le}
 
--- marks that began with none are the lines marked
-pub fresh : (n : ℕ) (after : List ℕ) (p : ℕ → Bool) → Adds (replicate n 0) after p → (k : ℕ) → k < 20000 → k < n → marked after k ≡ p k
-fresh n after p f k h g =
-    f .lines k h (rw (length-replicate {A = ℕ} n 0) g) ∙ rw (getD-replicate {A = ℕ} n k 0 0 g)
+-- what is left is no more than what was to be passed over
+pub left-fits : (p : ℕ → Bool) (k f m : ℕ) (r : Found) → m < 65536 → seekOf r ≡ seek p k f m → LeftFits r
+left-fits p k f m (At l) h e = tt
+left-fits p k f m (Left n) h e = omega (arith, left-le p k f m n e)
 
--- a search forwards
-module _ (e f m : ℕ) (p : ℕ → Bool) where
-  pub up-at : (l : ℕ) → at l ≡ seek p (20000 - f) f m → l ≡ upFrom e p f m
-  up-at l q = rw (← q)
+-- a count forwards
+pub first-small : (s : Signed) → Small s → firstLine (integerOf s) < 32768
+first-small (NonNegative l) h = h
+first-small (Negative k) h = omega arith
 
-  pub up-past : (r : ℕ) → left r ≡ seek p (20000 - f) f m → e < f → f + r ≡ upFrom e p f m
-  up-past r q h = rw (← q) (omega arith)
+forwards-first : (e : ℕ) (p : ℕ → Bool) (z : ℤ) (m : ℕ) → pos (upFrom e p (firstLine z) m) ≡ forwards e p z m
+forwards-first e p (pos f) m = refl
+forwards-first e p (negsuc f) m = refl
 
-  pub up-left : (r : ℕ) → left r ≡ seek p (20000 - f) f m → f ≤ e → e + 1 + r ≡ upFrom e p f m
-  up-left r q h = rw (← q) (omega arith)
+pub found-forwards : (e : ℕ) (p : ℕ → Bool) (z : ℤ) (m l : ℕ) (s : Seek) (x : ℤ) → l ≡ firstLine z → s ≡ seek p (20000 - l) l m
+    → x ≡ held (pos (settle (max l (suc e)) s)) → x ≡ held (forwards e p z m)
+found-forwards e p z m l s x a b q = q ∙ rw (b, a) (ap held (forwards-first e p z m))
 
-up-same : (e f m : ℕ) (p q : ℕ → Bool) → ((k : ℕ) → k < 20000 → p k ≡ q k) → upFrom e p f m ≡ upFrom e q f m
-unfolding seek
-up-same e f m p q h =
-    ⊎-elim
-    (λ (g : 20000 < f). let z : 20000 - f ≡ 0 = omega arith in rw z)
-    (λ (g : f ≤ 20000). rw (seek-same p q (20000 - f) f m (λ j b. h j (omega arith))))
-    (lt-or-ge 20000 f)
+-- a count backwards, by distances and by lines
+distances : (e : ℕ) (p : ℕ → Bool) (l k d m : ℕ) → d + k ≡ suc l → foundLine (back p 0 k m) ≡ lineOf e p l (seek (λ i. p (l - i)) k d m)
+unfolding seek back
+distances e p l zero d m h = refl
+distances e p l (suc k) d m h =
+    let z : 0 + k ≡ k = omega arith in
+    let q : l - d ≡ k = omega arith in
+    rw (z, q) (go (p k) m (λ j. distances e p l k (suc d) j (omega arith)))
+  where
+    go : (b : Bool) (m : ℕ) → ((j : ℕ) → foundLine (back p 0 k j) ≡ lineOf e p l (seek (λ i. p (l - i)) k (suc d) j))
+        → foundLine (onward b k m (λ j. back p 0 k j)) ≡ lineOf e p l (onward b d m (λ j. seek (λ i. p (l - i)) k (suc d) j))
+    go false m rec = rec m
+    go true zero rec = let q : k ≡ l - d = omega arith in ap pos q
+    go true (suc m) rec = rec m
 
-pub forwards-same : (e : ℕ) (p q : ℕ → Bool) (z : ℤ) (m : ℕ) → ((k : ℕ) → k < 20000 → p k ≡ q k) → forwards e p z m ≡ forwards e q z m
-forwards-same e p q (pos f) m h = ap pos (up-same e f m p q h)
-forwards-same e p q (negsuc f) m h = ap pos (up-same e 0 m p q h)
+backwards-line : (e : ℕ) (p : ℕ → Bool) (s m : ℕ) → e ≤ 10000 → foundLine (back p 0 (min (suc (min s e)) 20000) m) ≡ backwards e p (pos s) m
+backwards-line e p s m h =
+    let q : min (suc (min s e)) 20000 ≡ suc (min s e) = omega arith in
+    rw q (distances e p (min s e) (suc (min s e)) 0 m (omega arith))
 
--- a search backwards
-module _ (l m : ℕ) (p : ℕ → Bool) where
-  pub down-at : (d : ℕ) → at d ≡ seek (λ k. p (l - k)) (l + 1) 0 m → pos (l - d) ≡ lineOf 0 p l (seek (λ k. p (l - k)) (l + 1) 0 m)
-  down-at d q = rw (← q)
-
-  pub down-left : (r : ℕ) → left r ≡ seek (λ k. p (l - k)) (l + 1) 0 m → negsuc r ≡ lineOf 0 p l (seek (λ k. p (l - k)) (l + 1) 0 m)
-  down-left r q = rw (← q)
-
-  pub down-below : (d : ℕ) → at d ≡ seek (λ k. p (l - k)) (l + 1) 0 m → d ≤ l
-  down-below d q = omega (arith, seek-below (λ k. p (l - k)) (l + 1) 0 m d (sym q))
-
-  pub back-in : (e : ℕ) → l ≤ e → lineOf 0 p l (seek (λ k. p (l - k)) (l + 1) 0 m) ≡ backwards e p (pos l) m
-  back-in e h = let q : min l e ≡ l = omega arith in rw (q, add-one l)
-
-  pub back-out : (e : ℕ) → e < l → lineOf 0 p e (seek (λ k. p (e - k)) (e + 1) 0 m) ≡ backwards e p (pos l) m
-  back-out e h = let q : min l e ≡ e = omega arith in rw (q, add-one e)
-
-pub backwards-same : (e : ℕ) (p q : ℕ → Bool) (z : ℤ) (m : ℕ) → e ≤ 10000 → ((k : ℕ) → k < 20000 → p k ≡ q k) → backwards e p z m ≡ backwards e q z m
-backwards-same e p q (pos s) m b h = rw (seek-same (λ d. p (min s e - d)) (λ d. q (min s e - d)) (suc (min s e)) 0 m (λ j g. h (min s e - j) (omega arith)))
-backwards-same e p q (negsuc s) m b h = refl
+pub found-backwards : (e : ℕ) (p : ℕ → Bool) (s m n : ℕ) (k : Seek) (x : ℤ) → e ≤ 10000 → n ≡ suc (min s e) → k ≡ back p 0 (min n 20000) m
+    → x ≡ held (foundLine k) → x ≡ held (backwards e p (pos s) m)
+found-backwards e p s m n k x h a b q = q ∙ rw (b, a) (ap held (backwards-line e p s m h))
 
 -- a name
 module _ (e : ℕ) (names : Bytes → ℕ → Bool) (nm : Bytes) (s : Side) (z : ℤ) where
@@ -81,11 +76,6 @@ module _ (e : ℕ) (names : Bytes → ℕ → Bool) (nm : Bytes) (s : Side) (z :
 
   pub find-left : (r : ℕ) → left r ≡ seek (marks e names (nm ++ suffix s)) 20000 0 0 → z ≡ held (forwards e (marks e names nm) (pos 0) 0) → z ≡ find e names nm s (pos 0)
   find-left r q h = rw (← q) h
-
--- a count reads only the lines that it comes to
-pub counted-same : (e : ℕ) (p q : ℕ → Bool) (n : Count) → e ≤ 10000 → ((k : ℕ) → k < 20000 → p k ≡ q k) → countedLine e p n ≡ countedLine e q n
-counted-same e p q (Forwards first over) b h = ap held (forwards-same e p q (integerOf first) over h)
-counted-same e p q (Backwards last over) b h = ap held (backwards-same e p q (integerOf last) over b h)
 
 -- 0 is told from the other numbers
 pub zero-test : (n : ℕ) → eqb n 0 ≡ isZero (pos n)

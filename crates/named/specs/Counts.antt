@@ -7,7 +7,9 @@ use Rattle.coordinates.specs.Lines.{held}
 use Rattle.coordinates.specs.Signed.{integerOf, Small}
 use Rattle.coordinates.specs.declared.signed.Signed.the-variants.{NonNegative}
 use Rattle.line_placement.specs.Css.{Side, start, end}
-use Rattle.line_placement.specs.Rule.{forwards, backwards}
+use Rattle.line_placement.specs.Rule.{Seek, at, left, forwards, backwards}
+use Rattle.line_search.specs.declared.Found.{Found}
+use Rattle.line_search.specs.declared.Found.the-variants.{At, Left}
 use Rattle.named.specs.declared.count.Count.{Count}
 use Rattle.named.specs.declared.count.Count.the-variants.{Forwards, Backwards}
 
@@ -39,3 +41,18 @@ CountedSpan start n o (Forwards first over) = ⊥
 CountedSpan start n o (Backwards last over) = (integerOf last ≡ o -ℤ pos 1) × (over ≡ pred n)
 CountedSpan end n o (Forwards first over) = (integerOf first ≡ o +ℤ pos 1) × (over ≡ pred n)
 CountedSpan end n o (Backwards last over) = ⊥
+
+-- a count forwards begins at line 0 where its line lies before that
+abbrev pub firstLine : ℤ → ℕ
+firstLine (pos l) = l
+firstLine (negsuc k) = 0
+
+-- what is left to be passed over is at most 65,535 lines
+abbrev pub LeftFits : Found → Type 0
+LeftFits (At l) = Unit {0}
+LeftFits (Left m) = m < 65536
+
+-- the line that a search backwards comes to, every line before line 0 counting
+abbrev pub foundLine : Seek → ℤ
+foundLine (at l) = pos l
+foundLine (left m) = negsuc m

@@ -1,15 +1,18 @@
-// Lines of a name, counted: past the explicit grid every line counts.
+// Lines of a name, counted: where too few lines bear it, every line past the explicit grid counts.
+ghost use Prim.Native.Nat.{_<_, max, min, pred, suc};
+ghost use Rattle.coordinates.specs.Lines.{Within, held};
+ghost use Rattle.coordinates.specs.Signed.{Small, integerOf};
+ghost use Rattle.line_placement.specs.Rule.{settle};
+ghost use Rattle.line_search.specs.Areas.{sideOf};
+ghost use Rattle.line_search.specs.Marks.{seekOf};
+ghost use Rattle.named.specs.Counts.{CountFits, CountedSpan, LeftFits, firstLine, foundLine, indexCount, isZero};
+ghost use lib.IntN.{pos};
 ghost use mathlib.Core.Path.{_≡_};
-ghost use Prim.Native.Nat.{_+_, _-_, _≤_, _<_};
-ghost use Rattle.line_placement.specs.Rule.{seek, upFrom, forwards, lineOf, backwards};
-ghost use Rattle.coordinates.specs.Lines.{held};
-ghost use Rattle.line_search.specs.Marks.{marked, seekOf};
-ghost use Rattle.named.specs.Counts.{CountFits, countedLine};
-ghost use Rattle.coordinates.specs.Signed.{integerOf, Small};
+use coordinates::OriginZeroLine;
 use coordinates::signed;
 use coordinates::signed::Signed;
-use line_search::search;
-use line_search::search::Found;
+use line_search::Found;
+use line_search::GridAreaEnd;
 
 // How the lines of a name are counted: on from a line or back from one, passing over so many.
 pub enum Count {
@@ -17,103 +20,99 @@ pub enum Count {
     Backwards(Signed, u32),
 }
 
-// As `seek_up`, counting back from `last`: distances from it.
-pub(crate) fn seek_down(marks: &[u8; 20000], last: u32, over: u32) -> Found
-    requires { ⌜ last < 20000 ⌝ }
-    ensures { λ r. ⌜ seekOf r ≡ seek (λ d. marked (now (marks .entry)) (last - d)) (last + 1) 0 over ⌝ }
+// Whether a number is 0.
+pub fn is_zero(number: Signed) -> bool
+    ensures { λ r. ⌜ r ≡ isZero (integerOf number) ⌝ }
 {
-    let mut d = 0;
-    let mut m = over;
-    while d < last + 1 {
-        if marks[(last - d) as usize] == 1 {
-            if m == 0 {
-                return Found::At(d);
-            }
-            m -= 1;
-        }
-        d += 1;
+    match number {
+        Signed::NonNegative(n) => n == 0,
+        Signed::Negative(_) => false,
     }
-    Found::Left(m)
 }
 
-// The line found from `first` on, where counting goes on past the explicit grid with every line.
-fn up_from(marks: &[u8; 20000], explicit: u16, first: u32, over: u32) -> u32
-    requires { ⌜ (explicit ≤ 10000) × (first < 32768) × (over < 65536) ⌝ }
-    ensures { λ r. ⌜ r ≡ upFrom explicit (marked (now (marks .entry))) first over ⌝ }
+// How an index counts: positive from line 0 on, negative from the last explicit line back.
+pub(crate) fn index_count(index: Signed, explicit: u16) -> Count
+    requires { ⌜ (explicit < 32768) × Small index ⌝ }
+    ensures { λ r. ⌜ CountFits r × (r ≡ indexCount explicit (integerOf index)) ⌝ }
+{
+    match index {
+        Signed::NonNegative(i) => {
+            if i == 0 {
+                return Count::Forwards(Signed::NonNegative(0), 0);
+            }
+            Count::Forwards(Signed::NonNegative(0), i - 1)
+        }
+        Signed::Negative(i) => Count::Backwards(Signed::NonNegative(explicit as u32), i),
+    }
+}
+
+// How many lines of a span's name are passed over: a span of 0 counts as 1.
+fn passed_over(span: u16) -> u32
+    ensures { λ r. ⌜ (r ≡ pred span) × (r < 65536) ⌝ }
+{
+    if span == 0 {
+        return 0;
+    }
+    (span - 1) as u32
+}
+
+// How a span counts beside a line: back from it for a start, on from it for an end.
+pub(crate) fn span_count(span: u16, beside: OriginZeroLine, end: GridAreaEnd) -> Count
+    requires { ⌜ Within (beside .0) ⌝ }
+    ensures { λ r. ⌜ CountFits r × CountedSpan (sideOf end) span (beside .0) r ⌝ }
+{
+    let over = passed_over(span);
+    let line = beside.0;
+    match end {
+        GridAreaEnd::Start => Count::Backwards(signed::minus(line, 1), over),
+        GridAreaEnd::End => Count::Forwards(signed::plus(line, 1), over),
+    }
+}
+
+// Where a count forwards begins: a line before the first counts as the first.
+pub fn first_line(line: Signed) -> u32
+    ensures { λ r. ⌜ r ≡ firstLine (integerOf line) ⌝ }
+{
+    match line {
+        Signed::NonNegative(l) => l,
+        Signed::Negative(_) => 0,
+    }
+}
+
+// The line that a search forwards comes to; missing lines are counted on past the explicit grid, or from `first` on.
+pub(crate) fn line_forwards(explicit: u16, first: u32, found: Found) -> Signed
+    requires { ⌜ (first < 32768) × LeftFits found ⌝ }
+    ensures { λ r. ⌜ integerOf r ≡ held (pos (settle (max first (suc explicit)) (seekOf found))) ⌝ }
 {
     let last = explicit as u32;
-    match search::seek_up(marks, first, over) {
-        Found::At(l) => l,
+    match found {
+        Found::At(line) => signed::hold(Signed::NonNegative(line)),
         Found::Left(m) => {
             if first <= last {
-                return last + 1 + m;
+                return signed::hold(Signed::NonNegative(last + 1 + m));
             }
-            first + m
+            signed::hold(Signed::NonNegative(first + m))
         }
     }
 }
 
-// The marked line after `over` marked lines that are not before `first`; missing lines are counted on past the explicit grid.
-pub(crate) fn nth_line_forwards(
-    marks: &[u8; 20000],
-    explicit: u16,
-    first: Signed,
-    over: u32,
-) -> Signed
-    requires { ⌜ (explicit ≤ 10000) × Small first × (over < 65536) ⌝ }
-    ensures { λ r. ⌜ integerOf r ≡ held (forwards explicit (marked (now (marks .entry))) (integerOf first) over) ⌝ }
+// The line past those at which a count backwards looks: the lines up to `line`, and explicit ones only.
+pub fn explicit_end(explicit: u16, line: u32) -> u32
+    ensures { λ r. ⌜ r ≡ suc (min line explicit) ⌝ }
 {
-    match first {
-        Signed::NonNegative(f) => signed::hold(Signed::NonNegative(up_from(
-            marks,
-            explicit,
-            f,
-            over,
-        ))),
-        Signed::Negative(_) => signed::hold(Signed::NonNegative(up_from(marks, explicit, 0, over))),
+    let last = explicit as u32;
+    if line < last {
+        return line + 1;
     }
+    last + 1
 }
 
-// The line found from `last` back, where counting goes on before line 0 with every line.
-fn down_from(marks: &[u8; 20000], last: u32, over: u32) -> Signed
-    requires { ⌜ last ≤ 10000 ⌝ }
-    ensures { λ r. ⌜ integerOf r ≡ lineOf 0 (marked (now (marks .entry))) last (seek (λ d. marked (now (marks .entry)) (last - d)) (last + 1) 0 over) ⌝ }
+// The line that a search backwards comes to; missing lines are counted on before line 0.
+pub fn line_backwards(found: Found) -> Signed
+    ensures { λ r. ⌜ integerOf r ≡ held (foundLine (seekOf found)) ⌝ }
 {
-    match seek_down(marks, last, over) {
-        Found::At(d) => Signed::NonNegative(last - d),
-        Found::Left(m) => Signed::Negative(m),
-    }
-}
-
-// The marked line after `over` marked lines that are not after `last`; missing lines are counted on before the explicit grid.
-pub(crate) fn nth_line_backwards(
-    marks: &[u8; 20000],
-    explicit: u16,
-    last: Signed,
-    over: u32,
-) -> Signed
-    requires { ⌜ (explicit ≤ 10000) × Small last × (over < 65536) ⌝ }
-    ensures { λ r. ⌜ integerOf r ≡ held (backwards explicit (marked (now (marks .entry))) (integerOf last) over) ⌝ }
-{
-    let tracks = explicit as u32;
-    match last {
-        Signed::NonNegative(l) => {
-            if l <= tracks {
-                return signed::hold(down_from(marks, l, over));
-            }
-            signed::hold(down_from(marks, tracks, over))
-        }
-        Signed::Negative(q) => signed::hold(Signed::Negative(q + over)),
-    }
-}
-
-// The marked line that a count comes to.
-pub(crate) fn counted_line(marks: &[u8; 20000], explicit: u16, count: Count) -> Signed
-    requires { ⌜ (explicit ≤ 10000) × CountFits count ⌝ }
-    ensures { λ r. ⌜ integerOf r ≡ countedLine explicit (marked (now (marks .entry))) count ⌝ }
-{
-    match count {
-        Count::Forwards(first, over) => nth_line_forwards(marks, explicit, first, over),
-        Count::Backwards(last, over) => nth_line_backwards(marks, explicit, last, over),
+    match found {
+        Found::At(line) => signed::hold(Signed::NonNegative(line)),
+        Found::Left(m) => signed::hold(Signed::Negative(m)),
     }
 }

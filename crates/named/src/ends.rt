@@ -10,6 +10,7 @@ ghost use mathlib.Core.Path.{_≡_};
 use crate::GridPlacement;
 use crate::Name;
 use crate::NonNamedGridPlacement;
+use crate::count;
 use crate::find;
 use coordinates::Axis;
 use coordinates::GridLine;
@@ -113,7 +114,7 @@ fn named_span(
     ensures { λ r. ⌜ r ≡ answerOf (beside explicit (bearsIn axis (now (entries .entry)) (now (store .entry)) (now (edges .entry)) (now (areas .entry)) (now (areastore .entry))) (line .0) (spanFrom explicit (bearsIn axis (now (entries .entry)) (now (store .entry)) (now (edges .entry)) (now (areas .entry)) (now (areastore .entry))) (sideOf end) (now (name .entry)) span)) ⌝ }
 {
     let number = line.0;
-    if find::is_zero(signed::split_16_bits(number)) {
+    if count::is_zero(signed::split_16_bits(number)) {
         return NonNamedGridPlacement::Span(1);
     }
     let answer = line.into_origin_zero_line(explicit);

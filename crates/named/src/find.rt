@@ -1,26 +1,89 @@
 // Lines found by name.
-ghost use mathlib.Core.Path.{_≡_};
-ghost use mathlib.Core.List.{_++_};
-ghost use Prim.Native.Nat.{pred, _≤_, _<_};
-ghost use lib.IntN.{pos};
-ghost use Rattle.coordinates.specs.Lines.{Within};
-ghost use Rattle.line_placement.specs.Css.{suffix};
+ghost use Prim.Native.Nat.{_<_, _≤_};
+ghost use Rattle.coordinates.specs.Lines.{Within, held};
+ghost use Rattle.coordinates.specs.Signed.{Small, integerOf};
 ghost use Rattle.line_placement.specs.Rule as Rule;
-ghost use Rattle.line_placement.specs.Rule.{seek, find, spanFrom};
-ghost use Rattle.line_search.specs.Areas.{sideOf, bearsIn};
-ghost use Rattle.line_search.specs.Marks.{seekOf};
-ghost use Rattle.named.specs.Counts.{CountFits, countedLine, isZero, indexCount, CountedSpan};
-ghost use Rattle.coordinates.specs.Signed.{integerOf, Small};
+ghost use Rattle.line_placement.specs.Rule.{backwards, find, forwards, spanFrom};
+ghost use Rattle.line_search.specs.Areas.{bearsIn, sideOf};
+ghost use Rattle.named.specs.Counts.{CountFits, countedLine};
+ghost use lib.IntN.{pos};
+ghost use mathlib.Core.Path.{_≡_};
 use crate::count;
 use crate::count::Count;
 use coordinates::Axis;
 use coordinates::OriginZeroLine;
 use coordinates::signed;
 use coordinates::signed::Signed;
+use line_search::Found;
 use line_search::GridAreaEnd;
-use line_search::marks;
 use line_search::search;
-use line_search::search::Found;
+
+// The line of a name after `over` lines of it that are not before `first`; missing lines are counted on past the explicit grid.
+fn find_forwards(
+    explicit: u16,
+    axis: Axis,
+    entries: &[u64],
+    store: &[u8],
+    edges: &[u64],
+    areas: &[u64],
+    areastore: &[u8],
+    name: &[u8],
+    first: Signed,
+    over: u32,
+) -> Signed
+    requires { ⌜ Small first × (over < 65536) ⌝ }
+    ensures { λ r. ⌜ integerOf r ≡ held (forwards explicit (Rule.marks explicit (bearsIn axis (now (entries .entry)) (now (store .entry)) (now (edges .entry)) (now (areas .entry)) (now (areastore .entry))) (now (name .entry))) (integerOf first) over) ⌝ }
+{
+    let line = count::first_line(first);
+    let found = search::seek_forwards(
+        axis,
+        entries,
+        store,
+        edges,
+        areas,
+        areastore,
+        name,
+        line,
+        over,
+    );
+    count::line_forwards(explicit, line, found)
+}
+
+// The line of a name after `over` lines of it that are not after `last`; missing lines are counted on before the explicit grid.
+fn find_backwards(
+    explicit: u16,
+    axis: Axis,
+    entries: &[u64],
+    store: &[u8],
+    edges: &[u64],
+    areas: &[u64],
+    areastore: &[u8],
+    name: &[u8],
+    last: Signed,
+    over: u32,
+) -> Signed
+    requires { ⌜ (explicit ≤ 10000) × Small last × (over < 65536) ⌝ }
+    ensures { λ r. ⌜ integerOf r ≡ held (backwards explicit (Rule.marks explicit (bearsIn axis (now (entries .entry)) (now (store .entry)) (now (edges .entry)) (now (areas .entry)) (now (areastore .entry))) (now (name .entry))) (integerOf last) over) ⌝ }
+{
+    match last {
+        Signed::NonNegative(line) => {
+            let end = count::explicit_end(explicit, line);
+            let found = search::seek_backwards(
+                axis,
+                entries,
+                store,
+                edges,
+                areas,
+                areastore,
+                name,
+                end,
+                over,
+            );
+            count::line_backwards(found)
+        }
+        Signed::Negative(k) => signed::hold(Signed::Negative(k + over)),
+    }
+}
 
 // The line that a count of the lines of a name comes to.
 fn find_line(
@@ -37,46 +100,32 @@ fn find_line(
     requires { ⌜ (explicit ≤ 10000) × CountFits count ⌝ }
     ensures { λ r. ⌜ integerOf r ≡ countedLine explicit (Rule.marks explicit (bearsIn axis (now (entries .entry)) (now (store .entry)) (now (edges .entry)) (now (areas .entry)) (now (areastore .entry))) (now (name .entry))) count ⌝ }
 {
-    let mut marks = [0u8; 20000];
-    marks::mark_name(
-        &mut marks,
-        axis,
-        entries,
-        store,
-        edges,
-        areas,
-        areastore,
-        name,
-    );
-    count::counted_line(&marks, explicit, count)
-}
-
-// The first line named NAME-start or NAME-end, by the end that is placed.
-fn area_line(
-    axis: Axis,
-    entries: &[u64],
-    store: &[u8],
-    edges: &[u64],
-    areas: &[u64],
-    areastore: &[u8],
-    name: &[u8],
-    end: GridAreaEnd,
-) -> Found
-    ensures { λ r. ⌜ seekOf r ≡ seek (Rule.marks 0 (bearsIn axis (now (entries .entry)) (now (store .entry)) (now (edges .entry)) (now (areas .entry)) (now (areastore .entry))) (now (name .entry) ++ suffix (sideOf end))) 20000 0 0 ⌝ }
-{
-    let mut marks = [0u8; 20000];
-    marks::mark_edges(
-        &mut marks,
-        axis,
-        entries,
-        store,
-        edges,
-        areas,
-        areastore,
-        name,
-        end,
-    );
-    search::seek_up(&marks, 0, 0)
+    match count {
+        Count::Forwards(first, over) => find_forwards(
+            explicit,
+            axis,
+            entries,
+            store,
+            edges,
+            areas,
+            areastore,
+            name,
+            first,
+            over,
+        ),
+        Count::Backwards(last, over) => find_backwards(
+            explicit,
+            axis,
+            entries,
+            store,
+            edges,
+            areas,
+            areastore,
+            name,
+            last,
+            over,
+        ),
+    }
 }
 
 // A name without an index: the edge of its area, else as with index 1.
@@ -94,7 +143,7 @@ fn find_area_line(
     requires { ⌜ explicit ≤ 10000 ⌝ }
     ensures { λ r. ⌜ integerOf r ≡ find explicit (bearsIn axis (now (entries .entry)) (now (store .entry)) (now (edges .entry)) (now (areas .entry)) (now (areastore .entry))) (now (name .entry)) (sideOf end) (pos 0) ⌝ }
 {
-    match area_line(axis, entries, store, edges, areas, areastore, name, end) {
+    match search::seek_edge(axis, entries, store, edges, areas, areastore, name, end) {
         Found::At(l) => signed::hold(Signed::NonNegative(l)),
         Found::Left(_) => find_line(
             explicit,
@@ -107,32 +156,6 @@ fn find_area_line(
             name,
             Count::Forwards(Signed::NonNegative(0), 0),
         ),
-    }
-}
-
-// Whether a number is 0.
-pub fn is_zero(number: Signed) -> bool
-    ensures { λ r. ⌜ r ≡ isZero (integerOf number) ⌝ }
-{
-    match number {
-        Signed::NonNegative(n) => n == 0,
-        Signed::Negative(_) => false,
-    }
-}
-
-// How an index counts: positive from line 0 on, negative from the last explicit line back.
-fn index_count(index: Signed, explicit: u16) -> Count
-    requires { ⌜ (explicit ≤ 10000) × Small index ⌝ }
-    ensures { λ r. ⌜ CountFits r × (r ≡ indexCount explicit (integerOf index)) ⌝ }
-{
-    match index {
-        Signed::NonNegative(i) => {
-            if i == 0 {
-                return Count::Forwards(Signed::NonNegative(0), 0);
-            }
-            Count::Forwards(Signed::NonNegative(0), i - 1)
-        }
-        Signed::Negative(i) => Count::Backwards(Signed::NonNegative(explicit as u32), i),
     }
 }
 
@@ -152,7 +175,7 @@ pub(crate) fn find_named_line(
     requires { ⌜ (explicit ≤ 10000) × Small index ⌝ }
     ensures { λ r. ⌜ integerOf r ≡ find explicit (bearsIn axis (now (entries .entry)) (now (store .entry)) (now (edges .entry)) (now (areas .entry)) (now (areastore .entry))) (now (name .entry)) (sideOf end) (integerOf index) ⌝ }
 {
-    if is_zero(index) {
+    if count::is_zero(index) {
         return find_area_line(
             explicit,
             axis,
@@ -174,31 +197,8 @@ pub(crate) fn find_named_line(
         areas,
         areastore,
         name,
-        index_count(index, explicit),
+        count::index_count(index, explicit),
     )
-}
-
-// How many lines of a span's name are passed over: a span of 0 counts as 1.
-fn passed_over(span: u16) -> u32
-    ensures { λ r. ⌜ (r ≡ pred span) × (r < 65536) ⌝ }
-{
-    if span == 0 {
-        return 0;
-    }
-    (span - 1) as u32
-}
-
-// How a span counts beside a line: back from it for a start, on from it for an end.
-fn span_count(span: u16, beside: OriginZeroLine, end: GridAreaEnd) -> Count
-    requires { ⌜ Within (beside .0) ⌝ }
-    ensures { λ r. ⌜ CountFits r × CountedSpan (sideOf end) span (beside .0) r ⌝ }
-{
-    let over = passed_over(span);
-    let line = beside.0;
-    match end {
-        GridAreaEnd::Start => Count::Backwards(signed::minus(line, 1), over),
-        GridAreaEnd::End => Count::Forwards(signed::plus(line, 1), over),
-    }
 }
 
 // The line at which a span of a name ends beside line `beside`.
@@ -227,6 +227,6 @@ pub(crate) fn span_line(
         areas,
         areastore,
         name,
-        span_count(span, beside, end),
+        count::span_count(span, beside, end),
     )
 }

@@ -1,21 +1,34 @@
-use mathlib.Core.Path.{_∙_}
-use Rattle.line_placement.specs.Rule.{marks}
-use Rattle.line_search.specs.Areas.{bearsIn}
-use Rattle.line_search.specs.Marks.{marked}
-use Rattle.named.proofs.Finding.{fresh, counted-same}
+use Rattle.named.specs.Counts.{CountFits}
+use Rattle.named.specs.declared.count.Count.the-variants.{Forwards, Backwards}
 use borrow.Author.Needs.{needs}
 use Rattle.named.proofs.find.find_line.Statement.{statement}
 use Rattle.named.proofs.find.find_line.Tie as tie
 
-mark-name-requires : tie.Need-mark-name-requires
-mark-name-requires c κs = search needs
+enum-known-count : tie.Need-enum-known-count
+enum-known-count c = search needs
 
-counted-line-requires : tie.Need-counted-line-requires
-counted-line-requires c κs = search needs
+find-forwards-requires : tie.Need-find-forwards-requires
+find-forwards-requires c κs = let h : CountFits (Forwards (c .before .count .given .0 .0) (c .before .count .given .0 .1 .0)) = rw (c .before .count .given .1) at (c .before .before .before .before .before .before .before .before .before .pre .1) in h
+
+enum-known-count-2 : tie.Need-enum-known-count-2
+enum-known-count-2 c = search needs
+
+find-backwards-requires : tie.Need-find-backwards-requires
+find-backwards-requires c κs = let h : CountFits (Backwards (c .before .count2 .given .0 .0) (c .before .count2 .given .0 .1 .0)) = rw (c .before .count2 .given .1) at (c .before .before .before .before .before .before .before .before .before .pre .1) in (c .before .before .before .before .before .before .before .before .before .pre .0, h .0, h .1)
 
 returns : tie.Need-returns
-returns c = let a = c .before .before .before .before .before .before .before .before .before .before .args in let ms = c .before .before .mark-name .last .0 in let q = marks (a .explicit) (bearsIn (a .axis) (a .entries .now) (a .store .now) (a .edges .now) (a .areas .now) (a .areastore .now)) (a .name .now) in
-    c .counted-line .ensures ∙ counted-same (a .explicit) (marked ms) q (a .count) (c .before .before .before .before .before .before .before .before .before .before .pre .0) (λ k h. fresh 20000 ms q (c .before .before .mark-name .ensures) k h h)
+returns c = rw (c .before .before .count .given .1) (c .find-forwards .ensures)
+
+returns-2 : tie.Need-returns-2
+returns-2 c = rw (c .before .before .count2 .given .1) (c .find-backwards .ensures)
 
 pub find-line-spec : {M : Type 1} → statement M
-find-line-spec = tie.close (tie.spec mark-name-requires counted-line-requires returns)
+find-line-spec =
+    tie.close
+    (tie.spec
+    enum-known-count
+    find-forwards-requires
+    enum-known-count-2
+    find-backwards-requires
+    returns
+    returns-2)
