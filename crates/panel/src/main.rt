@@ -2,7 +2,6 @@
 mod output;
 
 use libc::STDIN_FILENO;
-use libc::STDOUT_FILENO;
 use output::put_answer;
 use output::put_refused;
 use panel_tables::area::AREA_BYTES;

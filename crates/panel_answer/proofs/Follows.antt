@@ -1,5 +1,5 @@
 -- Line after line, the whole answer is printed. Assumes nothing.
-use Prim.Native.Nat.{ℕ, zero, suc, _+_, _-_, _*_, _≤_, _<_, min}
+use Prim.Native.Nat.{ℕ, zero, suc, _+_, _-_, _≤_, _<_}
 use mathlib.Core.Path.{_≡_, refl, sym, ap, _∙_}
 use mathlib.Core.List.{List, [], _∷_, _++_}
 use mathlib.Core.Bool.{Bool, true, false, cond}
@@ -14,7 +14,7 @@ use Rattle.coordinates.specs.declared.axis.Axis.{Axis}
 use Rattle.coordinates.specs.declared.axis.Axis.the-variants.{Column, Row}
 use Rattle.grid_track.specs.declared.GridTrack.{GridTrack}
 use Rattle.grid_track.specs.Tracks.{zeroGridTrack}
-use Rattle.grid_track.specs.Records.{listed, recordsIn, recordsOf}
+use Rattle.grid_track.specs.Records.{listed, recordsIn}
 use Rattle.grid_track.proofs.Lists.{length-listed, get-listed}
 use Rattle.grid_track.proofs.RecordList.{records-length}
 use Rattle.tables.specs.declared.AxisState.{AxisState}
@@ -27,7 +27,7 @@ use Rattle.panel_text.specs.Lines.{recordLine}
 use Rattle.panel_answer.specs.declared.AnswerLine.{AnswerLine}
 use Rattle.panel_answer.specs.declared.AnswerLine.the-variants.{Size, Record, Place, End}
 use Rattle.panel_answer.specs.Answer.{recordsOfAxis, recordCount, recordLines, placeLineOf, sizeLineOf, axisLines, answerLines}
-use Rattle.panel_answer.specs.Walk.{lineText, placeFrom, afterAxis, recordFrom, lineAfter, following}
+use Rattle.panel_answer.specs.Walk.{placeFrom, afterAxis, lineAfter, following}
 
 -- an axis has at most 60,001 records
 few-records : (s : AxisState) → recordsIn (axisTracks s) ≤ 60001

@@ -1,6 +1,5 @@
 // The lines of an axis: its size and its records.
 ghost use mathlib.Core.Path.{_≡_};
-ghost use mathlib.Core.List.{[]};
 ghost use Rattle.name_store.specs.LineNames.{ofAxis};
 ghost use Rattle.panel_tables.specs.Axes.{stateIn};
 ghost use Rattle.panel_rules.specs.Calls.{explicitSize};

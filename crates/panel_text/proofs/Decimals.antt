@@ -1,15 +1,14 @@
 -- The decimal digits of a number: one more, how many there are, and that they write the number. Assumes nothing.
-use Prim.Native.Nat.{ℕ, zero, suc, _+_, _-_, _*_, _/_, _%_, _^_, _≤_, _<_}
+use Prim.Native.Nat.{ℕ, zero, suc, _+_, _-_, _/_, _%_, _^_, _≤_, _<_}
 use mathlib.Core.Path.{_≡_, refl, sym, ap, _∙_}
 use mathlib.Core.List.{List, [], _∷_, _++_}
 use mathlib.Core.Bool.{Bool, true, false, cond}
 use native.Mathlib.Omega.{arith}
 use native.Mathlib.Nat.{pow-suc}
 use lib.Dec.{ltb}
-use lib.IntN.{ℤ, pos, negsuc}
 use lib.ListN.{length, length-append}
 use borrow.Author.Tests.{ltb-true, ltb-false, lt-ltb, le-ltb}
-use Rattle.panel_text.specs.Numerals.{digit, decimalUpTo, decimal, wholeNumber}
+use Rattle.panel_text.specs.Numerals.{digit, decimalUpTo, decimal}
 use Rattle.panel_text.specs.Written.{Put}
 use Rattle.panel_text.proofs.Puts.{put-then, put-near, put-as}
 

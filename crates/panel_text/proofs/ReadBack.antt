@@ -1,6 +1,6 @@
 -- What is written is read again as the same number, by document 01's rules of spelling. Assumes nothing.
 use Prim.Native.Nat.{ℕ, zero, suc, _+_, _-_, _*_, _/_, _%_, _^_, _≤_, _<_}
-use mathlib.Core.Path.{_≡_, refl, sym, ap, _∙_}
+use mathlib.Core.Path.{_≡_, refl, _∙_}
 use mathlib.Core.List.{List, [], _∷_, _++_}
 use mathlib.Core.Bool.{Bool, true, false, cond}
 use mathlib.Core.Logic.{inl, inr}
@@ -9,7 +9,7 @@ use native.Mathlib.Nat.{pow-suc}
 use lib.Dec.{ltb}
 use lib.IntN.{ℤ, pos, negsuc}
 use lib.ListN.{length, length-append}
-use borrow.Author.Tests.{ltb-true, ltb-false, lt-ltb, le-ltb, le-leb, lt-leb}
+use borrow.Author.Tests.{ltb-true, ltb-false, lt-ltb, le-leb, lt-leb}
 use Rattle.numeral.specs.Whole.{wholeOf, whole}
 use Rattle.numeral.specs.Hexadecimal.{bitsOf}
 use Rattle.numeral.specs.declared.Bits.the-variants.{Value}

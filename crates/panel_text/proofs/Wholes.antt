@@ -1,12 +1,12 @@
 -- Whole numbers by their sign, and the words of sizes. Assumes nothing.
-use Prim.Native.Nat.{ℕ, suc, _+_, _≤_, _<_}
-use mathlib.Core.Path.{_≡_, refl, sym, ap, _∙_}
+use Prim.Native.Nat.{ℕ, _+_, _≤_, _<_}
+use mathlib.Core.Path.{_≡_, refl, sym}
 use mathlib.Core.List.{List, [], _∷_}
 use native.Mathlib.Numerals.{add-one}
 use native.Mathlib.Omega.{arith}
-use lib.IntN.{ℤ, pos, negsuc}
+use lib.IntN.{ℤ}
 use lib.ListN.{length, getD}
-use Rattle.coordinates.specs.Signed.{Split, Small}
+use Rattle.coordinates.specs.Signed.{Split}
 use Rattle.coordinates.specs.declared.signed.Signed.{Signed}
 use Rattle.coordinates.specs.declared.signed.Signed.the-variants.{NonNegative, Negative}
 use Rattle.sizing.specs.declared.Sizing.{Sizing}

@@ -5,11 +5,10 @@ use Prim.Native.String.{String, [] as empty, _∷_ as _then_}
 use mathlib.Core.List.{List, [], _∷_}
 use mathlib.Core.Bool.{Bool, true, false, _&&_}
 use lib.Dec.{T}
-use lib.IntN.{ℤ, pos, negsuc}
-use lib.Ieee.{Float, binary32, ofBits}
+use lib.IntN.{pos, negsuc}
+use lib.Ieee.{binary32, ofBits}
 use Rattle.text.specs.Split.{same}
 use Rattle.coordinates.specs.declared.axis.Axis.the-variants.{Column, Row}
-use Rattle.sizing.specs.declared.Sizing.{Sizing}
 use Rattle.sizing.specs.declared.Sizing.the-variants.{Length, Auto, FitContentPercent}
 use Rattle.sizing.specs.Words.{zero32, printedBits}
 use Rattle.grid_track.specs.declared.GridTrack.{GridTrack}

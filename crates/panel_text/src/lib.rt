@@ -1,5 +1,4 @@
 // The lines that the panel program prints, each written at the start of lent bytes.
-ghost use mathlib.Core.Path.{_≡_};
 ghost use Rattle.panel_text.specs.Lines.{sizeLine, recordLine, placeLine, refusedLine};
 ghost use Rattle.panel_text.specs.Written.{WritesLine};
 

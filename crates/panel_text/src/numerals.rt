@@ -2,7 +2,7 @@
 ghost use mathlib.Core.Path.{_≡_};
 ghost use mathlib.Core.List.{[], _∷_};
 ghost use Prim.Native.Nat.{_≤_, _<_};
-ghost use Rattle.panel_text.specs.Numerals.{digit, decimal, wholeNumber, hexadecimalDigits, hexadecimal};
+ghost use Rattle.panel_text.specs.Numerals.{decimal, wholeNumber, hexadecimalDigits, hexadecimal};
 ghost use Rattle.panel_text.specs.Numerals.{digit as Numerals·digit};
 ghost use Rattle.panel_text.specs.Written.{Put};
 use coordinates::signed;

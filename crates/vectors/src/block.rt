@@ -1,0 +1,224 @@
+// One block of a list.
+use crate::answers::seen_answer;
+use crate::calls::call_lines;
+use crate::calls::lent;
+use crate::expected::seen_refusal;
+use crate::input::CUT;
+use crate::input::Head;
+use crate::input::STORES;
+use crate::input::after_line;
+use crate::input::between;
+use crate::input::further;
+use crate::input::head_at;
+use crate::input::line_at;
+use crate::input::number_of;
+use crate::names::seen_names;
+use panel_tables::Panel;
+use panel_tables::area::AREA_BYTES;
+use panel_tables::area::AREA_WORDS;
+use panel_tables::placement::PLACEMENT_BYTES;
+use panel_tables::placement::PLACEMENT_WORDS;
+use sheet_rules::SheetAnswer;
+use tables::layout::AXIS_MARKS;
+use tables::layout::AXIS_WORDS;
+
+// Where the parts of a block lie: whether the lengths of stores are given, and these; the sheet, the calls and the expected text.
+pub struct Block {
+    pub given: bool,
+    pub columnbytes: u32,
+    pub rowbytes: u32,
+    pub sheet: usize,
+    pub sheetend: usize,
+    pub calls: usize,
+    pub callcount: u32,
+    pub cut: bool,
+    pub text: usize,
+    pub end: usize,
+}
+
+// The place after so many lines.
+fn after_lines(input: &[u8], at: usize, count: u32) -> usize {
+    let mut place = at;
+    let mut left = count;
+    while 0 < left {
+        place = after_line(input, place);
+        left -= 1;
+    }
+    place
+}
+
+// The `sheet` line: after the lengths of the stores where they are given.
+fn sheet_head(input: &[u8], stores: Head, first: usize) -> Head {
+    if stores.word == STORES {
+        return head_at(input, stores.next);
+    }
+    head_at(input, first)
+}
+
+// The parts of the block whose `case` line starts at a place.
+pub fn block_at(input: &[u8], at: usize) -> Block {
+    let first = after_line(input, at);
+    let stores = head_at(input, first);
+    let given = stores.word == STORES;
+    let lengths = line_at(input, first);
+    let sheethead = sheet_head(input, stores, first);
+    let sheetend = further(input, sheethead.next, sheethead.number);
+    let calls = head_at(input, sheetend);
+    let texthead = head_at(input, after_lines(input, calls.next, calls.number));
+    Block {
+        given,
+        columnbytes: number_of(text::part(lengths, 32, 1)),
+        rowbytes: number_of(text::part(lengths, 32, 2)),
+        sheet: sheethead.next,
+        sheetend,
+        calls: calls.next,
+        callcount: calls.number,
+        cut: texthead.word == CUT,
+        text: texthead.next,
+        end: further(input, texthead.next, texthead.number),
+    }
+}
+
+// The sheet call of a block; where no lengths are given, the whole stores are lent.
+fn read_block(
+    sheet: &[u8],
+    block: Block,
+    columns: &mut [u64; AXIS_WORDS],
+    rows: &mut [u64; AXIS_WORDS],
+    columnmarks: &mut [u8; AXIS_MARKS],
+    rowmarks: &mut [u8; AXIS_MARKS],
+    areas: &mut [u64; AREA_WORDS],
+    areabytes: &mut [u8; AREA_BYTES],
+    placements: &mut [u64; PLACEMENT_WORDS],
+    placementbytes: &mut [u8; PLACEMENT_BYTES],
+    columnstore: &mut [u8],
+    rowstore: &mut [u8],
+) -> SheetAnswer {
+    let columnlength = lent(columnstore, block.given, block.columnbytes);
+    let rowlength = lent(rowstore, block.given, block.rowbytes);
+    sheet::read_sheet(
+        sheet,
+        columns,
+        rows,
+        columnmarks,
+        rowmarks,
+        areas,
+        areabytes,
+        placements,
+        placementbytes,
+        &mut columnstore[..columnlength],
+        &mut rowstore[..rowlength],
+    )
+}
+
+// The entry calls and all answers of an accepted sheet: the place up to which the expected text is seen.
+fn seen_accepted(
+    input: &[u8],
+    expected: &[u8],
+    block: Block,
+    panel: Panel,
+    columns: &mut [u64; AXIS_WORDS],
+    rows: &mut [u64; AXIS_WORDS],
+    columnmarks: &[u8; AXIS_MARKS],
+    rowmarks: &[u8; AXIS_MARKS],
+    areas: &[u64; AREA_WORDS],
+    areabytes: &[u8; AREA_BYTES],
+    placements: &[u64; PLACEMENT_WORDS],
+    placementbytes: &[u8; PLACEMENT_BYTES],
+    columnstore: &mut [u8],
+    rowstore: &mut [u8],
+) -> usize {
+    let called = call_lines(
+        input,
+        block.calls,
+        block.callcount,
+        block.given,
+        expected,
+        panel,
+        columns,
+        rows,
+        columnstore,
+        rowstore,
+    );
+    let held = called.panel;
+    let seen = seen_answer(
+        expected,
+        called.seen,
+        block.cut,
+        held,
+        columns,
+        rows,
+        columnmarks,
+        rowmarks,
+        areas,
+        areabytes,
+        placements,
+        placementbytes,
+        columnstore,
+        rowstore,
+    );
+    seen_names(
+        expected,
+        seen,
+        block.cut,
+        held,
+        columns,
+        rows,
+        columnstore,
+        rowstore,
+    )
+}
+
+// Whether the answers of a block are the expected ones.
+pub fn is_same(
+    input: &[u8],
+    block: Block,
+    columns: &mut [u64; AXIS_WORDS],
+    rows: &mut [u64; AXIS_WORDS],
+    columnmarks: &mut [u8; AXIS_MARKS],
+    rowmarks: &mut [u8; AXIS_MARKS],
+    areas: &mut [u64; AREA_WORDS],
+    areabytes: &mut [u8; AREA_BYTES],
+    placements: &mut [u64; PLACEMENT_WORDS],
+    placementbytes: &mut [u8; PLACEMENT_BYTES],
+    columnstore: &mut [u8],
+    rowstore: &mut [u8],
+) -> bool {
+    let expected = between(input, block.text, block.end);
+    let answer = read_block(
+        between(input, block.sheet, block.sheetend),
+        block,
+        columns,
+        rows,
+        columnmarks,
+        rowmarks,
+        areas,
+        areabytes,
+        placements,
+        placementbytes,
+        columnstore,
+        rowstore,
+    );
+    let refusal = answer.refusal;
+    if refusal.number != 0 {
+        return seen_refusal(expected, 0, refusal) == expected.len();
+    }
+    let panel = answer.panel;
+    seen_accepted(
+        input,
+        expected,
+        block,
+        panel,
+        columns,
+        rows,
+        columnmarks,
+        rowmarks,
+        areas,
+        areabytes,
+        placements,
+        placementbytes,
+        columnstore,
+        rowstore,
+    )
+        == expected.len()
+}

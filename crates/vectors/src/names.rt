@@ -1,0 +1,164 @@
+// The line-name lists beside the expected text: `names`, axis, line, then its names.
+ghost use Prim.Native.Nat.{_≤_};
+use crate::expected::seen_number;
+use crate::expected::seen_part;
+use coordinates::Axis;
+use panel_grid::naming::line_name;
+use panel_grid::size::line_count;
+use panel_tables::Panel;
+use tables::layout::AXIS_WORDS;
+
+// The word and the axis.
+fn seen_axis(expected: &[u8], seen: usize, axis: Axis) -> usize {
+    match axis {
+        Axis::Column => seen_part(expected, seen, b"names\tc\t"),
+        Axis::Row => seen_part(expected, seen, b"names\tr\t"),
+    }
+}
+
+// The names of a line, each after a tab.
+fn seen_list<'a>(
+    expected: &[u8],
+    seen: usize,
+    panel: Panel,
+    columns: &[u64; AXIS_WORDS],
+    rows: &[u64; AXIS_WORDS],
+    columnstore: &'a [u8],
+    rowstore: &'a [u8],
+    axis: Axis,
+    line: u32,
+) -> usize {
+    let mut last = seen;
+    let mut place: u32 = 0;
+    while place < 4096 {
+        let name = line_name(
+            panel,
+            columns,
+            rows,
+            columnstore,
+            rowstore,
+            axis,
+            line,
+            place,
+        );
+        if name.len() == 0 {
+            return last;
+        }
+        last = seen_part(expected, seen_part(expected, last, b"\t"), name);
+        place += 1;
+    }
+    last
+}
+
+// The list of one line; a cut text has none that is empty.
+fn seen_line<'a>(
+    expected: &[u8],
+    seen: usize,
+    cut: bool,
+    panel: Panel,
+    columns: &[u64; AXIS_WORDS],
+    rows: &[u64; AXIS_WORDS],
+    columnstore: &'a [u8],
+    rowstore: &'a [u8],
+    axis: Axis,
+    line: u32,
+) -> usize {
+    if cut {
+        let first = line_name(panel, columns, rows, columnstore, rowstore, axis, line, 0);
+        if first.len() == 0 {
+            return seen;
+        }
+    }
+    let last = seen_number(expected, seen_axis(expected, seen, axis), line as u64);
+    let last = seen_list(
+        expected,
+        last,
+        panel,
+        columns,
+        rows,
+        columnstore,
+        rowstore,
+        axis,
+        line,
+    );
+    seen_part(expected, last, b"\n")
+}
+
+// How many lists an axis has: at most 10,001.
+fn list_count(panel: Panel, axis: Axis) -> u32
+    ensures { λ r. ⌜ r ≤ 10001 ⌝ }
+{
+    let count = line_count(panel, axis);
+    if count < 10001 {
+        return count as u32;
+    }
+    10001
+}
+
+// The lists of an axis.
+fn seen_lists<'a>(
+    expected: &[u8],
+    seen: usize,
+    cut: bool,
+    panel: Panel,
+    columns: &[u64; AXIS_WORDS],
+    rows: &[u64; AXIS_WORDS],
+    columnstore: &'a [u8],
+    rowstore: &'a [u8],
+    axis: Axis,
+) -> usize {
+    let count = list_count(panel, axis);
+    let mut last = seen;
+    let mut line: u32 = 0;
+    while line < count {
+        line += 1;
+        last = seen_line(
+            expected,
+            last,
+            cut,
+            panel,
+            columns,
+            rows,
+            columnstore,
+            rowstore,
+            axis,
+            line,
+        );
+    }
+    last
+}
+
+// The lists of both axes, columns first.
+pub fn seen_names<'a>(
+    expected: &[u8],
+    seen: usize,
+    cut: bool,
+    panel: Panel,
+    columns: &[u64; AXIS_WORDS],
+    rows: &[u64; AXIS_WORDS],
+    columnstore: &'a [u8],
+    rowstore: &'a [u8],
+) -> usize {
+    let last = seen_lists(
+        expected,
+        seen,
+        cut,
+        panel,
+        columns,
+        rows,
+        columnstore,
+        rowstore,
+        Axis::Column,
+    );
+    seen_lists(
+        expected,
+        last,
+        cut,
+        panel,
+        columns,
+        rows,
+        columnstore,
+        rowstore,
+        Axis::Row,
+    )
+}

@@ -1,0 +1,163 @@
+// The blocks and rows of the lists, one after the other.
+use crate::block::block_at;
+use crate::block::is_same;
+use crate::buffer::filled;
+use crate::conversions::replay_rows;
+use crate::counts::Counts;
+use crate::counts::more_blocks;
+use crate::counts::more_rows;
+use crate::counts::print_first;
+use crate::input::Head;
+use crate::input::LINES;
+use crate::input::head_at;
+use crate::input::line_at;
+use panel_tables::area::AREA_BYTES;
+use panel_tables::area::AREA_WORDS;
+use panel_tables::placement::PLACEMENT_BYTES;
+use panel_tables::placement::PLACEMENT_WORDS;
+use tables::layout::AXIS_MARKS;
+use tables::layout::AXIS_WORDS;
+
+// A block or a list of rows that was replayed, and where the next starts.
+struct Replayed {
+    counts: Counts,
+    next: usize,
+}
+
+// The rows at a place.
+fn replay_list(input: &[u8], head: Head, counts: Counts) -> Replayed {
+    let rows = replay_rows(input, head.next, head.number);
+    Replayed {
+        counts: more_rows(counts, head.number, rows.different),
+        next: rows.next,
+    }
+}
+
+// The block at a place.
+fn replay_block(
+    input: &[u8],
+    at: usize,
+    counts: Counts,
+    columns: &mut [u64; AXIS_WORDS],
+    rows: &mut [u64; AXIS_WORDS],
+    columnmarks: &mut [u8; AXIS_MARKS],
+    rowmarks: &mut [u8; AXIS_MARKS],
+    areas: &mut [u64; AREA_WORDS],
+    areabytes: &mut [u8; AREA_BYTES],
+    placements: &mut [u64; PLACEMENT_WORDS],
+    placementbytes: &mut [u8; PLACEMENT_BYTES],
+    columnstore: &mut [u8],
+    rowstore: &mut [u8],
+) -> Replayed {
+    let block = block_at(input, at);
+    let same = is_same(
+        input,
+        block,
+        columns,
+        rows,
+        columnmarks,
+        rowmarks,
+        areas,
+        areabytes,
+        placements,
+        placementbytes,
+        columnstore,
+        rowstore,
+    );
+    if !same {
+        print_first(counts, line_at(input, at));
+    }
+    Replayed {
+        counts: more_blocks(counts, block.callcount, same),
+        next: block.end,
+    }
+}
+
+// What stands at a place.
+fn replay_at(
+    input: &[u8],
+    at: usize,
+    counts: Counts,
+    columns: &mut [u64; AXIS_WORDS],
+    rows: &mut [u64; AXIS_WORDS],
+    columnmarks: &mut [u8; AXIS_MARKS],
+    rowmarks: &mut [u8; AXIS_MARKS],
+    areas: &mut [u64; AREA_WORDS],
+    areabytes: &mut [u8; AREA_BYTES],
+    placements: &mut [u64; PLACEMENT_WORDS],
+    placementbytes: &mut [u8; PLACEMENT_BYTES],
+    columnstore: &mut [u8],
+    rowstore: &mut [u8],
+) -> Replayed {
+    let head = head_at(input, at);
+    if head.word == LINES {
+        return replay_list(input, head, counts);
+    }
+    replay_block(
+        input,
+        at,
+        counts,
+        columns,
+        rows,
+        columnmarks,
+        rowmarks,
+        areas,
+        areabytes,
+        placements,
+        placementbytes,
+        columnstore,
+        rowstore,
+    )
+}
+
+// All that standard input holds, at most a million blocks.
+pub fn replay_all(
+    buffer: &mut [u8],
+    columns: &mut [u64; AXIS_WORDS],
+    rows: &mut [u64; AXIS_WORDS],
+    columnmarks: &mut [u8; AXIS_MARKS],
+    rowmarks: &mut [u8; AXIS_MARKS],
+    areas: &mut [u64; AREA_WORDS],
+    areabytes: &mut [u8; AREA_BYTES],
+    placements: &mut [u64; PLACEMENT_WORDS],
+    placementbytes: &mut [u8; PLACEMENT_BYTES],
+    columnstore: &mut [u8],
+    rowstore: &mut [u8],
+) -> Counts {
+    let mut counts = Counts {
+        blocks: 0,
+        calls: 0,
+        rows: 0,
+        different: 0,
+    };
+    let mut at: usize = 0;
+    let mut held: usize = 0;
+    let mut turns: u32 = 0;
+    while turns < 1000000 {
+        let window = filled(buffer, at, held);
+        held = window.held;
+        let first = window.at;
+        if first == held {
+            return counts;
+        }
+        let done = replay_at(
+            &buffer[..held],
+            first,
+            counts,
+            columns,
+            rows,
+            columnmarks,
+            rowmarks,
+            areas,
+            areabytes,
+            placements,
+            placementbytes,
+            columnstore,
+            rowstore,
+        );
+        counts = done.counts;
+        at = done.next;
+        turns += 1;
+    }
+    counts
+}
