@@ -23,6 +23,7 @@ CUT = {"large": 60, "far": 40, "over": 12, "writing_out": 20, "full": 4}
 # Refused sheets for each number, record and kind of field.
 REFUSED_FOR_EACH = {1: 9, 3: 4, 4: 6}
 REFUSED_FOR_OTHERS = 25
+REPLAYED = ("cases", "limits", "short", "entries", "accepted", "refused", "large", "lines")
 ENTRY_LISTS = 150
 STORE_LISTS = 4
 
@@ -258,6 +259,14 @@ def write_lines(rust):
     write("lines.txt", rows)
 
 
+def write_replayed():
+    """All lists one after the other, the lines with their number before them: what the program `vectors` replays under the gate."""
+    lists = {name: build.read_bytes(os.path.join(RECORDED, name + ".txt")) for name in REPLAYED}
+    lists["lines"] = b"lines %d\n" % lists["lines"].count(b"\n") + lists["lines"]
+    with open(os.path.join(build.REPOSITORY, "crates", "vectors", "stdin"), "wb") as file:
+        file.write(b"".join(lists[name] for name in REPLAYED))
+
+
 def main():
     parser = argparse.ArgumentParser(prog="compare/record", description="Remake the recorded lists.")
     parser.add_argument("--rust", help="folder of the unchanged Rust files")
@@ -273,6 +282,7 @@ def main():
     write_accepted(rust)
     write_refused(rust)
     write_cut(rust)
+    write_replayed()
     rust.close()
 
 
