@@ -3,3 +3,4 @@ pub mod Entries
 pub mod Names
 pub mod Enter
 pub mod LineNames
+pub mod LineEntries

@@ -5,7 +5,8 @@ ghost use Prim.Native.Nat.{_≤_};
 ghost use lib.ListN.{length, getD, take, drop};
 ghost use Rattle.line_placement.specs.Rule.{any, written?};
 ghost use Rattle.name_store.specs.Entries.{entryOf, namedEntry, entriesOf};
-ghost use Rattle.name_store.specs.LineNames.{shows, lineNamesOf, explicitLineNames, lineCount, ofAxis};
+ghost use Rattle.name_store.specs.LineNames.{shows, explicitLineNames, lineCount, ofAxis};
+ghost use Rattle.name_store.specs.LineEntries.{noEntry, lineEntriesOf, explicitLineEntries};
 use crate::NameEntry;
 use crate::bytes::same_bytes;
 use crate::entry::entry_of;
@@ -58,9 +59,20 @@ fn is_shown(entries: &[u64], store: &[u8], place: usize, line: u32, entry: NameE
     !written_before(entries, store, place, line, name_in(store, entry))
 }
 
-// The name at that place, from 0, among those that the line shows; an empty part where it shows fewer.
-fn shown_name<'a>(entries: &[u64], store: &'a [u8], line: u32, place: u32) -> &'a [u8]
-    ensures { λ r. ⌜ now r ≡ getD (lineNamesOf (entriesOf (now (entries .entry)) (now (store .entry))) line) place [] ⌝ }
+// An entry of no name.
+pub fn no_entry() -> NameEntry
+    ensures { λ r. ⌜ r ≡ noEntry ⌝ }
+{
+    NameEntry {
+        line: 0,
+        offset: 0,
+        length: 0,
+    }
+}
+
+// The entry at that place, from 0, among those that show a name on the line; one of no name where fewer do.
+fn shown_entry(entries: &[u64], store: &[u8], line: u32, place: u32) -> NameEntry
+    ensures { λ r. ⌜ r ≡ getD (lineEntriesOf (now (entries .entry)) (now (store .entry)) line) place noEntry ⌝ }
 {
     let mut left = place;
     let mut i = 0;
@@ -68,13 +80,26 @@ fn shown_name<'a>(entries: &[u64], store: &'a [u8], line: u32, place: u32) -> &'
         let entry = entry_of(entries[i]);
         if is_shown(entries, store, i, line, entry) {
             if left == 0 {
-                return name_in(store, entry);
+                return entry;
             }
             left -= 1;
         }
         i += 1;
     }
-    &store[0..0]
+    no_entry()
+}
+
+// The entry that shows a name of an explicit line, by its place from 0; one of no name where that line and place hold none.
+pub fn line_entry(entries: &[u64], store: &[u8], explicit: u32, line: u32, place: u32) -> NameEntry
+    ensures { λ r. ⌜ r ≡ getD (explicitLineEntries explicit (now (entries .entry)) (now (store .entry)) line) place noEntry ⌝ }
+{
+    if line < 1 {
+        return no_entry();
+    }
+    if explicit < line - 1 {
+        return no_entry();
+    }
+    shown_entry(entries, store, line, place)
 }
 
 // A name of a line, by its place from 0: a part of the store, empty where that line and place hold none.
@@ -87,13 +112,7 @@ pub fn line_name<'a>(
 ) -> &'a [u8]
     ensures { λ r. ⌜ now r ≡ getD (explicitLineNames explicit (entriesOf (now (entries .entry)) (now (store .entry))) line) place [] ⌝ }
 {
-    if line < 1 {
-        return &store[0..0];
-    }
-    if explicit < line - 1 {
-        return &store[0..0];
-    }
-    shown_name(entries, store, line, place)
+    name_in(store, line_entry(entries, store, explicit, line, place))
 }
 
 // A name of a line of an axis: a part of the column store or of the row store.

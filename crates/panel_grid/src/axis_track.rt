@@ -63,17 +63,30 @@ pub fn record_on(
     )
 }
 
-// What is carried to record 0.
-pub fn first_on(state: AxisState, words: &[u64; AXIS_WORDS], items: &[u8]) -> FillState
-    ensures { λ r. ⌜ r ≡ carriedTo state (now (words .entry)) (now (items .entry)) 0 ⌝ }
+// What is carried to record `index`.
+pub fn begin_on(
+    state: AxisState,
+    words: &[u64; AXIS_WORDS],
+    items: &[u8],
+    index: usize,
+) -> FillState
+    ensures { λ r. ⌜ r ≡ carriedTo state (now (words .entry)) (now (items .entry)) index ⌝ }
 {
-    track_run::state::begin(
+    track_run::state::begin_at(
         components_of(state, words),
         minimums_of(state, words),
         maximums_of(state, words),
         items,
         axis_tracks(state),
+        index,
     )
+}
+
+// What is carried to record 0.
+pub fn first_on(state: AxisState, words: &[u64; AXIS_WORDS], items: &[u8]) -> FillState
+    ensures { λ r. ⌜ r ≡ carriedTo state (now (words .entry)) (now (items .entry)) 0 ⌝ }
+{
+    begin_on(state, words, items, 0)
 }
 
 // Record `index`, by what is carried to it.

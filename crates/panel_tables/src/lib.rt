@@ -10,6 +10,7 @@ use tables::AxisReading;
 use tables::AxisState;
 
 // A panel by value: its axes, how many areas and placements the tables hold, and how many bytes their names take.
+#[repr(C)]
 pub struct Panel {
     pub columns: AxisState,
     pub rows: AxisState,

@@ -8,6 +8,7 @@ pub mod template;
 
 // An axis of a panel: its `axis` record (whether it has an inner size, the bits of that, rule 0 `max` or 1 `min`, the gap's word),
 // what the tables hold of it, its implicit counts, its explicit size, and the tracks that areas span.
+#[repr(C)]
 pub struct AxisState {
     pub definite: u32,
     pub inner: u32,

@@ -57,6 +57,22 @@ pub fn fill_answer(lent: usize, items: usize, axis: AxisTracks) -> FillAnswer
     FillAnswer { refusal, count }
 }
 
+// The state at record `index`.
+pub fn begin_at(
+    components: &[u64],
+    minimums: &[u64],
+    maximums: &[u64],
+    items: &[u8],
+    axis: AxisTracks,
+    index: usize,
+) -> FillState
+    ensures { λ r. ⌜ r ≡ stateAt axis (templateOf (now (components .entry)) (now (minimums .entry)) (now (maximums .entry))) (itemAt (now (items .entry))) index ⌝ }
+{
+    let plan = grid_track::plan::make_plan(components, minimums, maximums, items, axis);
+    let cursor = grid_track::rule::cursor_at(components, axis, index as u64);
+    FillState { axis, plan, cursor }
+}
+
 // The state at record 0.
 pub fn begin(
     components: &[u64],
@@ -67,9 +83,7 @@ pub fn begin(
 ) -> FillState
     ensures { λ r. ⌜ r ≡ stateAt axis (templateOf (now (components .entry)) (now (minimums .entry)) (now (maximums .entry))) (itemAt (now (items .entry))) 0 ⌝ }
 {
-    let plan = grid_track::plan::make_plan(components, minimums, maximums, items, axis);
-    let cursor = grid_track::rule::cursor_at(components, axis, 0);
-    FillState { axis, plan, cursor }
+    begin_at(components, minimums, maximums, items, axis, 0)
 }
 
 // Record `index`, in its state.

@@ -1,19 +1,19 @@
 use borrow.Author.Needs.{needs}
 use native.Mathlib.Omega.{arith}
 use mathlib.Core.Logic.{⊎-elim}
-use mathlib.Core.Path.{_≡_, sym, _∙_}
-use mathlib.Core.List.{[]}
+use mathlib.Core.Path.{_≡_, refl, sym, _∙_}
 use Prim.Native.Nat.{_≤_, _-_}
 use lib.ListN.{length, getD, take}
 use Rattle.name_store.specs.Entries.{entriesOf}
-use Rattle.name_store.specs.LineNames.{shows, lineNamesOf}
-use Rattle.name_store.proofs.Showing.{entryAt, shownFrom, shown-start, shown-end, shown-hit, shown-over, shown-miss}
-use Rattle.name_store.proofs.line_names.shown_name.Statement.{statement}
-use Rattle.name_store.proofs.line_names.shown_name.Tie as tie
+use Rattle.name_store.specs.LineNames.{shows}
+use Rattle.name_store.specs.LineEntries.{noEntry, lineEntriesOf}
+use Rattle.name_store.proofs.Showing.{entryAt, shownFrom, shown-end, shown-hit, shown-over, shown-miss}
+use Rattle.name_store.proofs.line_names.shown_entry.Statement.{statement}
+use Rattle.name_store.proofs.line_names.shown_entry.Tie as tie
 
 abbrev Inv-loop : tie.InvT-loop
 Inv-loop entries store line place left₀ i₀ left i =
-    (i ≤ length entries) × (getD (shownFrom line entries store i) left [] ≡ getD (lineNamesOf (entriesOf entries store) line) place [])
+    (i ≤ length entries) × (getD (shownFrom line entries store i) left noEntry ≡ getD (lineEntriesOf entries store line) place noEntry)
 
 abbrev μ-loop : tie.MeasureT-loop
 μ-loop entries store line place left₀ i₀ left i = length entries - i
@@ -25,7 +25,7 @@ shown : (c : tie.After-is-shown Inv-loop μ-loop) → let a = c .before .before 
 shown c = rw (← c .before .entry-of .ensures) (c .is-shown .ensures)
 
 loop-holds : tie.Need-loop-holds Inv-loop μ-loop
-loop-holds c = let a = c .before .before .args in (omega arith, rw (shown-start (a .line) (a .entries .now) (a .store .now)))
+loop-holds c = (omega arith, refl)
 
 mul-entry-of : tie.Need-mul-entry-of Inv-loop μ-loop
 mul-entry-of c = search needs
@@ -39,13 +39,10 @@ entry-of-requires c κs = search needs
 is-shown-requires : tie.Need-is-shown-requires Inv-loop μ-loop
 is-shown-requires c κs = omega arith
 
-name-in-requires : tie.Need-name-in-requires Inv-loop μ-loop
-name-in-requires c κs = search needs
-
 returns : tie.Need-returns Inv-loop μ-loop
-returns c = let l = c .before .before .before .before .before .before .before .loop in let a = c .before .before .before .before .before .before .before .before .before .before .args in
-    c .name-in .ensures ∙ rw (c .before .before .before .before .entry-of .ensures)
-    (sym (shown-hit (a .line) (a .entries .now) (a .store .now) (l .i) (omega arith) (l .left) (sym (shown (c .before .before .before)) ∙ c .before .before .if1 .taken) (c .before .if2 .taken)) ∙ l .inv .1)
+returns c = let l = c .before .before .before .before .before .before .loop in let a = c .before .before .before .before .before .before .before .before .before .args in
+    c .before .before .before .entry-of .ensures
+    ∙ (sym (shown-hit (a .line) (a .entries .now) (a .store .now) (l .i) (omega arith) (l .left) (sym (shown (c .before .before)) ∙ c .before .if1 .taken) (c .if2 .taken)) ∙ l .inv .1)
 
 sub-left : tie.Need-sub-left Inv-loop μ-loop
 sub-left c = omega arith
@@ -65,20 +62,15 @@ loop-again c = let l = c .before .before .before .before .before .loop in let a 
       (c .if1 .came),
 )
 
-sub-result : tie.Need-sub-result Inv-loop μ-loop
-sub-result c = search needs
-
-part-result-start : tie.Need-part-result-start Inv-loop μ-loop
-part-result-start c = search needs
-
-part-result-end : tie.Need-part-result-end Inv-loop μ-loop
-part-result-end c = search needs
+no-entry-requires : tie.Need-no-entry-requires Inv-loop μ-loop
+no-entry-requires c κs = search needs
 
 returns-2 : tie.Need-returns-2 Inv-loop μ-loop
-returns-2 c = let l = c .before .before .loop in let a = c .before .before .before .before .before .args in sym (shown-end (a .line) (a .entries .now) (a .store .now) (l .i) (l .left) (omega arith)) ∙ l .inv .1
+returns-2 c = let l = c .before .before .loop in let a = c .before .before .before .before .before .args in
+    c .no-entry .ensures ∙ (sym (shown-end (a .line) (a .entries .now) (a .store .now) (l .i) (l .left) (omega arith)) ∙ l .inv .1)
 
-pub shown-name-spec : {M : Type 1} → statement M
-shown-name-spec =
+pub shown-entry-spec : {M : Type 1} → statement M
+shown-entry-spec =
     tie.close
     (tie.spec
     Inv-loop
@@ -88,13 +80,10 @@ shown-name-spec =
     shared-slice-read-entry-of
     entry-of-requires
     is-shown-requires
-    name-in-requires
     returns
     sub-left
     add-i
     loop-less
     loop-again
-    sub-result
-    part-result-start
-    part-result-end
+    no-entry-requires
     returns-2)

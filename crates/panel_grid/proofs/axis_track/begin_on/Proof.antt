@@ -1,6 +1,6 @@
 use borrow.Author.Needs.{needs}
-use Rattle.panel_grid.proofs.axis_track.first_on.Statement.{statement}
-use Rattle.panel_grid.proofs.axis_track.first_on.Tie as tie
+use Rattle.panel_grid.proofs.axis_track.begin_on.Statement.{statement}
+use Rattle.panel_grid.proofs.axis_track.begin_on.Tie as tie
 
 components-of-requires : tie.Need-components-of-requires
 components-of-requires c κs = search needs
@@ -14,19 +14,19 @@ maximums-of-requires c κs = search needs
 axis-tracks-requires : tie.Need-axis-tracks-requires
 axis-tracks-requires c κs = search needs
 
-begin-requires : tie.Need-begin-requires
-begin-requires c κs = search needs
+begin-at-requires : tie.Need-begin-at-requires
+begin-at-requires c κs = search needs
 
 returns : tie.Need-returns
-returns c = rw (c .begin .ensures, c .before .axis-tracks .ensures, c .before .before .maximums-of .ensures, c .before .before .before .before .minimums-of .ensures, c .before .before .before .before .before .before .components-of .ensures)
+returns c = rw (c .begin-at .ensures, c .before .axis-tracks .ensures, c .before .before .maximums-of .ensures, c .before .before .before .before .minimums-of .ensures, c .before .before .before .before .before .before .components-of .ensures)
 
-pub first-on-spec : {M : Type 1} → statement M
-first-on-spec =
+pub begin-on-spec : {M : Type 1} → statement M
+begin-on-spec =
     tie.close
     (tie.spec
     components-of-requires
     minimums-of-requires
     maximums-of-requires
     axis-tracks-requires
-    begin-requires
+    begin-at-requires
     returns)

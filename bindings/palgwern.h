@@ -1,0 +1,224 @@
+/* Palgwern's calls for C: a panel sheet read, names entered, placements, line names and track records answered.
+ *
+ * Link target/staticlib/libpanel_c.a (x86-64 Linux), which `rt staticlib panel_c` writes. Every call is proved to end and to
+ * answer as its contract in crates/panel_c/src/lib.rt says, whatever the panel and the tables hold. What C must ensure:
+ *
+ * - stack: 512 KiB of room for palgwern_read_sheet, 64 KiB for each other call (`bindings/test` measures them);
+ * - memory: every array and store that is lent is initialized, whatever it holds, and not null; an array has the length that is
+ *   stated here, a pointer with a length has so many elements, and one of length 0 still points somewhere;
+ * - no overlap: what a call may write (no `const`) is part of nothing else that is lent to it, and nobody else reads or writes it
+ *   meanwhile. There is no other state: calls on different panels can run at the same time;
+ * - on the panel: hand each call the panel that the last one gave and the tables and stores that it left. Others are answered
+ *   too, but then they describe nothing.
+ *
+ * A call that refuses leaves everything lent as it was.
+ */
+#ifndef PALGWERN_H
+#define PALGWERN_H
+#include <stddef.h>
+#include <stdint.h>
+#ifdef __cplusplus
+extern "C" {
+#endif
+
+/* Refusals, by document 01's numbers and words; 0 is none. */
+enum palgwern_refusal {
+    PALGWERN_UNREAD = 1,    /* unread: sheet too long, or a line of no form */
+    PALGWERN_NAME = 2,      /* name: outside the name range */
+    PALGWERN_VALUE = 3,     /* value: a size outside its range */
+    PALGWERN_COUNT = 4,     /* count: a whole number outside its range; also a number that is no axis, placement or record */
+    PALGWERN_AREA = 5,      /* area: an area start not below its end */
+    PALGWERN_TWICE = 6,     /* twice: an area name or axis record again */
+    PALGWERN_LATE = 7,      /* late: record earlier in kind than one before it */
+    PALGWERN_CROWDED = 8,   /* crowded: one more would pass a panel limit */
+    PALGWERN_ZERO_LINE = 9, /* zero line: conversion of line 0 (no call here makes one) */
+    PALGWERN_SHORT = 10     /* short: lent records, item bytes or a line-name store too short */
+};
+
+/* Limits, by document 01. */
+enum palgwern_limit {
+    PALGWERN_SHEET_BYTES = 32768,     /* bytes of a sheet */
+    PALGWERN_NAME_BYTES = 32,         /* bytes of a name, codes 33 to 126 */
+    PALGWERN_COMPONENTS = 64,         /* components of an axis */
+    PALGWERN_REPEAT_TRACKS = 32,      /* tracks in a repeat */
+    PALGWERN_SPARES = 64,             /* spare sizes of an axis */
+    PALGWERN_AREAS = 64,              /* drawn areas */
+    PALGWERN_PLACEMENTS = 256,        /* placements */
+    PALGWERN_ENTRIES = 4096,          /* name entries of an axis, repeats written out */
+    PALGWERN_ENTERED_LINE = 20000,    /* an entered line is 1 to 20,000 */
+    PALGWERN_TRACKS = 10000,          /* explicit tracks, and each implicit count */
+    PALGWERN_LARGEST_RECORDS = 60001, /* records of the largest axis */
+    PALGWERN_RECORD_WORDS = 3         /* words of a record */
+};
+
+/* Lengths of the arrays and stores that are lent. */
+enum palgwern_length {
+    PALGWERN_AXIS_WORDS = 12480,     /* columns, rows: components, track sizes, spare sizes, name records, name entries */
+    PALGWERN_AXIS_MARKS = 30000,     /* columnmarks, rowmarks: a byte for each track, not 0 where it holds an item */
+    PALGWERN_AREA_WORDS = 128,       /* areas: edges, then names */
+    PALGWERN_AREA_BYTES = 2048,      /* areabytes: the bytes of their names */
+    PALGWERN_PLACEMENT_WORDS = 512,  /* placements: two words each */
+    PALGWERN_PLACEMENT_BYTES = 16384, /* placementbytes: the bytes of their names */
+    PALGWERN_STORE_BYTES = 32768     /* columnstore, rowstore: the bytes of line names; at least so many, else 10 */
+};
+
+enum palgwern_axis_number { PALGWERN_COLUMNS = 0, PALGWERN_ROWS = 1 };
+
+/* Kinds of an end of a resolved placement. */
+enum palgwern_end { PALGWERN_END_AUTO = 0, PALGWERN_END_LINE = 1, PALGWERN_END_SPAN = 3 };
+
+/* The first word of a record: these added. 0 is an open track. */
+enum palgwern_record { PALGWERN_GUTTER = 1, PALGWERN_COLLAPSED = 2 };
+
+/* The other two words are its minimum and maximum: kind times 2^32, and the bits of the float; a keyword has bits 0. */
+enum palgwern_size {
+    PALGWERN_LEN = 0,
+    PALGWERN_PCT = 1,
+    PALGWERN_FR = 2,
+    PALGWERN_AUTO = 3,
+    PALGWERN_MIN = 4,
+    PALGWERN_MAX = 5,
+    PALGWERN_FITL = 6,
+    PALGWERN_FITP = 7
+};
+
+/* An axis of a panel. Not for change: a caller keeps it and hands it back. 72 bytes. */
+typedef struct palgwern_axis {
+    uint32_t definite;    /* 1 where there is an inner size */
+    uint32_t inner;       /* the bits of it */
+    uint32_t rule;        /* 0 max, 1 min */
+    uint64_t gap;         /* a size's word */
+    uint32_t components;
+    uint32_t tracks;
+    uint32_t spares;
+    uint32_t names;       /* `name` records */
+    uint32_t used;        /* bytes of the line-name store */
+    uint32_t negative;    /* implicit counts */
+    uint32_t positive;
+    uint32_t entries;     /* name entries */
+    uint32_t repetitions;
+    uint32_t explicit_count;
+    uint32_t areas;       /* tracks that areas span */
+} palgwern_axis;
+
+/* A panel by value. 160 bytes. */
+typedef struct palgwern_panel {
+    palgwern_axis columns;
+    palgwern_axis rows;
+    uint32_t areas;          /* drawn areas */
+    uint32_t areabytes;      /* bytes of their names */
+    uint32_t placements;
+    uint32_t placementbytes;
+} palgwern_panel;
+
+/* Answers: `number` is the refusal's, 0 where there is none; the rest is 0 where there is one, but for the panel of
+ * palgwern_enter_name, which comes back as it came. */
+typedef struct palgwern_panel_answer { uint32_t number; uint32_t line; palgwern_panel panel; } palgwern_panel_answer;
+typedef struct palgwern_size_answer { uint32_t number; uint32_t repetitions; uint32_t explicit_count; } palgwern_size_answer;
+typedef struct palgwern_count_answer { uint32_t number; uint64_t count; } palgwern_count_answer;
+typedef struct palgwern_name_answer { uint32_t number; uint32_t offset; uint32_t length; } palgwern_name_answer;
+typedef struct palgwern_placement_answer {
+    uint32_t number;
+    uint32_t axis;
+    uint32_t startkind;
+    int32_t startnumber;
+    uint32_t endkind;
+    int32_t endnumber;
+} palgwern_placement_answer;
+
+/* The panel that a sheet describes. Refuses by 1 to 8 with the line (0: too long; the line after the last: what the whole sheet
+ * says), then by 10 for a short store. */
+palgwern_panel_answer palgwern_read_sheet(
+    const uint8_t *sheet, size_t sheet_bytes,
+    uint64_t columns[PALGWERN_AXIS_WORDS], uint64_t rows[PALGWERN_AXIS_WORDS],
+    uint8_t columnmarks[PALGWERN_AXIS_MARKS], uint8_t rowmarks[PALGWERN_AXIS_MARKS],
+    uint64_t areas[PALGWERN_AREA_WORDS], uint8_t areabytes[PALGWERN_AREA_BYTES],
+    uint64_t placements[PALGWERN_PLACEMENT_WORDS], uint8_t placementbytes[PALGWERN_PLACEMENT_BYTES],
+    uint8_t *columnstore, size_t columnstore_bytes, uint8_t *rowstore, size_t rowstore_bytes);
+
+/* The panel with one more line and name entered in an axis. Refuses by 2, 4, 8, then 10. */
+palgwern_panel_answer palgwern_enter_name(
+    palgwern_panel panel, uint64_t columns[PALGWERN_AXIS_WORDS], uint64_t rows[PALGWERN_AXIS_WORDS],
+    uint8_t *columnstore, size_t columnstore_bytes, uint8_t *rowstore, size_t rowstore_bytes,
+    uint32_t axis, uint32_t line, const uint8_t *name, size_t name_bytes);
+
+/* Repetitions of the automatic repeat and the explicit count of an axis. */
+palgwern_size_answer palgwern_explicit_size(palgwern_panel panel, uint32_t axis);
+
+/* How many lists of line names an axis has: 0, or one for each explicit line. */
+palgwern_count_answer palgwern_line_count(palgwern_panel panel, uint32_t axis);
+
+/* How many records an axis has: 2N + 1 for N tracks. */
+palgwern_count_answer palgwern_record_count(palgwern_panel panel, uint32_t axis);
+
+/* Placement `index`, from 0, with its names resolved. Refuses by 4 (no such placement), then 10. */
+palgwern_placement_answer palgwern_resolve_placement(
+    palgwern_panel panel, const uint64_t columns[PALGWERN_AXIS_WORDS], const uint64_t rows[PALGWERN_AXIS_WORDS],
+    const uint8_t *columnstore, size_t columnstore_bytes, const uint8_t *rowstore, size_t rowstore_bytes,
+    const uint64_t areas[PALGWERN_AREA_WORDS], const uint8_t areabytes[PALGWERN_AREA_BYTES],
+    const uint64_t placements[PALGWERN_PLACEMENT_WORDS], const uint8_t placementbytes[PALGWERN_PLACEMENT_BYTES],
+    uint32_t index);
+
+/* Where a name of a line (from 1) of an axis lies in the axis's store, by its place from 0. Length 0: that line and place hold
+ * none, or a store is short. Offset and length stay within the store. */
+palgwern_name_answer palgwern_line_name(
+    palgwern_panel panel, const uint64_t columns[PALGWERN_AXIS_WORDS], const uint64_t rows[PALGWERN_AXIS_WORDS],
+    const uint8_t *columnstore, size_t columnstore_bytes, const uint8_t *rowstore, size_t rowstore_bytes,
+    uint32_t axis, uint32_t line, uint32_t place);
+
+/* Records of an axis from `first` on, as many as there are and as fit in `words`, three words each; answers how many. `items` has
+ * a byte for each track, not 0 where it holds an item: the marks that the sheet left, or others. Refuses by 4 (`first` is no
+ * record), then by 10 (fewer item bytes than tracks, or fewer than three words). Time is linear in the axis, so hand over a run
+ * for all. */
+palgwern_count_answer palgwern_records(
+    palgwern_panel panel, const uint64_t columns[PALGWERN_AXIS_WORDS], const uint64_t rows[PALGWERN_AXIS_WORDS],
+    uint32_t axis, const uint8_t *items, size_t items_bytes, uint32_t first, uint64_t *words, size_t words_length);
+
+/* ---- all that is lent, in one struct, and the calls on it */
+
+typedef struct palgwern_tables {
+    uint64_t columns[PALGWERN_AXIS_WORDS];
+    uint64_t rows[PALGWERN_AXIS_WORDS];
+    uint64_t areas[PALGWERN_AREA_WORDS];
+    uint64_t placements[PALGWERN_PLACEMENT_WORDS];
+    uint8_t columnmarks[PALGWERN_AXIS_MARKS];
+    uint8_t rowmarks[PALGWERN_AXIS_MARKS];
+    uint8_t areabytes[PALGWERN_AREA_BYTES];
+    uint8_t placementbytes[PALGWERN_PLACEMENT_BYTES];
+    uint8_t columnstore[PALGWERN_STORE_BYTES];
+    uint8_t rowstore[PALGWERN_STORE_BYTES];
+} palgwern_tables;
+
+static inline palgwern_panel_answer palgwern_tables_read(palgwern_tables *t, const void *sheet, size_t bytes) {
+    return palgwern_read_sheet((const uint8_t *)sheet, bytes, t->columns, t->rows, t->columnmarks, t->rowmarks, t->areas,
+        t->areabytes, t->placements, t->placementbytes, t->columnstore, sizeof t->columnstore, t->rowstore, sizeof t->rowstore);
+}
+
+static inline palgwern_panel_answer palgwern_tables_enter(palgwern_tables *t, palgwern_panel panel, uint32_t axis, uint32_t line,
+    const void *name, size_t bytes) {
+    return palgwern_enter_name(panel, t->columns, t->rows, t->columnstore, sizeof t->columnstore, t->rowstore, sizeof t->rowstore,
+        axis, line, (const uint8_t *)name, bytes);
+}
+
+static inline palgwern_placement_answer palgwern_tables_placement(const palgwern_tables *t, palgwern_panel panel, uint32_t index) {
+    return palgwern_resolve_placement(panel, t->columns, t->rows, t->columnstore, sizeof t->columnstore, t->rowstore,
+        sizeof t->rowstore, t->areas, t->areabytes, t->placements, t->placementbytes, index);
+}
+
+static inline palgwern_name_answer palgwern_tables_name(const palgwern_tables *t, palgwern_panel panel, uint32_t axis,
+    uint32_t line, uint32_t place) {
+    return palgwern_line_name(panel, t->columns, t->rows, t->columnstore, sizeof t->columnstore, t->rowstore, sizeof t->rowstore,
+        axis, line, place);
+}
+
+/* with the sheet's item marks */
+static inline palgwern_count_answer palgwern_tables_records(const palgwern_tables *t, palgwern_panel panel, uint32_t axis,
+    uint32_t first, uint64_t *words, size_t length) {
+    const uint8_t *items = axis == PALGWERN_ROWS ? t->rowmarks : t->columnmarks;
+    return palgwern_records(panel, t->columns, t->rows, axis, items, PALGWERN_AXIS_MARKS, first, words, length);
+}
+
+#ifdef __cplusplus
+}
+#endif
+#endif

@@ -1,0 +1,434 @@
+//! Palgwern's calls for Rust: safe functions over target/staticlib/libpanel_c.a, which `rt staticlib panel_c` writes.
+//!
+//! `mod palgwern;` and `-l static=panel_c` are all that is needed. A `Panel` owns the buffers that the library reads and writes and
+//! hands them over together, so what the calls ask of a caller holds: initialized arrays of the right lengths that do not overlap.
+//! One thing is left to the program: 512 KiB of stack for `Panel::read`, which every Rust thread has unless it was asked for less.
+#![allow(dead_code)]
+use std::fmt;
+
+const AXIS_WORDS: usize = 12_480;
+const AXIS_MARKS: usize = 30_000;
+const AREA_WORDS: usize = 128;
+const AREA_BYTES: usize = 2_048;
+const PLACEMENT_WORDS: usize = 512;
+const PLACEMENT_BYTES: usize = 16_384;
+const STORE_BYTES: usize = 32_768;
+/// The words of a record.
+pub const RECORD_WORDS: usize = 3;
+
+/// An axis of a panel as the library has it; `crates/tables/src/lib.rt` says what the fields are.
+#[repr(C)]
+#[derive(Clone, Copy, Debug, Default, PartialEq, Eq)]
+pub struct AxisState {
+    pub definite: u32,
+    pub inner: u32,
+    pub rule: u32,
+    pub gap: u64,
+    pub components: u32,
+    pub tracks: u32,
+    pub spares: u32,
+    pub names: u32,
+    pub used: u32,
+    pub negative: u32,
+    pub positive: u32,
+    pub entries: u32,
+    pub repetitions: u32,
+    pub explicit: u32,
+    pub areas: u32,
+}
+
+/// A panel as the library has it.
+#[repr(C)]
+#[derive(Clone, Copy, Debug, Default, PartialEq, Eq)]
+pub struct State {
+    pub columns: AxisState,
+    pub rows: AxisState,
+    pub areas: u32,
+    pub areabytes: u32,
+    pub placements: u32,
+    pub placementbytes: u32,
+}
+
+/// The calls themselves and their answers, as in `palgwern.h`. A program uses `Panel`.
+pub mod raw {
+    use super::*;
+
+    #[repr(C)]
+    #[derive(Clone, Copy, Debug, PartialEq, Eq)]
+    pub struct PanelAnswer {
+        pub number: u32,
+        pub line: u32,
+        pub panel: State,
+    }
+
+    #[repr(C)]
+    #[derive(Clone, Copy, Debug, PartialEq, Eq)]
+    pub struct SizeAnswer {
+        pub number: u32,
+        pub repetitions: u32,
+        pub explicit: u32,
+    }
+
+    #[repr(C)]
+    #[derive(Clone, Copy, Debug, PartialEq, Eq)]
+    pub struct CountAnswer {
+        pub number: u32,
+        pub count: u64,
+    }
+
+    #[repr(C)]
+    #[derive(Clone, Copy, Debug, PartialEq, Eq)]
+    pub struct NameAnswer {
+        pub number: u32,
+        pub offset: u32,
+        pub length: u32,
+    }
+
+    #[repr(C)]
+    #[derive(Clone, Copy, Debug, PartialEq, Eq)]
+    pub struct PlacementAnswer {
+        pub number: u32,
+        pub axis: u32,
+        pub startkind: u32,
+        pub startnumber: i32,
+        pub endkind: u32,
+        pub endnumber: i32,
+    }
+
+    extern "C" {
+        pub fn palgwern_read_sheet(
+            sheet: *const u8, sheet_bytes: usize, columns: *mut [u64; AXIS_WORDS], rows: *mut [u64; AXIS_WORDS],
+            columnmarks: *mut [u8; AXIS_MARKS], rowmarks: *mut [u8; AXIS_MARKS], areas: *mut [u64; AREA_WORDS],
+            areabytes: *mut [u8; AREA_BYTES], placements: *mut [u64; PLACEMENT_WORDS], placementbytes: *mut [u8; PLACEMENT_BYTES],
+            columnstore: *mut u8, columnstore_bytes: usize, rowstore: *mut u8, rowstore_bytes: usize,
+        ) -> PanelAnswer;
+        pub fn palgwern_enter_name(
+            panel: State, columns: *mut [u64; AXIS_WORDS], rows: *mut [u64; AXIS_WORDS], columnstore: *mut u8, columnstore_bytes: usize,
+            rowstore: *mut u8, rowstore_bytes: usize, axis: u32, line: u32, name: *const u8, name_bytes: usize,
+        ) -> PanelAnswer;
+        pub fn palgwern_explicit_size(panel: State, axis: u32) -> SizeAnswer;
+        pub fn palgwern_line_count(panel: State, axis: u32) -> CountAnswer;
+        pub fn palgwern_record_count(panel: State, axis: u32) -> CountAnswer;
+        pub fn palgwern_resolve_placement(
+            panel: State, columns: *const [u64; AXIS_WORDS], rows: *const [u64; AXIS_WORDS], columnstore: *const u8,
+            columnstore_bytes: usize, rowstore: *const u8, rowstore_bytes: usize, areas: *const [u64; AREA_WORDS],
+            areabytes: *const [u8; AREA_BYTES], placements: *const [u64; PLACEMENT_WORDS], placementbytes: *const [u8; PLACEMENT_BYTES],
+            index: u32,
+        ) -> PlacementAnswer;
+        pub fn palgwern_line_name(
+            panel: State, columns: *const [u64; AXIS_WORDS], rows: *const [u64; AXIS_WORDS], columnstore: *const u8,
+            columnstore_bytes: usize, rowstore: *const u8, rowstore_bytes: usize, axis: u32, line: u32, place: u32,
+        ) -> NameAnswer;
+        pub fn palgwern_records(
+            panel: State, columns: *const [u64; AXIS_WORDS], rows: *const [u64; AXIS_WORDS], axis: u32, items: *const u8,
+            items_bytes: usize, first: u32, words: *mut u64, words_length: usize,
+        ) -> CountAnswer;
+    }
+}
+
+const _: () = assert!(size_of::<AxisState>() == 72 && size_of::<State>() == 160);
+const _: () = assert!(size_of::<raw::PanelAnswer>() == 168 && size_of::<raw::CountAnswer>() == 16);
+const _: () = assert!(size_of::<raw::SizeAnswer>() == 12 && size_of::<raw::NameAnswer>() == 12 && size_of::<raw::PlacementAnswer>() == 24);
+
+/// A refusal by document 01's word.
+#[derive(Clone, Copy, Debug, PartialEq, Eq)]
+pub enum Word {
+    Unread = 1,
+    Name = 2,
+    Value = 3,
+    Count = 4,
+    Area = 5,
+    Twice = 6,
+    Late = 7,
+    Crowded = 8,
+    ZeroLine = 9,
+    Short = 10,
+}
+
+/// A refusal: its word and the sheet's line, 0 for a call without a sheet, for a sheet too long and for `Short`.
+#[derive(Clone, Copy, Debug, PartialEq, Eq)]
+pub struct Refusal {
+    pub word: Word,
+    pub line: u32,
+}
+
+impl Refusal {
+    /// Document 01's number.
+    pub fn number(self) -> u32 {
+        self.word as u32
+    }
+
+    fn of(number: u32, line: u32) -> Refusal {
+        use Word::*;
+        let words = [Unread, Name, Value, Count, Area, Twice, Late, Crowded, ZeroLine, Short];
+        Refusal { word: words[number as usize - 1], line }
+    }
+}
+
+impl fmt::Display for Refusal {
+    fn fmt(&self, f: &mut fmt::Formatter) -> fmt::Result {
+        let words = ["unread", "name", "value", "count", "area", "twice", "late", "crowded", "zero line", "short"];
+        write!(f, "refused by {} ({}) at line {}", self.number(), words[self.number() as usize - 1], self.line)
+    }
+}
+
+impl std::error::Error for Refusal {}
+
+#[derive(Clone, Copy, Debug, PartialEq, Eq)]
+pub enum Axis {
+    Columns = 0,
+    Rows = 1,
+}
+
+/// One end of a resolved placement.
+#[derive(Clone, Copy, Debug, PartialEq, Eq)]
+pub enum End {
+    Auto,
+    Line(i16),
+    Span(u16),
+}
+
+#[derive(Clone, Copy, Debug, PartialEq, Eq)]
+pub struct Placement {
+    pub axis: Axis,
+    pub start: End,
+    pub end: End,
+}
+
+/// The repetitions of an axis's automatic repeat and its explicit count.
+#[derive(Clone, Copy, Debug, PartialEq, Eq)]
+pub struct AxisSize {
+    pub repetitions: u32,
+    pub explicit: u32,
+}
+
+/// The minimum or the maximum of a track.
+#[derive(Clone, Copy, Debug, PartialEq)]
+pub enum Size {
+    Length(f32),
+    Percent(f32),
+    Fraction(f32),
+    Auto,
+    MinContent,
+    MaxContent,
+    FitContentLength(f32),
+    FitContentPercent(f32),
+}
+
+impl Size {
+    fn of(word: u64) -> Size {
+        let value = f32::from_bits(word as u32);
+        match word >> 32 {
+            0 => Size::Length(value),
+            1 => Size::Percent(value),
+            2 => Size::Fraction(value),
+            4 => Size::MinContent,
+            5 => Size::MaxContent,
+            6 => Size::FitContentLength(value),
+            7 => Size::FitContentPercent(value),
+            _ => Size::Auto,
+        }
+    }
+}
+
+/// A track record.
+#[derive(Clone, Copy, Debug, PartialEq)]
+pub struct Record {
+    pub gutter: bool,
+    pub collapsed: bool,
+    pub minimum: Size,
+    pub maximum: Size,
+}
+
+impl Record {
+    /// A record from its words.
+    pub fn of(words: &[u64; RECORD_WORDS]) -> Record {
+        Record { gutter: words[0] & 1 != 0, collapsed: words[0] & 2 != 0, minimum: Size::of(words[1]), maximum: Size::of(words[2]) }
+    }
+}
+
+/// A panel, with the buffers that the library keeps it in.
+#[derive(Clone)]
+pub struct Panel {
+    state: State,
+    columns: Box<[u64; AXIS_WORDS]>,
+    rows: Box<[u64; AXIS_WORDS]>,
+    columnmarks: Box<[u8; AXIS_MARKS]>,
+    rowmarks: Box<[u8; AXIS_MARKS]>,
+    areas: Box<[u64; AREA_WORDS]>,
+    areabytes: Box<[u8; AREA_BYTES]>,
+    placements: Box<[u64; PLACEMENT_WORDS]>,
+    placementbytes: Box<[u8; PLACEMENT_BYTES]>,
+    columnstore: Box<[u8; STORE_BYTES]>,
+    rowstore: Box<[u8; STORE_BYTES]>,
+}
+
+/// A zeroed array, made on the heap.
+fn zeroed<T: Copy + Default, const N: usize>() -> Box<[T; N]> {
+    vec![T::default(); N].into_boxed_slice().try_into().ok().unwrap()
+}
+
+/// An end by its kind and number.
+fn end_of(kind: u32, number: i32) -> End {
+    match kind {
+        1 => End::Line(number as i16),
+        3 => End::Span(number as u16),
+        _ => End::Auto,
+    }
+}
+
+impl Panel {
+    /// The panel that a sheet describes.
+    pub fn read(sheet: &[u8]) -> Result<Panel, Refusal> {
+        let mut panel = Panel::empty();
+        panel.read_again(sheet)?;
+        Ok(panel)
+    }
+
+    /// The panel of the empty sheet.
+    pub fn empty() -> Panel {
+        Panel {
+            state: State::default(),
+            columns: zeroed(),
+            rows: zeroed(),
+            columnmarks: zeroed(),
+            rowmarks: zeroed(),
+            areas: zeroed(),
+            areabytes: zeroed(),
+            placements: zeroed(),
+            placementbytes: zeroed(),
+            columnstore: zeroed(),
+            rowstore: zeroed(),
+        }
+    }
+
+    /// Reads another sheet into the same buffers. On a refusal the panel stays.
+    pub fn read_again(&mut self, sheet: &[u8]) -> Result<(), Refusal> {
+        // SAFETY: the arrays are initialized boxes of their own, each of the length that its type says.
+        let answer = unsafe {
+            raw::palgwern_read_sheet(
+                sheet.as_ptr(), sheet.len(), &mut *self.columns, &mut *self.rows, &mut *self.columnmarks, &mut *self.rowmarks,
+                &mut *self.areas, &mut *self.areabytes, &mut *self.placements, &mut *self.placementbytes,
+                self.columnstore.as_mut_ptr(), STORE_BYTES, self.rowstore.as_mut_ptr(), STORE_BYTES,
+            )
+        };
+        self.after(answer)
+    }
+
+    /// Enters a line and a name in an axis. On a refusal the panel stays.
+    pub fn enter(&mut self, axis: Axis, line: u32, name: &[u8]) -> Result<(), Refusal> {
+        // SAFETY: as above.
+        let answer = unsafe {
+            raw::palgwern_enter_name(
+                self.state, &mut *self.columns, &mut *self.rows, self.columnstore.as_mut_ptr(), STORE_BYTES,
+                self.rowstore.as_mut_ptr(), STORE_BYTES, axis as u32, line, name.as_ptr(), name.len(),
+            )
+        };
+        self.after(answer)
+    }
+
+    fn after(&mut self, answer: raw::PanelAnswer) -> Result<(), Refusal> {
+        if answer.number != 0 {
+            return Err(Refusal::of(answer.number, answer.line));
+        }
+        self.state = answer.panel;
+        Ok(())
+    }
+
+    /// The repetitions and the explicit count of an axis.
+    pub fn size(&self, axis: Axis) -> AxisSize {
+        // SAFETY: numbers only.
+        let answer = unsafe { raw::palgwern_explicit_size(self.state, axis as u32) };
+        AxisSize { repetitions: answer.repetitions, explicit: answer.explicit }
+    }
+
+    /// How many placements there are.
+    pub fn placements(&self) -> u32 {
+        self.state.placements
+    }
+
+    /// Placement `index`, from 0, with its names resolved; `Word::Count` where there is none.
+    pub fn placement(&self, index: u32) -> Result<Placement, Refusal> {
+        // SAFETY: as in `read_again`; nothing is written.
+        let answer = unsafe {
+            raw::palgwern_resolve_placement(
+                self.state, &*self.columns, &*self.rows, self.columnstore.as_ptr(), STORE_BYTES, self.rowstore.as_ptr(), STORE_BYTES,
+                &*self.areas, &*self.areabytes, &*self.placements, &*self.placementbytes, index,
+            )
+        };
+        if answer.number != 0 {
+            return Err(Refusal::of(answer.number, 0));
+        }
+        let axis = if answer.axis == 0 { Axis::Columns } else { Axis::Rows };
+        Ok(Placement { axis, start: end_of(answer.startkind, answer.startnumber), end: end_of(answer.endkind, answer.endnumber) })
+    }
+
+    /// How many lists of line names an axis has: none, or one for each explicit line.
+    pub fn lists(&self, axis: Axis) -> u32 {
+        // SAFETY: numbers only.
+        unsafe { raw::palgwern_line_count(self.state, axis as u32) }.count as u32
+    }
+
+    /// The name of a line, from 1, at a place, from 0.
+    pub fn name(&self, axis: Axis, line: u32, place: u32) -> Option<&[u8]> {
+        // SAFETY: as in `read_again`; nothing is written.
+        let part = unsafe {
+            raw::palgwern_line_name(
+                self.state, &*self.columns, &*self.rows, self.columnstore.as_ptr(), STORE_BYTES, self.rowstore.as_ptr(), STORE_BYTES,
+                axis as u32, line, place,
+            )
+        };
+        let store = match axis {
+            Axis::Columns => &self.columnstore,
+            Axis::Rows => &self.rowstore,
+        };
+        let name = &store[part.offset as usize..][..part.length as usize];
+        if name.is_empty() { None } else { Some(name) }
+    }
+
+    /// The names of a line, from 1, in entry order.
+    pub fn names(&self, axis: Axis, line: u32) -> impl Iterator<Item = &[u8]> + '_ {
+        (0..).map_while(move |place| self.name(axis, line, place))
+    }
+
+    /// How many records an axis has.
+    pub fn record_count(&self, axis: Axis) -> usize {
+        // SAFETY: numbers only.
+        unsafe { raw::palgwern_record_count(self.state, axis as u32) }.count as usize
+    }
+
+    /// The records of an axis, with the sheet's items.
+    pub fn records(&self, axis: Axis) -> Vec<Record> {
+        let mut words = vec![0; self.record_count(axis) * RECORD_WORDS];
+        let written = self.write_records(axis, self.items(axis), 0, &mut words);
+        debug_assert_eq!(written, Ok(self.record_count(axis)));
+        words.chunks_exact(RECORD_WORDS).map(|r| Record::of(r.try_into().unwrap())).collect()
+    }
+
+    /// A byte for each track of an axis, not 0 where the sheet has an item.
+    pub fn items(&self, axis: Axis) -> &[u8] {
+        match axis {
+            Axis::Columns => &self.columnmarks[..],
+            Axis::Rows => &self.rowmarks[..],
+        }
+    }
+
+    /// Writes records from `first` on, with any items, as many as there are and fit, three words each; answers how many.
+    pub fn write_records(&self, axis: Axis, items: &[u8], first: u32, words: &mut [u64]) -> Result<usize, Refusal> {
+        // SAFETY: as in `read_again`; `words` is borrowed mutably, so it is none of the others.
+        let answer = unsafe {
+            raw::palgwern_records(
+                self.state, &*self.columns, &*self.rows, axis as u32, items.as_ptr(), items.len(), first, words.as_mut_ptr(), words.len(),
+            )
+        };
+        if answer.number != 0 {
+            return Err(Refusal::of(answer.number, 0));
+        }
+        Ok(answer.count as usize)
+    }
+
+    /// The panel as the library has it.
+    pub fn state(&self) -> State {
+        self.state
+    }
+}
