@@ -89,6 +89,16 @@ def compile_tree(source, out):
     return harness
 
 
+def rustc_version():
+    return subprocess.run(["rustc", "--version"], capture_output=True).stdout
+
+
+def is_stamped(out, program, stamp):
+    """Whether the program was made of what the stamp says."""
+    path = os.path.join(out, "stamp")
+    return os.path.isfile(program) and os.path.isfile(path) and read_bytes(path) == stamp
+
+
 def build(sources=None, name="harness", change=None):
     """The path of the harness, built anew where anything it is made of has changed.
 
@@ -104,13 +114,11 @@ def build(sources=None, name="harness", change=None):
         files = change(files)
     out = os.path.join(TARGET, name)
     harness = os.path.join(out, "harness")
-    version = subprocess.run(["rustc", "--version"], capture_output=True).stdout
-    stamp = hashlib.sha256(version + repr(sorted(files.items())).encode()).hexdigest()
-    stamp_path = os.path.join(out, "stamp")
-    if os.path.isfile(harness) and os.path.isfile(stamp_path) and read_bytes(stamp_path).decode() == stamp:
+    stamp = hashlib.sha256(rustc_version() + repr(sorted(files.items())).encode()).hexdigest().encode()
+    if is_stamped(out, harness, stamp):
         return harness
     shutil.rmtree(out, ignore_errors=True)
     write_tree(os.path.join(out, "src"), files)
     compile_tree(os.path.join(out, "src"), out)
-    write_tree(out, {"stamp": stamp.encode()})
+    write_tree(out, {"stamp": stamp})
     return harness

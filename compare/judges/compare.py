@@ -1,60 +1,35 @@
 """Holds the judges against each other on one sheet with its entry calls."""
-import os
 import re
-import subprocess
 
 import css
 import model
 import reader
 import rules
+from batch import Batch, Ended
 from build import CannotCompare
 
 # Above this the Rust isn't asked for the entries of a sheet that the model refuses as crowded.
 MOST_ENTRIES_ASKED = 100000
 
 
-class Rust:
+class Rust(Batch):
     """The harness as a running process."""
-
-    def __init__(self, path):
-        self.process = subprocess.Popen([path, "--batch"], stdin=subprocess.PIPE, stdout=subprocess.PIPE)
 
     def ask(self, sheet, entries):
         """The answer as lines; the entries are those that the table accepts."""
-        rows = "".join(f"{letter}\t{line}\t{name}\n" for letter, line, name in entries).encode()
-        self.process.stdin.write(b"sheet %d\n%senter %d\n%s" % (len(sheet), sheet, len(entries), rows))
-        return self.read_answer()
-
-    def read_answer(self):
-        self.process.stdin.flush()
-        header = self.process.stdout.readline().split()
-        if not header:
-            raise CannotCompare("no comparison: the harness ended")
-        return self.process.stdout.read(int(header[1])).decode().split("\n")[:-1]
+        self.send(sheet, [(letter, line, name.encode()) for letter, line, name in entries])
+        return self.answered()
 
     def lines(self, explicit):
         """Every grid line as an origin-zero line, and every origin-zero line back, as lines of text."""
         self.process.stdin.write(b"lines %d\n" % explicit)
-        return self.read_answer()
+        return self.answered()
 
-    def close(self):
-        self.process.stdin.close()
-        self.process.wait()
-
-
-class Program:
-    """The panel program: one process for each sheet."""
-
-    def __init__(self, path):
-        if not os.access(path, os.X_OK):
-            raise CannotCompare(f"no comparison: the panel program {path} can't be run")
-        self.path = path
-
-    def ask(self, sheet):
-        """What it prints, cut at line feeds, and how it ended where that is not well."""
-        done = subprocess.run([self.path], input=sheet, stdout=subprocess.PIPE)
-        ended = [f"(ended with status {done.returncode})"] if done.returncode else []
-        return done.stdout.decode("latin-1").split("\n") + ended
+    def answered(self):
+        try:
+            return self.read_answer()
+        except Ended as ended:
+            raise CannotCompare("no comparison: the harness ended") from ended
 
 
 def first_difference(name, left, right):
@@ -75,15 +50,13 @@ def compare_lines(rust, explicit):
     return first_difference(f"Rust: lines with {explicit} tracks", own, rust.lines(explicit))
 
 
-def counts_lines(state):
-    return [f"entries\t{letter}\t{len(state.entries[letter])}" for letter in model.LETTERS]
-
-
 class Comparison:
-    """The result for one sheet: `kind` says which judges spoke, `differences` what they disagree in."""
+    """The result for one sheet: `kind` says which judges spoke, `differences` what they disagree in,
+    `numbers` what the entry calls were answered by."""
 
     def __init__(self, kind, differences):
         self.kind = kind
+        self.numbers = []
         self.differences = [difference for difference in differences if difference]
 
 
@@ -174,12 +147,11 @@ def css_repetitions(axis):
     return None
 
 
-def css_differences(state, lines):
+def css_differences(state):
     """Every comparison with CSS's counting that applies, and whether the third demand's does."""
     differences = [css_repetitions(state.panel.axes[letter]) for letter in model.LETTERS]
     differences += [css_any_placement(state, letter) for letter in model.LETTERS]
-    records = records_by_axis(lines)
-    differences += [None if css.gutters_fall_into_one(records[letter]) else f"CSS: gutters of {letter}"
+    differences += [None if css.gutters_fall_into_one(state.records[letter]) else f"CSS: gutters of {letter}"
                     for letter in model.LETTERS]
     demand = demand_lines(state)
     if demand is None:
@@ -187,31 +159,27 @@ def css_differences(state, lines):
     for letter in model.LETTERS:
         placements = [placement for placement in state.panel.placements if placement.axis == letter]
         differences.append(css_placements(state, letter, demand[letter], placements))
-        differences.append(css_records(state, letter, records[letter]))
+        differences.append(css_records(state, letter, state.records[letter]))
     return differences, True
 
 
-def records_by_axis(lines):
-    """The record lines of each axis in an output."""
-    row_size = next(place for place, line in enumerate(lines) if line.startswith("size\tr"))
-    end = next((place for place, line in enumerate(lines) if line.startswith("place")), len(lines))
-    return {"c": lines[1:row_size], "r": lines[row_size + 1:end]}
+def compare(sheet, calls, rust, judged=(), expected=None):
+    """Hold the judges against each other, and what is judged against the model.
 
-
-def compare(sheet, calls, rust, program=None, expected=None):
-    """Hold the judges against each other. `expected` is the (number, line) that a damage was made for."""
+    `expected` is the (number, line) that a damage was made for."""
     answer = model.Answer(sheet, calls)
     if answer.refused:
         result = compare_refused(answer.refused, rust, sheet)
     else:
         result = compare_accepted(answer, rust, sheet)
+    result.numbers = answer.numbers
     if expected:
         found = (answer.refused.number, answer.refused.line) if answer.refused else (0, 0)
         if found != expected:
             result.differences.append(f"damage: model {found}, made for {expected}")
-    if program:
-        own = model.text_of(model.Answer(sheet).sheet_answer()).split("\n")
-        result.differences += filter(None, [first_difference("panel program", own, program.ask(sheet))])
+    for one in judged:
+        difference = first_difference(one.name, one.expected(sheet, answer), one.ask(sheet, calls))
+        result.differences += [difference] if difference else []
     return result
 
 
@@ -247,13 +215,12 @@ def calls_difference(answer, sheet, lines):
 
 def compare_accepted(answer, rust, sheet):
     state = answer.state
-    own = model.sheet_lines(state)
-    full = own + model.name_lines(state) + counts_lines(state)
+    full = answer.output + answer.names + model.count_lines(state)
     lines = rust.ask(sheet, state.accepted)
     differences = [first_difference("Rust", full, lines)]
     if not differences[0]:
         differences.append(calls_difference(answer, sheet, lines))
-    css_found, demanded = css_differences(state, own)
+    css_found, demanded = css_differences(state)
     kind = "accepted, third demand's conditions hold" if demanded else "accepted"
     return Comparison(kind, differences + css_found)
 
@@ -267,10 +234,10 @@ def without_rows(sheet, calls):
 
 def column_answers(answer):
     """Every answer of a sheet and its calls that is about columns."""
-    own = model.sheet_lines(answer.state)
+    own = answer.output
     rows = next(place for place, line in enumerate(own) if line.startswith("size\tr"))
     numbers = [number for call, number in zip(answer.calls, answer.numbers) if call[0] == "c"]
-    named = own[rows:] + model.name_lines(answer.state)
+    named = own[rows:] + answer.names
     return [f"call {number}" for number in numbers] + own[:rows] + \
         [line for line in named if line.startswith(("place\tc", "names\tc"))]
 

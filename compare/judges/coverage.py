@@ -9,6 +9,7 @@ import build
 import model
 import rules
 from compare import MOST_ENTRIES_ASKED, Rust
+from lists import blocks, call_of, read_list
 
 # Files with every function measured, or (from, to): the functions between these lines of text.
 MEASURED = {
@@ -166,31 +167,6 @@ def chosen_lines(lines, bounds):
     return wanted
 
 
-def blocks(data):
-    """The (name, sheet, calls) of a recorded file."""
-    at = 0
-
-    def header():
-        nonlocal at
-        end = data.index(b"\n", at)
-        line, at = data[at:end], end + 1
-        return line.split(b" ", 1)
-
-    while at < len(data):
-        name = header()[1].decode()
-        size = int(header()[1])
-        sheet, at = data[at:at + size], at + size
-        calls = []
-        for _ in range(int(header()[1])):
-            end = data.index(b"\n", at)
-            letter, line, text = data[at:end].split(b"\t", 2)
-            calls.append((letter.decode(), int(line), text))
-            at = end + 1
-        size = int(header()[1])
-        at += size
-        yield name, sheet, calls
-
-
 def entries_asked(sheet, calls):
     """The accepted entries of a sheet that the Rust can be asked, None for the others."""
     answer = model.Answer(sheet, calls)
@@ -205,12 +181,11 @@ def entries_asked(sheet, calls):
 def first_cases(rust):
     """For each branch reached, the recorded case that reaches it first."""
     found = {}
-    for file in ("cases.txt", "limits.txt", "entries.txt", "accepted.txt", "large.txt", "refused.txt"):
-        data = build.read_bytes(os.path.join(build.COMPARE, "recorded", file))
-        for name, sheet, calls in blocks(data):
-            entries = entries_asked(sheet, calls)
+    for file in ("cases", "limits", "entries", "accepted", "large", "refused"):
+        for name, sheet, rows in blocks(read_list(file)):
+            entries = entries_asked(sheet, [call_of(row) for row in rows])
             if entries is not None:
-                take_new(found, rust.ask(sheet, entries)[-1], f"{file}: {name}")
+                take_new(found, rust.ask(sheet, entries)[-1], f"{file}.txt: {name}")
     take_new(found, rust.lines(3)[-1], "lines.txt")
     return found
 

@@ -71,15 +71,13 @@ class Lines:
         """Walk from the line after `after` (step 1) or before it (step -1) until `number` lines have
         the name; implicit lines on the side of the search have every name."""
         bearing = self.bearing(name)
-        position = after
-        while number > 0:
-            position += step
-            if abs(position) >= FURTHEST and position * step > 0:
-                return FURTHEST * step
+        for position in range(after + step, FURTHEST * step, step):
             implicit = position > self.explicit if step > 0 else position < 0
             if implicit or position in bearing:
                 number -= 1
-        return position
+                if number == 0:
+                    return position
+        return FURTHEST * step
 
     def named_line(self, name, number, suffix):
         """A name with a number, or alone: then the first line of the area's edge comes first."""

@@ -1,4 +1,6 @@
 """The second judge: a sheet and direct entry calls, answered from document 01's words alone."""
+from functools import cached_property
+
 import reader
 import rules
 
@@ -17,6 +19,11 @@ class State:
         self.entries = {letter: rules.written_entries(panel.axes[letter]) for letter in LETTERS}
         self.used = {letter: panel.axes[letter].name_bytes for letter in LETTERS}
         self.accepted = []
+
+    @cached_property
+    def records(self):
+        """The records of each axis, which no entry changes."""
+        return {letter: rules.records(self.panel.axes[letter], self.explicit[letter]) for letter in LETTERS}
 
     def names(self, letter):
         return rules.Names(self.entries[letter], self.panel.areas, letter, self.explicit[letter])
@@ -77,7 +84,7 @@ def sheet_lines(state):
     for letter in LETTERS:
         axis = state.panel.axes[letter]
         lines.append(f"size\t{letter}\t{rules.repetitions(axis)}\t{state.explicit[letter]}")
-        lines += rules.records(axis, state.explicit[letter])
+        lines += state.records[letter]
     return lines + placement_lines(state)
 
 
@@ -99,6 +106,11 @@ def name_lines(state):
     return lines
 
 
+def count_lines(state):
+    """The number of name entries of each axis."""
+    return [f"entries\t{letter}\t{len(state.entries[letter])}" for letter in LETTERS]
+
+
 class Answer:
     """What the model says of a sheet and entry calls, each (axis, line, name as bytes)."""
 
@@ -114,18 +126,21 @@ class Answer:
             return
         self.numbers = [enter(self.state, *call) for call in calls]
 
-    def sheet_answer(self):
+    @cached_property
+    def output(self):
         """Document 01's output after the entry calls."""
         if self.refused:
             return [refusal_line(self.refused.number, self.refused.line)]
         return sheet_lines(self.state)
 
+    @cached_property
+    def names(self):
+        """The line names after the entry calls."""
+        return [] if self.refused else name_lines(self.state)
+
     def full_answer(self, names=True):
         """The answers of the calls, document 01's output and, where asked, the line names."""
-        if self.refused:
-            return self.sheet_answer()
-        lines = [entry_line(number) for number in self.numbers] + sheet_lines(self.state)
-        return lines + name_lines(self.state) if names else lines
+        return [entry_line(number) for number in self.numbers] + self.output + (self.names if names else [])
 
 
 def text_of(lines):

@@ -5,16 +5,18 @@ import random
 
 import build
 import damage
+import differences
 import edges
+import lists
 import maker
 import model
 import reader
 import rules
 from answer import calls_of
 from compare import Rust, compare, compare_lines
+from lists import RECORDED
 
 SEED = 1
-RECORDED = os.path.join(build.COMPARE, "recorded")
 DEFAULT_CASES = os.path.join(build.REPOSITORY, "..", "shared", "cases")
 # Sheets of each family in accepted.txt, and the longest block that is kept.
 ACCEPTED = {"general": 1300, "tie": 200, "full": 40, "writing_out": 60, "spoiled": 40}
@@ -23,7 +25,6 @@ CUT = {"large": 60, "far": 40, "over": 12, "writing_out": 20, "full": 4}
 # Refused sheets for each number, record and kind of field.
 REFUSED_FOR_EACH = {1: 9, 3: 4, 4: 6}
 REFUSED_FOR_OTHERS = 25
-REPLAYED = ("cases", "limits", "short", "entries", "accepted", "refused", "large", "lines")
 ENTRY_LISTS = 150
 STORE_LISTS = 4
 
@@ -32,7 +33,7 @@ class Case:
     """A sheet and calls that the judges agree on, with the answer."""
 
     def __init__(self, name, sheet, calls, rust, expected=None):
-        result = compare(sheet, calls, rust, None, expected)
+        result = compare(sheet, calls, rust, (), expected)
         if result.differences:
             raise build.CannotCompare(f"not recorded: the judges differ on {name}: {result.differences[0]}")
         self.name = name
@@ -47,7 +48,7 @@ class Case:
     def answer_lines(self, rust):
         """The Rust's lines where it speaks; the model's for refusals and the numbers of calls."""
         if self.refused:
-            return self.answer.sheet_answer()
+            return self.answer.output
         lines = rust.ask(self.sheet, self.answer.state.accepted)[:-2]
         return [model.entry_line(number) for number in self.answer.numbers] + lines
 
@@ -116,11 +117,11 @@ def paper_case(folder, name, rust):
     return case
 
 
-def edge_case(name, rust):
-    lines, held = edges.SHEETS[name]
+def held_case(name, lines, held, rust):
+    """A sheet whose answer has to hold lines that a paper gives."""
     case = Case(name, damage.sheet_of(lines), [], rust)
     if any(line not in case.lines for line in held):
-        raise build.CannotCompare(f"not recorded: {name} is answered otherwise than document 01 says")
+        raise build.CannotCompare(f"not recorded: {name} is answered otherwise than its paper says")
     return case
 
 
@@ -128,8 +129,14 @@ def write_cases(folder, rust):
     if not os.path.isdir(folder):
         raise build.CannotCompare(f"not recorded: the papers' cases are not in {folder}")
     names = sorted(name[:-3] for name in os.listdir(folder) if name.endswith(".in"))
-    cases = [paper_case(folder, name, rust) for name in names] + [edge_case(name, rust) for name in edges.SHEETS]
+    cases = [paper_case(folder, name, rust) for name in names] + [held_case(name, *edges.SHEETS[name], rust) for name in edges.SHEETS]
     write("cases.txt", [case.block(cut=len(case.lines) > 3000) for case in cases])
+
+
+def write_differences(rust):
+    """The sheets of docs/DIFFERENCES.md."""
+    cases = [held_case(*sheet, rust) for sheet in differences.sheets()]
+    write("differences.txt", [case.block(cut=len(case.lines) > 3000) for case in cases])
 
 
 def limit_case(name, lines, refusal, rust):
@@ -259,19 +266,23 @@ def write_lines(rust):
     write("lines.txt", rows)
 
 
-def write_replayed():
-    """All lists one after the other, the lines with their number before them: what the program `vectors` replays under the gate."""
-    lists = {name: build.read_bytes(os.path.join(RECORDED, name + ".txt")) for name in REPLAYED}
-    lists["lines"] = b"lines %d\n" % lists["lines"].count(b"\n") + lists["lines"]
-    with open(os.path.join(build.REPOSITORY, "crates", "vectors", "stdin"), "wb") as file:
-        file.write(b"".join(lists[name] for name in REPLAYED))
+def check():
+    """The lists against docs/DIFFERENCES.md and the files of `vectors`."""
+    found = lists.faults()
+    for fault in found:
+        print(fault)
+    print(f"{len(found)} faults in the recorded lists")
+    return 1 if found else 0
 
 
 def main():
     parser = argparse.ArgumentParser(prog="compare/record", description="Remake the recorded lists.")
     parser.add_argument("--rust", help="folder of the unchanged Rust files")
     parser.add_argument("--cases", default=DEFAULT_CASES, help="folder of the papers' cases")
+    parser.add_argument("--check", action="store_true", help="remake nothing: only check what is recorded")
     options = parser.parse_args()
+    if options.check:
+        return check()
     rust = Rust(build.build(options.rust))
     os.makedirs(RECORDED, exist_ok=True)
     write_cases(options.cases, rust)
@@ -282,8 +293,10 @@ def main():
     write_accepted(rust)
     write_refused(rust)
     write_cut(rust)
-    write_replayed()
+    write_differences(rust)
     rust.close()
+    lists.write_replayed()
+    return check()
 
 
 if __name__ == "__main__":

@@ -174,7 +174,8 @@ def template_count(axis):
     """The tracks that the template writes out, not cut."""
     if counts_as_none(axis.components):
         return 0
-    return sum(written_tracks(component, repetitions(axis)) for component in axis.components)
+    automatic = repetitions(axis)
+    return sum(written_tracks(component, automatic) for component in axis.components)
 
 
 def area_count(panel, letter):
@@ -411,16 +412,23 @@ def records(axis, explicit):
     tracks = all_tracks(axis, explicit)
     collapsed = [fit and not holds_item(axis, place) for place, (_, fit) in enumerate(tracks)]
     gutters = collapsed_gutters(tracks, collapsed)
-    gap = Track(axis.gap, axis.gap)
-    lines = [record(0, "gutter", gutters[0], gap)]
+    # One text for each track of the sheet, however often it is written.
+    texts = {key: sizes_text(False, track) for key, track in {id(track): track for track, _ in tracks}.items()}
+    gap = sizes_text(False, Track(axis.gap, axis.gap))
+    none = sizes_text(True, None)
+    lines = [f"0\tgutter\t{none if gutters[0] else gap}"]
     for place, (track, _) in enumerate(tracks):
-        lines.append(record(2 * place + 1, "track", collapsed[place], track))
-        lines.append(record(2 * place + 2, "gutter", gutters[place + 1], gap))
+        lines.append(f"{2 * place + 1}\ttrack\t{none if collapsed[place] else texts[id(track)]}")
+        lines.append(f"{2 * place + 2}\tgutter\t{none if gutters[place + 1] else gap}")
     return lines
 
 
-def record(index, kind, collapsed, track):
+def sizes_text(collapsed, track):
     if collapsed:
-        return f"{index}\t{kind}\ty\tlen\t00000000\tlen\t00000000"
+        return "y\tlen\t00000000\tlen\t00000000"
     low, high = track.minimum, track.maximum
-    return f"{index}\t{kind}\tn\t{low.kind}\t{low.bits:08x}\t{high.kind}\t{high.bits:08x}"
+    return f"n\t{low.kind}\t{low.bits:08x}\t{high.kind}\t{high.bits:08x}"
+
+
+def record(index, kind, collapsed, track):
+    return f"{index}\t{kind}\t{sizes_text(collapsed, track)}"

@@ -2,8 +2,10 @@
 
 import build
 import maker
+import model
 import wrong
-from compare import Rust, compare
+from compare import Rust, compare, first_difference
+from judged import LIBRARY, Library, build_library, find
 from shrink import shrink
 
 SHEETS = 20000
@@ -11,46 +13,74 @@ SEED = 20
 FROM_THE_RUST = ("Rust", "cut count", "entry count")
 FROM_A_DAMAGE = ("damage",)
 FROM_THE_RECOUNT = ("calls",)
+# Readings that no answer of a panel shows, and why.
+NOT_BY_THE_LIBRARY = {"the gaps of tracks past 10,000 counted": "a panel of more than 10,000 tracks is refused by 4"}
 
 
-class Remembering(Rust):
-    """The Rust, asked once for each sheet."""
+class Remembered:
+    """A process that is asked once for each sheet."""
 
-    def __init__(self, path):
-        super().__init__(path)
+    def __init__(self, process):
+        self.process = process
         self.known = {}
 
-    def ask(self, sheet, entries):
-        key = (sheet, tuple(entries))
+    def ask(self, sheet, calls):
+        key = (sheet, tuple(calls))
         if key not in self.known:
-            lines = super().ask(sheet, entries)
+            lines = self.process.ask(sheet, calls)
             if len(lines) > 2000:
                 return lines
             self.known[key] = lines
         return self.known[key]
 
 
-def found(made, rust, starts, expected):
+class ByTheJudges:
     """The differences of one sheet that come from the judge in question."""
+
+    def __init__(self, rust, starts):
+        self.rust = rust
+        self.starts = starts
+        self.shrinks = starts != FROM_A_DAMAGE
+
+    def found(self, sheet, calls, expected):
+        result = compare(sheet, calls, self.rust, (), expected)
+        return [difference for difference in result.differences if difference.startswith(self.starts)]
+
+
+class ByTheLibrary:
+    """The difference of one sheet from the library's answer."""
+    starts = (Library.name,)
+    shrinks = False
+
+    def __init__(self, process):
+        self.process = process
+        self.remembered = Remembered(process)
+
+    def found(self, sheet, calls, expected):
+        own = self.process.expected(sheet, model.Answer(sheet, calls))
+        difference = first_difference(Library.name, own, self.remembered.ask(sheet, calls))
+        return [difference] if difference else []
+
+
+def found(judge, sheet, calls, expected):
     try:
-        result = compare(made[0], made[1], rust, None, expected)
-    except (ArithmeticError, IndexError, TypeError, ValueError, AssertionError) as fault:
-        return [f"{starts[0]}: the model breaks: {type(fault).__name__}"]
-    return [difference for difference in result.differences if difference.startswith(starts)]
+        return judge.found(sheet, calls, expected)
+    except (ArithmeticError, AttributeError, IndexError, TypeError, ValueError, AssertionError) as fault:
+        return [f"{judge.starts[0]}: the model breaks: {type(fault).__name__}"]
 
 
-def try_reading(reading, sheets, rust, starts):
+def try_reading(reading, sheets, judge):
     """The number of sheets until the reading is found, the difference, and the smallest sheet."""
     with wrong.put_in_place(reading):
         for number, made in enumerate(sheets, start=1):
-            differences = found(made, rust, starts, made[2])
+            differences = found(judge, *made[:3])
             if not differences:
                 continue
-            if starts == FROM_A_DAMAGE:
+            if not judge.shrinks:
                 return number, differences[0], None
-            differs = lambda *other: bool(found(other, rust, starts, None))
+            differs = lambda *other: bool(found(judge, *other, None))
             small = shrink(made[0], made[1], differs)
-            return number, found(small, rust, starts, None)[0], small
+            return number, found(judge, *small, None)[0], small
     return None
 
 
@@ -61,10 +91,10 @@ def one_line(small):
     return " | ".join(line.replace("\t", " ") for line in lines)
 
 
-def try_all(readings, sheets, rust, starts):
+def try_all(readings, sheets, judge):
     missed = 0
     for name, reading in readings.items():
-        result = try_reading(reading, sheets, rust, starts)
+        result = try_reading(reading, sheets, judge)
         if result is None:
             missed += 1
             print(f"NOT FOUND | {name}", flush=True)
@@ -74,15 +104,34 @@ def try_all(readings, sheets, rust, starts):
     return missed
 
 
+def try_library(sheets):
+    """Every reading once more, the library the only judge, where it is built."""
+    archive = find(None, *LIBRARY)
+    if archive is None:
+        print("without the library")
+        return 0
+    print("found by the library's answers:")
+    for name, reason in NOT_BY_THE_LIBRARY.items():
+        print(f"  none | {name} | {reason}")
+    readings = {**wrong.FOUND_BY_THE_RUST, **wrong.FOUND_BY_DAMAGE, **wrong.FOUND_BY_RECOUNT}
+    asked = {name: reading for name, reading in readings.items() if name not in NOT_BY_THE_LIBRARY}
+    library = Library(build_library(archive))
+    missed = try_all(asked, sheets, ByTheLibrary(library))
+    library.close()
+    return missed
+
+
 def main():
-    rust = Remembering(build.build())
+    rust = Rust(build.build())
     # Made before any reading is put in place: the search for ties uses the model.
     sheets = [maker.make(SEED, number) for number in range(SHEETS)]
     print("sheets until found | wrong reading | what the comparison says")
-    missed = try_all(wrong.FOUND_BY_THE_RUST, sheets, rust, FROM_THE_RUST)
-    missed += try_all(wrong.FOUND_BY_DAMAGE, sheets, rust, FROM_A_DAMAGE)
-    missed += try_all(wrong.FOUND_BY_RECOUNT, sheets, rust, FROM_THE_RECOUNT)
+    asked = Remembered(rust)
+    missed = try_all(wrong.FOUND_BY_THE_RUST, sheets, ByTheJudges(asked, FROM_THE_RUST))
+    missed += try_all(wrong.FOUND_BY_DAMAGE, sheets, ByTheJudges(asked, FROM_A_DAMAGE))
+    missed += try_all(wrong.FOUND_BY_RECOUNT, sheets, ByTheJudges(asked, FROM_THE_RECOUNT))
     rust.close()
+    missed += try_library(sheets)
     count = len(wrong.FOUND_BY_THE_RUST) + len(wrong.FOUND_BY_DAMAGE) + len(wrong.FOUND_BY_RECOUNT)
     print(f"{count} wrong readings, {missed} not found")
     return 1 if missed else 0

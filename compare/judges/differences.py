@@ -1,0 +1,60 @@
+"""The sheets of docs/DIFFERENCES.md: each with lines that its answer has to hold."""
+from edges import TRACK, axis_line, place_line
+
+ZERO = "len\t00000000\tlen\t00000000"
+ONE = "len\t3f800000\tlen\t3f800000"
+X = "named\tx\t"
+
+
+def repeat(count, *tracks):
+    return [f"repeat\tc\t{count}", *[f"track\tc\t{track}" for track in tracks], "end\tc"]
+
+
+def placed(*ends):
+    """The answers of column placements, by their ends."""
+    return ["place\tc\t" + "\t".join(end.split()) for end in ends]
+
+
+def rust_sheets():
+    yield "counted above 10,000", repeat(10001, TRACK), ["refused\t4\t4"]
+    yield "filled above 10,000", [axis_line("41200000")] + repeat("fill", ZERO, ZERO, ZERO), ["refused\t4\t7"]
+    yield "4,097 entries", ["repeat\tc\t4097", "name\tc\tx", "end\tc"], ["refused\t8\t4"]
+
+
+def invalid_sheets():
+    """Templates that CSS has not, and placements outside the third demand's conditions."""
+    shifted = repeat(0, TRACK) + ["name\tc\tx"]
+    yield "repeated no times", shifted + [place_line(X + "1")], placed("line 2 auto 0")
+    yield "filled by no fixed part", repeat("fill", TRACK) + ["name\tc\tx", place_line(X + "1")], ["size\tc\t0\t0"] + placed("line 2 auto 0")
+    yield "filled twice", repeat("fill", ONE) * 2 + ["name\tc\tx", place_line(X + "1")], ["size\tc\t0\t0"] + placed("line 3 auto 0")
+    yield "area over no template", ["area\ta\t1\t2\t1\t2", f"track\tc\t{ONE}"] + repeat("fill", TRACK), ["size\tc\t0\t1", f"1\ttrack\tn\t{ONE}"]
+    yield "names without a track", ["name\tc\tx", place_line(X + "-1")], placed("line 1 auto 0")
+    yield "repeat without a track", ["repeat\tc\t2", "name\tc\tx", "end\tc", place_line(X + "-1")], placed("line 1 auto 0")
+    yield "span back from past the end", shifted + [place_line("nspan\tx\t1", "line\t-\t3")], placed("line -2 line 3")
+    yield "index not rising", repeat(0, TRACK) + shifted + [place_line(X + "1", X + "2")], placed("line 3 line 2")
+    yield "two named spans", [place_line("nspan\tx\t1", "nspan\ty\t1")], placed("span 1 span 1")
+    yield "ends out of order", [place_line("line\t-\t3", "line\t-\t1"), place_line("line\t-\t2", "line\t-\t2")], \
+        placed("line 3 line 1", "line 2 line 2")
+    yield "bench four", [axis_line("43a00000"), "area\tlevel\t1\t2\t2\t3"] + repeat("fill", "len\t42c80000\tlen\t42c80000") + \
+        ["name\tc\toffset", f"track\tc\t{TRACK}", place_line("named\toffset\t1")], ["size\tc\t0\t2"] + placed("line 2 auto 0")
+
+
+def worded_sheets():
+    """Within the third demand's conditions, by the words of document 01."""
+    yield "held before a span", ["area\ta\t1\t2\t1\t10001", place_line("nspan\ta-end\t1", "line\t-\t10002")], placed("line -10002 line 10002")
+    yield "product above", [axis_line("41300000")] + repeat("fill", "pct\t3dcccccd\tpct\t3dcccccd"), ["size\tc\t9\t9"]
+    yield "quotient rounded up", [axis_line("4040ae82")] + repeat("fill", "len\t00000000\tlen\t3eab45c9"), ["size\tc\t9\t9"]
+    yield "quotient of 0", ["axis\tc\t00000001\tmin\tlen\t477fff00"] + repeat("fill", ZERO), ["size\tc\t1\t1"]
+    yield "filled by length 0", [axis_line("3f800000")] + repeat("fill", ZERO), ["size\tc\t10000\t10000"]
+    yield "span of 0", [place_line("nspan\tx\t0", "line\t-\t1")], placed("line -2 line 1")
+    yield "minimum beside fit-content", ["track\tc\tlen\t3f800000\tfitl\t3f800000"], ["1\ttrack\tn\tlen\t3f800000\tfitl\t3f800000"]
+    yield "name without a number", ["area\ta\t1\t2\t2\t3", place_line(X + "0"), place_line("named\ta\t0", "named\ta\t0")], \
+        placed("line 4 auto 0", "line 2 line 3")
+    yield "line 0", [place_line("line\t-\t0"), place_line("line\t-\t0", "nspan\tx\t1")], placed("line 0 auto 0", "line 0 span 1")
+
+
+def sheets():
+    """(name, lines, what the answer has to hold)."""
+    yield from rust_sheets()
+    yield from invalid_sheets()
+    yield from worded_sheets()

@@ -1,0 +1,80 @@
+//! A panel's answers in the output form of document 01, its line names, and the number of its name entries.
+use crate::palgwern::{Axis, End, Panel, Record, Refusal, Size};
+use std::io::Write;
+
+const AXES: [Axis; 2] = [Axis::Columns, Axis::Rows];
+
+fn letter(axis: Axis) -> char {
+    match axis {
+        Axis::Columns => 'c',
+        Axis::Rows => 'r',
+    }
+}
+
+fn kind_and_value(size: Size) -> (&'static str, f32) {
+    match size {
+        Size::Length(value) => ("len", value),
+        Size::Percent(value) => ("pct", value),
+        Size::Fraction(value) => ("fr", value),
+        Size::Auto => ("auto", 0.0),
+        Size::MinContent => ("min", 0.0),
+        Size::MaxContent => ("max", 0.0),
+        Size::FitContentLength(value) => ("fitl", value),
+        Size::FitContentPercent(value) => ("fitp", value),
+    }
+}
+
+fn print_record(out: &mut Vec<u8>, index: usize, record: &Record) {
+    let kind = if record.gutter { "gutter" } else { "track" };
+    let collapsed = if record.collapsed { 'y' } else { 'n' };
+    let (low, least) = kind_and_value(record.minimum);
+    let (high, most) = kind_and_value(record.maximum);
+    writeln!(out, "{index}\t{kind}\t{collapsed}\t{low}\t{:08x}\t{high}\t{:08x}", least.to_bits(), most.to_bits()).unwrap();
+}
+
+fn print_axis(out: &mut Vec<u8>, panel: &Panel, axis: Axis) {
+    let size = panel.size(axis);
+    writeln!(out, "size\t{}\t{}\t{}", letter(axis), size.repetitions, size.explicit).unwrap();
+    for (index, record) in panel.records(axis).iter().enumerate() {
+        print_record(out, index, record);
+    }
+}
+
+fn end(end: End) -> String {
+    match end {
+        End::Auto => "auto\t0".to_string(),
+        End::Line(line) => format!("line\t{line}"),
+        End::Span(span) => format!("span\t{span}"),
+    }
+}
+
+fn print_placement(out: &mut Vec<u8>, panel: &Panel, index: u32) {
+    match panel.placement(index) {
+        Ok(found) => writeln!(out, "place\t{}\t{}\t{}", letter(found.axis), end(found.start), end(found.end)).unwrap(),
+        Err(refusal) => print_refusal(out, refusal),
+    }
+}
+
+fn print_names(out: &mut Vec<u8>, panel: &Panel, axis: Axis) {
+    for line in 1..=panel.lists(axis) {
+        write!(out, "names\t{}\t{line}", letter(axis)).unwrap();
+        for name in panel.names(axis, line) {
+            out.push(b'\t');
+            out.extend_from_slice(name);
+        }
+        out.push(b'\n');
+    }
+}
+
+pub fn print_refusal(out: &mut Vec<u8>, refusal: Refusal) {
+    writeln!(out, "refused\t{}\t{}", refusal.number(), refusal.line).unwrap();
+}
+
+/// The whole answer of a panel.
+pub fn print_panel(out: &mut Vec<u8>, panel: &Panel) {
+    AXES.into_iter().for_each(|axis| print_axis(out, panel, axis));
+    (0..panel.placements()).for_each(|index| print_placement(out, panel, index));
+    AXES.into_iter().for_each(|axis| print_names(out, panel, axis));
+    let state = panel.state();
+    writeln!(out, "entries\tc\t{}\nentries\tr\t{}", state.columns.entries, state.rows.entries).unwrap();
+}

@@ -1,0 +1,113 @@
+//! The exported calls on lent buffers, each with the fault that is planted in it, mostly none.
+use crate::lent::*;
+use crate::palgwern::{raw, State};
+use crate::planted;
+
+/// The numbers that calls take besides the panel.
+#[derive(Clone, Copy, Debug)]
+pub struct Numbers {
+    pub axis: u32,
+    /// The line of an entry or of a name.
+    pub line: u32,
+    /// The place of a name, the placement, or the first record.
+    pub place: u32,
+}
+
+pub fn read_sheet(lent: &mut Lent) -> raw::PanelAnswer {
+    let held = lent.words[COLUMNS].content()[0];
+    let (sheet, length) = (lent.bytes[TEXT].content().as_ptr(), lent.bytes[TEXT].content().len());
+    let [columns, rows, areas, placements, _] = &mut lent.words;
+    let [columnmarks, rowmarks, areabytes, placementbytes, columnstore, rowstore, ..] = &mut lent.bytes;
+    let (columnstore, rowstore) = (columnstore.content_mut(), rowstore.content_mut());
+    // SAFETY: buffers of their own, initialized, each of the length that `palgwern.h` states.
+    let mut answer = unsafe {
+        raw::palgwern_read_sheet(
+            sheet, length, columns.content_mut().as_mut_ptr().cast(), rows.content_mut().as_mut_ptr().cast(),
+            columnmarks.content_mut().as_mut_ptr().cast(), rowmarks.content_mut().as_mut_ptr().cast(),
+            areas.content_mut().as_mut_ptr().cast(), areabytes.content_mut().as_mut_ptr().cast(),
+            placements.content_mut().as_mut_ptr().cast(), placementbytes.content_mut().as_mut_ptr().cast(),
+            columnstore.as_mut_ptr(), columnstore.len(), rowstore.as_mut_ptr(), rowstore.len(),
+        )
+    };
+    planted::in_sheet(lent, held, &mut answer);
+    answer
+}
+
+/// The text is the name.
+pub fn enter_name(lent: &mut Lent, panel: State, numbers: Numbers) -> raw::PanelAnswer {
+    let (name, length) = (lent.bytes[TEXT].content().as_ptr(), lent.bytes[TEXT].content().len());
+    let [columns, rows, ..] = &mut lent.words;
+    let [_, _, _, _, columnstore, rowstore, ..] = &mut lent.bytes;
+    let (columnstore, rowstore) = (columnstore.content_mut(), rowstore.content_mut());
+    // SAFETY: as above.
+    let mut answer = unsafe {
+        raw::palgwern_enter_name(
+            panel, columns.content_mut().as_mut_ptr().cast(), rows.content_mut().as_mut_ptr().cast(), columnstore.as_mut_ptr(),
+            columnstore.len(), rowstore.as_mut_ptr(), rowstore.len(), numbers.axis, numbers.line, name, length,
+        )
+    };
+    planted::in_entry(lent, numbers, &mut answer);
+    answer
+}
+
+pub fn explicit_size(panel: State, numbers: Numbers) -> raw::SizeAnswer {
+    // SAFETY: numbers only.
+    let mut answer = unsafe { raw::palgwern_explicit_size(panel, numbers.axis) };
+    planted::in_size(&mut answer);
+    answer
+}
+
+pub fn line_count(panel: State, numbers: Numbers) -> raw::CountAnswer {
+    // SAFETY: numbers only.
+    unsafe { raw::palgwern_line_count(panel, numbers.axis) }
+}
+
+pub fn record_count(panel: State, numbers: Numbers) -> raw::CountAnswer {
+    // SAFETY: numbers only.
+    let mut answer = unsafe { raw::palgwern_record_count(panel, numbers.axis) };
+    planted::in_record_count(&mut answer);
+    answer
+}
+
+pub fn resolve_placement(lent: &mut Lent, panel: State, numbers: Numbers) -> raw::PlacementAnswer {
+    let [columns, rows, areas, placements, _] = lent.words.each_ref().map(|buffer| buffer.content().as_ptr());
+    let (columnstore, rowstore) = (lent.bytes[COLUMN_STORE].content(), lent.bytes[ROW_STORE].content());
+    let [areabytes, placementbytes] = [AREA_NAMES, PLACEMENT_NAMES].map(|at| lent.bytes[at].content().as_ptr());
+    // SAFETY: as in `read_sheet`; nothing is written.
+    let mut answer = unsafe {
+        raw::palgwern_resolve_placement(
+            panel, columns.cast(), rows.cast(), columnstore.as_ptr(), columnstore.len(), rowstore.as_ptr(), rowstore.len(),
+            areas.cast(), areabytes.cast(), placements.cast(), placementbytes.cast(), numbers.place,
+        )
+    };
+    planted::in_placement(lent, &mut answer);
+    answer
+}
+
+pub fn line_name(lent: &Lent, panel: State, numbers: Numbers) -> raw::NameAnswer {
+    let [columns, rows] = [COLUMNS, ROWS].map(|at| lent.words[at].content().as_ptr());
+    let (columnstore, rowstore) = (lent.bytes[COLUMN_STORE].content(), lent.bytes[ROW_STORE].content());
+    // SAFETY: as in `read_sheet`; nothing is written.
+    let mut answer = unsafe {
+        raw::palgwern_line_name(
+            panel, columns.cast(), rows.cast(), columnstore.as_ptr(), columnstore.len(), rowstore.as_ptr(), rowstore.len(),
+            numbers.axis, numbers.line, numbers.place,
+        )
+    };
+    planted::in_name(lent, numbers, &mut answer);
+    answer
+}
+
+pub fn records(lent: &mut Lent, panel: State, numbers: Numbers) -> raw::CountAnswer {
+    let [columns, rows, _, _, records] = &mut lent.words;
+    let (items, records) = (lent.bytes[ITEMS].content(), records.content_mut());
+    // SAFETY: as in `read_sheet`.
+    let mut answer = unsafe {
+        raw::palgwern_records(
+            panel, columns.content().as_ptr().cast(), rows.content().as_ptr().cast(), numbers.axis, items.as_ptr(), items.len(),
+            numbers.place, records.as_mut_ptr(), records.len(),
+        )
+    };
+    planted::in_records(lent, &mut answer);
+    answer
+}

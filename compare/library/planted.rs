@@ -1,0 +1,104 @@
+//! Faults put into the calls one at a time, to show that the tests of the promises find each.
+use crate::calls::Numbers;
+use crate::lent::*;
+use crate::palgwern::raw;
+use std::sync::atomic::{AtomicUsize, Ordering};
+
+/// The faults, from 1 on.
+pub const FAULTS: [&str; 19] = [
+    "a refused sheet changes a word",
+    "a word that the tables held reaches the panel",
+    "a sheet writes past the columns",
+    "a short store leaves a number in the refused panel",
+    "a sheet writes past a long store",
+    "a refused entry gives another panel back",
+    "an entry in the rows changes the columns",
+    "an entry changes its name",
+    "a refused size is not 0",
+    "a count differs now and then",
+    "a placement changes the table",
+    "a refused placement has a kind",
+    "a placement reads before a store",
+    "a name goes past its store",
+    "a short store has a name",
+    "a record too many is written",
+    "refused records are written",
+    "a record too few is counted",
+    "refused records are counted",
+];
+
+/// The fault in place, 0 for none.
+static PLANTED: AtomicUsize = AtomicUsize::new(0);
+static CALLS: AtomicUsize = AtomicUsize::new(0);
+
+pub fn plant(fault: usize) {
+    PLANTED.store(fault, Ordering::Relaxed);
+}
+
+fn planted() -> usize {
+    PLANTED.load(Ordering::Relaxed)
+}
+
+pub fn in_sheet(lent: &mut Lent, held: u64, answer: &mut raw::PanelAnswer) {
+    let accepted = answer.number == 0;
+    match planted() {
+        1 if !accepted => lent.words[COLUMNS].content_mut()[9_000] ^= 1,
+        2 if accepted && held == u64::MAX => answer.panel.areas += 1,
+        3 if accepted => lent.words[COLUMNS].write_past(7),
+        4 if answer.number == 10 => answer.panel.areabytes = 1,
+        5 if accepted && lent.bytes[ROW_STORE].content().len() > STORE_BYTES => lent.bytes[ROW_STORE].write_past(1),
+        _ => (),
+    }
+}
+
+pub fn in_entry(lent: &mut Lent, numbers: Numbers, answer: &mut raw::PanelAnswer) {
+    let accepted = answer.number == 0;
+    match planted() {
+        6 if answer.number == 8 => answer.panel.columns.used ^= 1,
+        7 if accepted && numbers.axis == 1 => lent.words[COLUMNS].content_mut()[5] ^= 4,
+        8 if accepted => lent.bytes[TEXT].content_mut()[0] ^= 1,
+        _ => (),
+    }
+}
+
+pub fn in_size(answer: &mut raw::SizeAnswer) {
+    if planted() == 9 && answer.number != 0 {
+        answer.explicit = 1;
+    }
+}
+
+pub fn in_record_count(answer: &mut raw::CountAnswer) {
+    if planted() == 10 && CALLS.fetch_add(1, Ordering::Relaxed) % 1_000 == 999 {
+        answer.count += 2;
+    }
+}
+
+pub fn in_placement(lent: &mut Lent, answer: &mut raw::PlacementAnswer) {
+    match planted() {
+        11 if answer.startkind == 1 => lent.words[PLACEMENTS].content_mut()[3] ^= 1,
+        12 if answer.number == 10 => answer.endkind = 1,
+        13 => answer.endnumber += i32::from(lent.bytes[COLUMN_STORE].read_before() == 0xc3),
+        _ => (),
+    }
+}
+
+pub fn in_name(lent: &Lent, numbers: Numbers, answer: &mut raw::NameAnswer) {
+    let store = if numbers.axis == 0 { COLUMN_STORE } else { ROW_STORE };
+    match planted() {
+        14 if answer.number == 0 && answer.offset as usize == lent.bytes[store].content().len() => answer.length = 1,
+        15 if answer.number == 0 && lent.is_short() && !lent.bytes[store].content().is_empty() => (answer.offset, answer.length) = (0, 1),
+        _ => (),
+    }
+}
+
+pub fn in_records(lent: &mut Lent, answer: &mut raw::CountAnswer) {
+    let words = lent.words[RECORDS].content_mut();
+    let end = 3 * answer.count as usize;
+    match planted() {
+        16 if answer.number == 0 && end < words.len() => words[end] = 0,
+        17 if answer.number == 10 && !words.is_empty() => words[0] = 0,
+        18 if answer.number == 0 => answer.count -= 1,
+        19 if answer.number == 10 => answer.count = 3,
+        _ => (),
+    }
+}

@@ -1,0 +1,171 @@
+//! What `palgwern.h` promises of each call on every input.
+use crate::calls::{self, Numbers};
+use crate::lent::*;
+use crate::palgwern::{raw, State};
+
+/// Each promise with whether it was kept.
+pub type Promises = Vec<(&'static str, bool)>;
+
+/// A call made twice on the same contents, the second time between other guards.
+struct Twice<A> {
+    answer: A,
+    after: Lent,
+    promises: Promises,
+}
+
+fn twice<A: PartialEq>(lent: &Lent, call: impl Fn(&mut Lent) -> A) -> Twice<A> {
+    let (mut first, mut second) = (lent.guarded_by(0x5a), lent.guarded_by(0xc3));
+    let (answer, again) = (call(&mut first), call(&mut second));
+    let promises = vec![
+        ("the same call gives the same answer", answer == again),
+        ("the same call leaves the same", first.has_contents_of(&second)),
+        ("nothing outside of a buffer is written", first.guards_are_intact() && second.guards_are_intact()),
+    ];
+    Twice { answer, after: first, promises }
+}
+
+/// What each refused call promises, and what it may refuse by.
+fn of_refusal(number: u32, numbers: &[u32], zeros: bool, untouched: bool) -> Promises {
+    vec![
+        ("a refusal has one of its numbers", number == 0 || numbers.contains(&number)),
+        ("a refusal gives zeros, or the panel back", number == 0 || zeros),
+        ("a refusal leaves everything lent", number == 0 || untouched),
+    ]
+}
+
+/// The answer that tables of zeros and full stores give.
+fn read_anew(sheet: &[u8]) -> raw::PanelAnswer {
+    let mut lent = Lent::filled(0);
+    lent.bytes[TEXT].fill_with(sheet);
+    calls::read_sheet(&mut lent)
+}
+
+pub fn read_sheet(lent: &Lent) -> (u32, Promises) {
+    let Twice { answer, after, mut promises } = twice(lent, calls::read_sheet);
+    let anew = read_anew(lent.bytes[TEXT].content());
+    let is_short = lent.is_short() && anew.number == 0;
+    let expected = if is_short { raw::PanelAnswer { number: 10, line: 0, panel: State::default() } } else { anew };
+    let zeros = answer.panel == State::default();
+    promises.extend(of_refusal(answer.number, &[1, 2, 3, 4, 5, 6, 7, 8, 10], zeros, after.has_contents_of(lent)));
+    promises.push(("an accepted sheet has line 0", answer.number != 0 || answer.line == 0));
+    promises.push(("what the tables held is nothing to a sheet", answer == expected));
+    let all = [COLUMN_MARKS, ROW_MARKS, AREA_NAMES, PLACEMENT_NAMES, COLUMN_STORE, ROW_STORE];
+    promises.push(("a sheet is only read", after.is_but_for(lent, &[COLUMNS, ROWS, AREAS, PLACEMENTS], &all)));
+    (answer.number, promises)
+}
+
+fn is_name(name: &[u8]) -> bool {
+    (1..=32).contains(&name.len()) && name.iter().all(|byte| (33..=126).contains(byte))
+}
+
+/// The lowest number that the arguments of an entry alone are refused by, 0 for none.
+fn entry_fault(name: &[u8], numbers: Numbers) -> u32 {
+    if !is_name(name) {
+        return 2;
+    }
+    if numbers.axis > 1 || !(1..=20_000).contains(&numbers.line) { 4 } else { 0 }
+}
+
+pub fn enter_name(lent: &Lent, panel: State, numbers: Numbers) -> (u32, Promises) {
+    let Twice { answer, after, mut promises } = twice(lent, |lent| calls::enter_name(lent, panel, numbers));
+    let fault = entry_fault(lent.bytes[TEXT].content(), numbers);
+    promises.extend(of_refusal(answer.number, &[2, 4, 8, 10], answer.panel == panel, after.has_contents_of(lent)));
+    promises.push(("an entry has line 0", answer.line == 0));
+    promises.push(("an entry outside its ranges is refused by 2 or 4", fault == 0 || answer.number == fault));
+    promises.push(("an entry within them is not", fault != 0 || ![2, 4].contains(&answer.number)));
+    promises.push(("an entry with a short store is refused", !lent.is_short() || answer.number != 0));
+    let rows = numbers.axis == 1;
+    let (words, bytes) = if rows { (ROWS, ROW_STORE) } else { (COLUMNS, COLUMN_STORE) };
+    promises.push(("an entry leaves the other axis", after.is_but_for(lent, &[words], &[bytes])));
+    let other = if rows { answer.panel.columns == panel.columns } else { answer.panel.rows == panel.rows };
+    promises.push(("an entry leaves the other axis's state", other));
+    (answer.number, promises)
+}
+
+/// A call on numbers alone: refused by 4 just where there is no such axis.
+fn of_numbers(number: u32, numbers: Numbers, zeros: bool, alike: bool) -> (u32, Promises) {
+    let mut promises = of_refusal(number, &[4], zeros, true);
+    promises.push(("refused just where there is no such axis", (number != 0) == (numbers.axis > 1)));
+    promises.push(("the same call gives the same answer", alike));
+    (number, promises)
+}
+
+pub fn explicit_size(panel: State, numbers: Numbers) -> (u32, Promises) {
+    let (answer, again) = (calls::explicit_size(panel, numbers), calls::explicit_size(panel, numbers));
+    of_numbers(answer.number, numbers, (answer.repetitions, answer.explicit) == (0, 0), answer == again)
+}
+
+pub fn line_count(panel: State, numbers: Numbers) -> (u32, Promises) {
+    let (answer, again) = (calls::line_count(panel, numbers), calls::line_count(panel, numbers));
+    of_numbers(answer.number, numbers, answer.count == 0, answer == again)
+}
+
+pub fn record_count(panel: State, numbers: Numbers) -> (u32, Promises) {
+    let (answer, again) = (calls::record_count(panel, numbers), calls::record_count(panel, numbers));
+    let (number, mut promises) = of_numbers(answer.number, numbers, answer.count == 0, answer == again);
+    promises.push(("the number of records is odd", number != 0 || answer.count % 2 == 1));
+    (number, promises)
+}
+
+/// Whether an end has one of the kinds, and a number of its range.
+fn is_end(kind: u32, number: i32) -> bool {
+    match kind {
+        0 => number == 0,
+        1 => i16::try_from(number).is_ok(),
+        3 => u16::try_from(number).is_ok(),
+        _ => false,
+    }
+}
+
+pub fn resolve_placement(lent: &Lent, panel: State, numbers: Numbers) -> (u32, Promises) {
+    let Twice { answer, after, mut promises } = twice(lent, |lent| calls::resolve_placement(lent, panel, numbers));
+    let raw::PlacementAnswer { number, axis, startkind, startnumber, endkind, endnumber } = answer;
+    let zeros = (axis, startkind, startnumber, endkind, endnumber) == (0, 0, 0, 0, 0);
+    promises.extend(of_refusal(number, &[4, 10], zeros, true));
+    promises.push(("a placement is only read", after.has_contents_of(lent)));
+    promises.push(("a placement that isn't there is refused by 4", numbers.place < panel.placements || number == 4));
+    promises.push(("a placement with a short store is refused", !lent.is_short() || number != 0));
+    promises.push(("an axis is 0 or 1", axis <= 1));
+    promises.push(("an end has a kind and its number", is_end(startkind, startnumber) && is_end(endkind, endnumber)));
+    (number, promises)
+}
+
+pub fn line_name(lent: &Lent, panel: State, numbers: Numbers) -> (u32, Promises) {
+    let Twice { answer, after, mut promises } = twice(lent, |lent| calls::line_name(lent, panel, numbers));
+    let store = if numbers.axis == 0 { COLUMN_STORE } else { ROW_STORE };
+    let end = u64::from(answer.offset) + u64::from(answer.length);
+    promises.extend(of_refusal(answer.number, &[4], (answer.offset, answer.length) == (0, 0), true));
+    promises.push(("names are only read", after.has_contents_of(lent)));
+    promises.push(("refused just where there is no such axis", (answer.number != 0) == (numbers.axis > 1)));
+    promises.push(("a name lies within its store", end <= lent.bytes[store].content().len() as u64));
+    promises.push(("a short store has no name", !lent.is_short() || answer.length == 0));
+    (answer.number, promises)
+}
+
+/// Whether the words of records are such: a kind, and two sizes.
+fn are_records(words: &[u64]) -> bool {
+    words.chunks(3).all(|record| record[0] <= 3 && record[1] >> 32 <= 7 && record[2] >> 32 <= 7)
+}
+
+pub fn records(lent: &Lent, panel: State, numbers: Numbers) -> (u32, Promises) {
+    let Twice { answer, after, mut promises } = twice(lent, |lent| calls::records(lent, panel, numbers));
+    let (lent_words, written) = (lent.words[RECORDS].content(), after.words[RECORDS].content());
+    let there = calls::record_count(panel, numbers).count.saturating_sub(u64::from(numbers.place));
+    let fit = lent_words.len() as u64 / 3;
+    let end = (3 * answer.count.min(fit)) as usize;
+    let accepted = answer.number == 0;
+    promises.extend(of_refusal(answer.number, &[4, 10], answer.count == 0, after.has_contents_of(lent)));
+    promises.push(("only the words lent are written", after.is_but_for(lent, &[RECORDS], &[])));
+    promises.push(("as many records are written as there are and fit", !accepted || answer.count == there.min(fit)));
+    promises.push(("words past the records stay", written[end..] == lent_words[end..]));
+    promises.push(("a record has a kind and two sizes", are_records(&written[..end])));
+    promises.push(("a record that isn't there is refused by 4", there != 0 || answer.number == 4));
+    promises.push(("words for no record are refused", fit != 0 || !accepted));
+    promises.push(("fewer item bytes than tracks are refused", !accepted || lent.bytes[ITEMS].content().len() as u64 >= tracks(panel, numbers)));
+    (answer.number, promises)
+}
+
+/// The tracks of an axis, by its record count.
+pub fn tracks(panel: State, numbers: Numbers) -> u64 {
+    calls::record_count(panel, numbers).count / 2
+}
