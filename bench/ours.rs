@@ -1,0 +1,112 @@
+//! The stages by the calls of the proved library.
+use crate::answers::{Answers, End};
+use crate::palgwern::{Axis, End as PanelEnd, Panel, Placement, State, RECORD_WORDS};
+use std::hint::black_box;
+
+const AXES: [Axis; 2] = [Axis::Columns, Axis::Rows];
+
+/// A panel, room for its records, and the same panel before its names were entered.
+pub(crate) struct Ours {
+    panel: Panel,
+    words: [Vec<u64>; 2],
+    nameless: Panel,
+    before: State,
+    entries: Vec<(Axis, u32, Vec<u8>)>,
+}
+
+/// The names of a panel, each with its axis and line.
+fn entries(panel: &Panel) -> Vec<(Axis, u32, Vec<u8>)> {
+    let lines = AXES.into_iter().flat_map(|axis| (1..=panel.lists(axis)).map(move |line| (axis, line)));
+    lines.flat_map(|(axis, line)| panel.names(axis, line).map(move |name| (axis, line, name.to_vec()))).collect()
+}
+
+fn end(end: PanelEnd) -> End {
+    match end {
+        PanelEnd::Auto => (0, 0),
+        PanelEnd::Line(line) => (1, line as i32),
+        PanelEnd::Span(span) => (3, span as i32),
+    }
+}
+
+fn placement(placement: Placement) -> (u32, End, End) {
+    (placement.axis as u32, end(placement.start), end(placement.end))
+}
+
+impl Ours {
+    pub(crate) fn new(sheet: &str, nameless: &str) -> Ours {
+        let read = |text: &str| Panel::read(text.as_bytes()).unwrap_or_else(|refusal| panic!("{refusal}"));
+        let (panel, nameless) = (read(sheet), read(nameless));
+        let words = AXES.map(|axis| vec![0; panel.record_count(axis) * RECORD_WORDS]);
+        Ours { entries: entries(&panel), words, before: nameless.state(), panel, nameless }
+    }
+
+    /// The stored explicit size of both axes: reading the sheet worked it out.
+    pub(crate) fn sizes(&self) {
+        for axis in AXES {
+            black_box(self.panel.size(black_box(axis)));
+        }
+    }
+
+    /// Every name entered by a call of its own into the panel without names.
+    pub(crate) fn names(&mut self) {
+        self.nameless.set_state(self.before);
+        for (axis, line, name) in &self.entries {
+            self.nameless.enter(*axis, *line, name).unwrap();
+        }
+    }
+
+    pub(crate) fn placements(&self) {
+        for index in 0..self.panel.placements() {
+            black_box(self.panel.placement(black_box(index))).ok();
+        }
+    }
+
+    pub(crate) fn records(&mut self) {
+        for (axis, words) in AXES.into_iter().zip(&mut self.words) {
+            black_box(self.panel.write_records(axis, self.panel.items(axis), 0, words)).ok();
+        }
+    }
+
+    pub(crate) fn line_names(&self) {
+        for axis in AXES {
+            for line in 1..=self.panel.lists(axis) {
+                self.panel.names(axis, line).for_each(|name| _ = black_box(name));
+            }
+        }
+    }
+
+    /// The sheet read into the same buffers again.
+    pub(crate) fn read(&mut self, sheet: &str) {
+        black_box(self.panel.read_again(black_box(sheet.as_bytes()))).ok();
+    }
+
+    pub(crate) fn entry_count(&self) -> usize {
+        self.entries.len()
+    }
+
+    pub(crate) fn record_count(&self) -> usize {
+        AXES.into_iter().map(|axis| self.panel.record_count(axis)).sum()
+    }
+
+    /// What the panel answers.
+    pub(crate) fn answers(&mut self) -> Answers {
+        self.records();
+        answers(&self.panel, &self.words)
+    }
+
+    /// What the panel answers whose names were entered by calls.
+    pub(crate) fn entered_answers(&mut self) -> Answers {
+        self.names();
+        answers(&self.nameless, &self.words)
+    }
+}
+
+fn answers(panel: &Panel, words: &[Vec<u64>; 2]) -> Answers {
+    let lists = |axis| (1..=panel.lists(axis)).map(|line| panel.names(axis, line).map(<[u8]>::to_vec).collect()).collect();
+    Answers {
+        sizes: AXES.map(|axis| panel.size(axis)).map(|size| (size.repetitions, size.explicit)),
+        names: AXES.map(lists),
+        placements: (0..panel.placements()).map(|index| placement(panel.placement(index).unwrap())).collect(),
+        records: words.clone(),
+    }
+}
