@@ -1,14 +1,16 @@
 //! The stages by the calls of the proved library.
 use crate::answers::{Answers, End};
-use crate::palgwern::{Axis, End as PanelEnd, Panel, Placement, State, RECORD_WORDS};
+use crate::palgwern::{Axis, End as PanelEnd, Panel, Placement, State, ENTRIES, PLACEMENT_NUMBERS, RECORD_WORDS};
 use std::hint::black_box;
 
 const AXES: [Axis; 2] = [Axis::Columns, Axis::Rows];
 
-/// A panel, room for its records, and the same panel before its names were entered.
+/// A panel, room for its records, placements and line names, and the same panel before its names were entered.
 pub(crate) struct Ours {
     panel: Panel,
     words: [Vec<u64>; 2],
+    numbers: Vec<i32>,
+    listed: Vec<u64>,
     nameless: Panel,
     before: State,
     entries: Vec<(Axis, u32, Vec<u8>)>,
@@ -37,7 +39,8 @@ impl Ours {
         let read = |text: &str| Panel::read(text.as_bytes()).unwrap_or_else(|refusal| panic!("{refusal}"));
         let (panel, nameless) = (read(sheet), read(nameless));
         let words = AXES.map(|axis| vec![0; panel.record_count(axis) * RECORD_WORDS]);
-        Ours { entries: entries(&panel), words, before: nameless.state(), panel, nameless }
+        let numbers = vec![0; panel.placements() as usize * PLACEMENT_NUMBERS];
+        Ours { entries: entries(&panel), words, numbers, listed: vec![0; ENTRIES], before: nameless.state(), panel, nameless }
     }
 
     /// The stored explicit size of both axes: reading the sheet worked it out.
@@ -55,10 +58,8 @@ impl Ours {
         }
     }
 
-    pub(crate) fn placements(&self) {
-        for index in 0..self.panel.placements() {
-            black_box(self.panel.placement(black_box(index))).ok();
-        }
+    pub(crate) fn placements(&mut self) {
+        black_box(self.panel.write_placements(0, &mut self.numbers)).ok();
     }
 
     pub(crate) fn records(&mut self) {
@@ -67,11 +68,10 @@ impl Ours {
         }
     }
 
-    pub(crate) fn line_names(&self) {
+    pub(crate) fn line_names(&mut self) {
         for axis in AXES {
-            for line in 1..=self.panel.lists(axis) {
-                self.panel.names(axis, line).for_each(|name| _ = black_box(name));
-            }
+            let written = self.panel.write_line_names(axis, &mut self.listed).unwrap_or(0);
+            self.listed[..written].iter().for_each(|word| _ = black_box(self.panel.name_at(axis, *word)));
         }
     }
 
@@ -102,11 +102,11 @@ impl Ours {
 }
 
 fn answers(panel: &Panel, words: &[Vec<u64>; 2]) -> Answers {
-    let lists = |axis| (1..=panel.lists(axis)).map(|line| panel.names(axis, line).map(<[u8]>::to_vec).collect()).collect();
+    let lists = |axis| panel.line_names(axis).into_iter().map(|names| names.into_iter().map(<[u8]>::to_vec).collect()).collect();
     Answers {
         sizes: AXES.map(|axis| panel.size(axis)).map(|size| (size.repetitions, size.explicit)),
         names: AXES.map(lists),
-        placements: (0..panel.placements()).map(|index| placement(panel.placement(index).unwrap())).collect(),
+        placements: panel.resolved().into_iter().map(placement).collect(),
         records: words.clone(),
     }
 }

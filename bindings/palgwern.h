@@ -3,7 +3,8 @@
  * Link target/staticlib/libpanel_c.a (x86-64 Linux), which `rt staticlib panel_c` writes. Every call is proved to end and to
  * answer as its contract in crates/panel_c/src/lib.rt says, whatever the panel and the tables hold. What C must ensure:
  *
- * - stack: 512 KiB of room for palgwern_read_sheet, 64 KiB for each other call (`bindings/test` measures them);
+ * - stack: 512 KiB of room for palgwern_read_sheet, 192 KiB for palgwern_resolve_placements and palgwern_line_names, 64 KiB for each
+ *   other call (`bindings/test` measures them);
  * - memory: every array and store that is lent is initialized, whatever it holds, and not null; an array has the length that is
  *   stated here, a pointer with a length has so many elements, and one of length 0 still points somewhere;
  * - no overlap: what a call may write (no `const`) is part of nothing else that is lent to it, and nobody else reads or writes it
@@ -48,7 +49,8 @@ enum palgwern_limit {
     PALGWERN_ENTERED_LINE = 20000,    /* an entered line is 1 to 20,000 */
     PALGWERN_TRACKS = 10000,          /* explicit tracks, and each implicit count */
     PALGWERN_LARGEST_RECORDS = 60001, /* records of the largest axis */
-    PALGWERN_RECORD_WORDS = 3         /* words of a record */
+    PALGWERN_RECORD_WORDS = 3,        /* words of a record */
+    PALGWERN_PLACEMENT_NUMBERS = 6    /* numbers of a resolved placement in a run */
 };
 
 /* Lengths of the arrays and stores that are lent. */
@@ -159,12 +161,37 @@ palgwern_placement_answer palgwern_resolve_placement(
     const uint64_t placements[PALGWERN_PLACEMENT_WORDS], const uint8_t placementbytes[PALGWERN_PLACEMENT_BYTES],
     uint32_t index);
 
+/* Placements from `first` on with their names resolved, as many as there are and as fit in `numbers`, six numbers each in the order
+ * of palgwern_placement_answer; answers how many. The same answers as one by one, but an index of the names is made once for all,
+ * so hand over a run for all. Refuses by 4 (`first` is no placement), then by 10 (a short store, or fewer than six numbers). */
+palgwern_count_answer palgwern_resolve_placements(
+    palgwern_panel panel, const uint64_t columns[PALGWERN_AXIS_WORDS], const uint64_t rows[PALGWERN_AXIS_WORDS],
+    const uint8_t *columnstore, size_t columnstore_bytes, const uint8_t *rowstore, size_t rowstore_bytes,
+    const uint64_t areas[PALGWERN_AREA_WORDS], const uint8_t areabytes[PALGWERN_AREA_BYTES],
+    const uint64_t placements[PALGWERN_PLACEMENT_WORDS], const uint8_t placementbytes[PALGWERN_PLACEMENT_BYTES],
+    uint32_t first, int32_t *numbers, size_t numbers_length);
+
 /* Where a name of a line (from 1) of an axis lies in the axis's store, by its place from 0. Length 0: that line and place hold
  * none, or a store is short. Offset and length stay within the store. */
 palgwern_name_answer palgwern_line_name(
     palgwern_panel panel, const uint64_t columns[PALGWERN_AXIS_WORDS], const uint64_t rows[PALGWERN_AXIS_WORDS],
     const uint8_t *columnstore, size_t columnstore_bytes, const uint8_t *rowstore, size_t rowstore_bytes,
     uint32_t axis, uint32_t line, uint32_t place);
+
+/* All line names of an axis: one list for each explicit line after the other, in entry order, a name once. A word for each name: its
+ * line (from 1), its offset in the axis's store times 2^16, and its length times 2^32. Answers how many words are written, never
+ * more than the axis has entries, so that PALGWERN_ENTRIES are always enough; words past them stay as they are. Offset and length
+ * stay within the store. Refuses by 4 (no axis, or an explicit count above 10,000, which no sheet gives), then by 10 (a short store,
+ * or fewer words than entries). */
+palgwern_count_answer palgwern_line_names(
+    palgwern_panel panel, const uint64_t columns[PALGWERN_AXIS_WORDS], const uint64_t rows[PALGWERN_AXIS_WORDS],
+    const uint8_t *columnstore, size_t columnstore_bytes, const uint8_t *rowstore, size_t rowstore_bytes,
+    uint32_t axis, uint64_t *words, size_t words_length);
+
+/* The parts of a word of palgwern_line_names. */
+static inline uint32_t palgwern_word_line(uint64_t word) { return word & 0xffff; }
+static inline uint32_t palgwern_word_offset(uint64_t word) { return word >> 16 & 0xffff; }
+static inline uint32_t palgwern_word_length(uint64_t word) { return word >> 32 & 0xff; }
 
 /* Records of an axis from `first` on, as many as there are and as fit in `words`, three words each; answers how many. `items` has
  * a byte for each track, not 0 where it holds an item: the marks that the sheet left, or others. Refuses by 4 (`first` is no
@@ -203,6 +230,18 @@ static inline palgwern_panel_answer palgwern_tables_enter(palgwern_tables *t, pa
 static inline palgwern_placement_answer palgwern_tables_placement(const palgwern_tables *t, palgwern_panel panel, uint32_t index) {
     return palgwern_resolve_placement(panel, t->columns, t->rows, t->columnstore, sizeof t->columnstore, t->rowstore,
         sizeof t->rowstore, t->areas, t->areabytes, t->placements, t->placementbytes, index);
+}
+
+static inline palgwern_count_answer palgwern_tables_placements(const palgwern_tables *t, palgwern_panel panel, uint32_t first,
+    int32_t *numbers, size_t length) {
+    return palgwern_resolve_placements(panel, t->columns, t->rows, t->columnstore, sizeof t->columnstore, t->rowstore,
+        sizeof t->rowstore, t->areas, t->areabytes, t->placements, t->placementbytes, first, numbers, length);
+}
+
+static inline palgwern_count_answer palgwern_tables_names(const palgwern_tables *t, palgwern_panel panel, uint32_t axis,
+    uint64_t *words, size_t length) {
+    return palgwern_line_names(panel, t->columns, t->rows, t->columnstore, sizeof t->columnstore, t->rowstore, sizeof t->rowstore,
+        axis, words, length);
 }
 
 static inline palgwern_name_answer palgwern_tables_name(const palgwern_tables *t, palgwern_panel panel, uint32_t axis,

@@ -13,8 +13,12 @@ const AREA_BYTES: usize = 2_048;
 const PLACEMENT_WORDS: usize = 512;
 const PLACEMENT_BYTES: usize = 16_384;
 const STORE_BYTES: usize = 32_768;
+/// The most name entries of an axis.
+pub const ENTRIES: usize = 4_096;
 /// The words of a record.
 pub const RECORD_WORDS: usize = 3;
+/// The numbers of a resolved placement in a run.
+pub const PLACEMENT_NUMBERS: usize = 6;
 
 /// An axis of a panel as the library has it; `crates/tables/src/lib.rt` says what the fields are.
 #[repr(C)]
@@ -115,6 +119,16 @@ pub mod raw {
             areabytes: *const [u8; AREA_BYTES], placements: *const [u64; PLACEMENT_WORDS], placementbytes: *const [u8; PLACEMENT_BYTES],
             index: u32,
         ) -> PlacementAnswer;
+        pub fn palgwern_resolve_placements(
+            panel: State, columns: *const [u64; AXIS_WORDS], rows: *const [u64; AXIS_WORDS], columnstore: *const u8,
+            columnstore_bytes: usize, rowstore: *const u8, rowstore_bytes: usize, areas: *const [u64; AREA_WORDS],
+            areabytes: *const [u8; AREA_BYTES], placements: *const [u64; PLACEMENT_WORDS], placementbytes: *const [u8; PLACEMENT_BYTES],
+            first: u32, numbers: *mut i32, numbers_length: usize,
+        ) -> CountAnswer;
+        pub fn palgwern_line_names(
+            panel: State, columns: *const [u64; AXIS_WORDS], rows: *const [u64; AXIS_WORDS], columnstore: *const u8,
+            columnstore_bytes: usize, rowstore: *const u8, rowstore_bytes: usize, axis: u32, words: *mut u64, words_length: usize,
+        ) -> CountAnswer;
         pub fn palgwern_line_name(
             panel: State, columns: *const [u64; AXIS_WORDS], rows: *const [u64; AXIS_WORDS], columnstore: *const u8,
             columnstore_bytes: usize, rowstore: *const u8, rowstore_bytes: usize, axis: u32, line: u32, place: u32,
@@ -277,6 +291,23 @@ fn end_of(kind: u32, number: i32) -> End {
     }
 }
 
+/// A count, or its refusal.
+fn counted(answer: raw::CountAnswer) -> Result<usize, Refusal> {
+    match answer.number {
+        0 => Ok(answer.count as usize),
+        number => Err(Refusal::of(number, 0)),
+    }
+}
+
+impl Placement {
+    /// A placement from its numbers in a run.
+    pub fn of(numbers: &[i32; PLACEMENT_NUMBERS]) -> Placement {
+        let [_, axis, startkind, startnumber, endkind, endnumber] = *numbers;
+        let axis = if axis == 0 { Axis::Columns } else { Axis::Rows };
+        Placement { axis, start: end_of(startkind as u32, startnumber), end: end_of(endkind as u32, endnumber) }
+    }
+}
+
 impl Panel {
     /// The panel that a sheet describes.
     pub fn read(sheet: &[u8]) -> Result<Panel, Refusal> {
@@ -363,6 +394,25 @@ impl Panel {
         Ok(Placement { axis, start: end_of(answer.startkind, answer.startnumber), end: end_of(answer.endkind, answer.endnumber) })
     }
 
+    /// All placements with their names resolved, in one run: the answers of `placement`, with an index of the names made once.
+    pub fn resolved(&self) -> Vec<Placement> {
+        let mut numbers = vec![0; self.state.placements as usize * PLACEMENT_NUMBERS];
+        let written = self.write_placements(0, &mut numbers).unwrap_or(0);
+        numbers.chunks_exact(PLACEMENT_NUMBERS).take(written).map(|n| Placement::of(n.try_into().unwrap())).collect()
+    }
+
+    /// Writes placements from `first` on, as many as there are and fit, six numbers each; answers how many.
+    pub fn write_placements(&self, first: u32, numbers: &mut [i32]) -> Result<usize, Refusal> {
+        // SAFETY: as in `read_again`; `numbers` is borrowed mutably, so it is none of the others.
+        let answer = unsafe {
+            raw::palgwern_resolve_placements(
+                self.state, &*self.columns, &*self.rows, self.columnstore.as_ptr(), STORE_BYTES, self.rowstore.as_ptr(), STORE_BYTES,
+                &*self.areas, &*self.areabytes, &*self.placements, &*self.placementbytes, first, numbers.as_mut_ptr(), numbers.len(),
+            )
+        };
+        counted(answer)
+    }
+
     /// How many lists of line names an axis has: none, or one for each explicit line.
     pub fn lists(&self, axis: Axis) -> u32 {
         // SAFETY: numbers only.
@@ -378,17 +428,48 @@ impl Panel {
                 axis as u32, line, place,
             )
         };
-        let store = match axis {
-            Axis::Columns => &self.columnstore,
-            Axis::Rows => &self.rowstore,
-        };
-        let name = &store[part.offset as usize..][..part.length as usize];
+        let name = &self.store(axis)[part.offset as usize..][..part.length as usize];
         if name.is_empty() { None } else { Some(name) }
     }
 
     /// The names of a line, from 1, in entry order.
     pub fn names(&self, axis: Axis, line: u32) -> impl Iterator<Item = &[u8]> + '_ {
         (0..).map_while(move |place| self.name(axis, line, place))
+    }
+
+    /// All line names of an axis: one list for each explicit line, none at all where the axis has no entry.
+    pub fn line_names(&self, axis: Axis) -> Vec<Vec<&[u8]>> {
+        let mut words = vec![0; ENTRIES];
+        let written = self.write_line_names(axis, &mut words).unwrap_or(0);
+        let mut lists = vec![Vec::new(); self.lists(axis) as usize];
+        for word in &words[..written] {
+            lists[(word & 0xffff) as usize - 1].push(self.name_at(axis, *word));
+        }
+        lists
+    }
+
+    /// Writes all line names of an axis, a word each: line, offset times 2^16, length times 2^32; answers how many.
+    pub fn write_line_names(&self, axis: Axis, words: &mut [u64]) -> Result<usize, Refusal> {
+        // SAFETY: as in `read_again`; `words` is borrowed mutably, so it is none of the others.
+        let answer = unsafe {
+            raw::palgwern_line_names(
+                self.state, &*self.columns, &*self.rows, self.columnstore.as_ptr(), STORE_BYTES, self.rowstore.as_ptr(), STORE_BYTES,
+                axis as u32, words.as_mut_ptr(), words.len(),
+            )
+        };
+        counted(answer)
+    }
+
+    /// The name that a word of `write_line_names` shows.
+    pub fn name_at(&self, axis: Axis, word: u64) -> &[u8] {
+        &self.store(axis)[(word >> 16 & 0xffff) as usize..][..(word >> 32 & 0xff) as usize]
+    }
+
+    fn store(&self, axis: Axis) -> &[u8; STORE_BYTES] {
+        match axis {
+            Axis::Columns => &self.columnstore,
+            Axis::Rows => &self.rowstore,
+        }
     }
 
     /// How many records an axis has.
@@ -421,10 +502,7 @@ impl Panel {
                 self.state, &*self.columns, &*self.rows, axis as u32, items.as_ptr(), items.len(), first, words.as_mut_ptr(), words.len(),
             )
         };
-        if answer.number != 0 {
-            return Err(Refusal::of(answer.number, 0));
-        }
-        Ok(answer.count as usize)
+        counted(answer)
     }
 
     /// The panel as the library has it.

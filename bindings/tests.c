@@ -15,7 +15,8 @@ _Static_assert(sizeof(palgwern_count_answer) == 16 && offsetof(palgwern_count_an
 _Static_assert(sizeof(palgwern_placement_answer) == 24, "placement answer");
 
 static palgwern_tables tables, before;
-static uint64_t all[PALGWERN_LARGEST_RECORDS * PALGWERN_RECORD_WORDS], some[30];
+static uint64_t all[PALGWERN_LARGEST_RECORDS * PALGWERN_RECORD_WORDS], some[30], names[PALGWERN_ENTRIES];
+static int32_t numbers[PALGWERN_PLACEMENTS * PALGWERN_PLACEMENT_NUMBERS];
 static char sheet[PALGWERN_SHEET_BYTES + 1];
 static size_t sheet_bytes;
 static palgwern_panel panel;
@@ -72,6 +73,33 @@ static void layout(void) {
     }
 }
 
+/* A placement of a run is the one that is asked for alone. */
+static void placements(void) {
+    palgwern_count_answer run = palgwern_tables_placements(&tables, panel, 0, numbers, sizeof numbers / sizeof *numbers);
+    CHECK(run.number == 0 && run.count == panel.placements && numbers[6 * run.count] == 0);
+    for (uint32_t i = 0; i < panel.placements; i++) {
+        palgwern_placement_answer p = palgwern_tables_placement(&tables, panel, i);
+        CHECK(!memcmp(&p, numbers + 6 * i, sizeof p));
+    }
+    CHECK(palgwern_tables_placements(&tables, panel, 1, numbers, 11).count == 1 && numbers[1] == PALGWERN_ROWS);
+}
+
+/* The names of a run are those that are asked for one by one. */
+static void line_names(uint32_t axis) {
+    palgwern_count_answer run = palgwern_tables_names(&tables, panel, axis, names, PALGWERN_ENTRIES);
+    uint64_t seen = 0;
+    CHECK(run.number == 0);
+    for (uint32_t line = 1; line <= palgwern_line_count(panel, axis).count; line++)
+        for (uint32_t place = 0;; place++) {
+            palgwern_name_answer name = palgwern_tables_name(&tables, panel, axis, line, place);
+            if (name.length == 0) break;
+            CHECK(seen < run.count && palgwern_word_line(names[seen]) == line);
+            CHECK(palgwern_word_offset(names[seen]) == name.offset && palgwern_word_length(names[seen]) == name.length);
+            seen++;
+        }
+    CHECK(seen == run.count);
+}
+
 /* Refusals, and that they leave everything as it was. */
 static void refusals(void) {
     before = tables;
@@ -92,6 +120,12 @@ static void refusals(void) {
     CHECK(palgwern_explicit_size(panel, 2).number == PALGWERN_COUNT && palgwern_line_count(panel, 2).number == PALGWERN_COUNT);
     CHECK(palgwern_record_count(panel, 2).number == PALGWERN_COUNT);
     CHECK(palgwern_tables_placement(&tables, panel, 2).number == PALGWERN_COUNT);
+    numbers[0] = 7;
+    CHECK(palgwern_tables_placements(&tables, panel, 2, numbers, 6).number == PALGWERN_COUNT);
+    CHECK(palgwern_tables_placements(&tables, panel, 1, numbers, 5).number == PALGWERN_SHORT && numbers[0] == 7);
+    names[0] = 7;
+    CHECK(palgwern_tables_names(&tables, panel, 2, names, PALGWERN_ENTRIES).number == PALGWERN_COUNT);
+    CHECK(palgwern_tables_names(&tables, panel, PALGWERN_COLUMNS, names, 5).number == PALGWERN_SHORT && names[0] == 7);
     CHECK(palgwern_tables_name(&tables, panel, 2, 1, 0).number == PALGWERN_COUNT);
     CHECK(palgwern_tables_records(&tables, panel, 2, 0, some, 30).number == PALGWERN_COUNT);
     CHECK(palgwern_tables_records(&tables, panel, PALGWERN_COLUMNS, 25, some, 30).number == PALGWERN_COUNT);
@@ -119,6 +153,8 @@ static void *call(void *number) {
     case 6: palgwern_tables_placement(&tables, panel, 0); palgwern_tables_placement(&tables, panel, 1); break;
     case 7: palgwern_tables_name(&tables, panel, 0, 3, 0); break;
     case 8: palgwern_tables_records(&tables, panel, 0, 0, all, sizeof all / sizeof *all); break;
+    case 9: palgwern_tables_placements(&tables, panel, 0, numbers, sizeof numbers / sizeof *numbers); break;
+    case 10: palgwern_tables_names(&tables, panel, 1, names, PALGWERN_ENTRIES); break;
     }
     return NULL;
 }
@@ -140,15 +176,14 @@ static size_t stack_of(int number) {
 
 static void stacks(void) {
     static const char *const names[] = {"", "read_sheet", "enter_name", "explicit_size", "line_count", "record_count",
-        "resolve_placement", "line_name", "records"};
-    palgwern_panel_answer read = palgwern_tables_read(&tables, sheet, sheet_bytes);
-    panel = read.panel;
+        "resolve_placement", "line_name", "records", "resolve_placements", "line_names"};
+    static const size_t kibibytes[] = {0, 448, 48, 48, 48, 48, 48, 48, 48, 160, 160};
     size_t none = stack_of(0);
     printf("stack in bytes:");
-    for (int i = 1; i < 9; i++) {
+    for (int i = 1; i < 11; i++) {
         size_t used = stack_of(i) - none;
         printf(" %s %zu", names[i], used);
-        CHECK(used <= (size_t)(i == 1 ? 448 : 48) * 1024);
+        CHECK(used <= kibibytes[i] * 1024);
     }
     printf("\n");
 }
@@ -159,7 +194,11 @@ int main(int count, char **words) {
     sheet_bytes = fread(sheet, 1, sizeof sheet, file);
     fclose(file);
     layout();
+    placements();
+    line_names(PALGWERN_COLUMNS);
     refusals();
+    placements();
+    line_names(PALGWERN_ROWS);
     stacks();
     puts(failed ? "C: failed" : "C: right");
     return failed;

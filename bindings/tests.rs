@@ -37,6 +37,9 @@ fn answers() {
     assert_eq!((panel.name(Axis::Columns, 0, 0), panel.name(Axis::Rows, 1, 0)), (None, Some(b"rowname" as &[u8])));
     assert_eq!(panel.placement(0), Ok(Placement { axis: Axis::Columns, start: End::Line(1), end: End::Auto }));
     assert_eq!(panel.placement(1), Ok(Placement { axis: Axis::Rows, start: End::Line(-1), end: End::Line(6) }));
+    assert_eq!(panel.resolved(), [panel.placement(0).unwrap(), panel.placement(1).unwrap()]);
+    assert_eq!(panel.line_names(Axis::Columns)[..4], names);
+    assert_eq!((panel.line_names(Axis::Columns).len(), panel.line_names(Axis::Rows)[0].clone()), (10, vec![b"rowname" as &[u8]]));
     let records = panel.records(Axis::Columns);
     assert_eq!(records.len(), 25);
     let spare = Record { gutter: false, collapsed: false, minimum: Size::Length(20.0), maximum: Size::Fraction(1.0) };
@@ -67,6 +70,9 @@ fn refusals() {
     assert_eq!(panel.placement(2).err(), refusal(Word::Count, 0));
     assert_eq!(panel.write_records(Axis::Rows, &[], 0, &mut [0; 3]).err(), refusal(Word::Short, 0));
     assert_eq!(panel.write_records(Axis::Rows, &[0; 11], 23, &mut [0; 3]).err(), refusal(Word::Count, 0));
+    assert_eq!(panel.write_placements(2, &mut [0; 6]).err(), refusal(Word::Count, 0));
+    assert_eq!(panel.write_placements(1, &mut [0; 5]).err(), refusal(Word::Short, 0));
+    assert_eq!(panel.write_line_names(Axis::Columns, &mut [0; 5]).err(), refusal(Word::Short, 0));
     assert_eq!(panel.read_again(b"none").err(), refusal(Word::Unread, 1));
     assert_eq!(panel.state(), before.state());
     assert_eq!(panel.records(Axis::Rows), before.records(Axis::Rows));
@@ -86,6 +92,11 @@ fn entries() {
     assert_eq!(panel.enter(Axis::Columns, 1, &[b'b'; 32]).err(), refusal(Word::Crowded, 0));
     assert_eq!(panel.names(Axis::Columns, 1).collect::<Vec<_>>(), [b"x" as &[u8], &[b'b'; 32]]);
     assert_eq!(panel.names(Axis::Rows, 1).collect::<Vec<_>>(), [b"rowname" as &[u8], b"a"]);
+    for axis in [Axis::Columns, Axis::Rows] {
+        let one_by_one: Vec<Vec<&[u8]>> = (1..=panel.lists(axis)).map(|line| panel.names(axis, line).collect()).collect();
+        assert_eq!(panel.line_names(axis), one_by_one);
+    }
+    assert_eq!(panel.resolved(), [panel.placement(0).unwrap(), panel.placement(1).unwrap()]);
     assert_eq!((panel.placement(0).unwrap().start, panel.placement(1).unwrap().end), (End::Line(1), End::Line(6)));
 }
 
@@ -94,6 +105,7 @@ fn empty_sheet() {
     let panel = Panel::read(b"").unwrap();
     assert_eq!(panel.state(), Panel::empty().state());
     assert_eq!((panel.lists(Axis::Rows), panel.placements(), panel.record_count(Axis::Rows)), (0, 0, 1));
+    assert_eq!((panel.line_names(Axis::Rows).len(), panel.resolved().len()), (0, 0));
 }
 
 #[test]

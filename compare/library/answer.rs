@@ -1,5 +1,5 @@
 //! A panel's answers in the output form of document 01, its line names, and the number of its name entries.
-use crate::palgwern::{Axis, End, Panel, Record, Refusal, Size};
+use crate::palgwern::{Axis, End, Panel, Placement, Record, Refusal, Size};
 use std::io::Write;
 
 const AXES: [Axis; 2] = [Axis::Columns, Axis::Rows];
@@ -48,21 +48,26 @@ fn end(end: End) -> String {
     }
 }
 
-fn print_placement(out: &mut Vec<u8>, panel: &Panel, index: u32) {
-    match panel.placement(index) {
-        Ok(found) => writeln!(out, "place\t{}\t{}\t{}", letter(found.axis), end(found.start), end(found.end)).unwrap(),
-        Err(refusal) => print_refusal(out, refusal),
+/// A placement of the run of all; a line `alone` where it differs from the one that is asked for alone.
+fn print_placement(out: &mut Vec<u8>, panel: &Panel, index: usize, found: Placement) {
+    writeln!(out, "place\t{}\t{}\t{}", letter(found.axis), end(found.start), end(found.end)).unwrap();
+    if panel.placement(index as u32) != Ok(found) {
+        writeln!(out, "alone\t{index}").unwrap();
     }
 }
 
+/// The lists of the run of all, and of every eighth line a line `alone` where its names differ from those that are asked for alone.
 fn print_names(out: &mut Vec<u8>, panel: &Panel, axis: Axis) {
-    for line in 1..=panel.lists(axis) {
+    for (names, line) in panel.line_names(axis).into_iter().zip(1..) {
         write!(out, "names\t{}\t{line}", letter(axis)).unwrap();
-        for name in panel.names(axis, line) {
+        for name in &names {
             out.push(b'\t');
             out.extend_from_slice(name);
         }
         out.push(b'\n');
+        if line % 8 == 1 && !panel.names(axis, line).eq(names) {
+            writeln!(out, "alone\t{line}").unwrap();
+        }
     }
 }
 
@@ -73,7 +78,7 @@ pub fn print_refusal(out: &mut Vec<u8>, refusal: Refusal) {
 /// The whole answer of a panel.
 pub fn print_panel(out: &mut Vec<u8>, panel: &Panel) {
     AXES.into_iter().for_each(|axis| print_axis(out, panel, axis));
-    (0..panel.placements()).for_each(|index| print_placement(out, panel, index));
+    panel.resolved().into_iter().enumerate().for_each(|(index, found)| print_placement(out, panel, index, found));
     AXES.into_iter().for_each(|axis| print_names(out, panel, axis));
     let state = panel.state();
     writeln!(out, "entries\tc\t{}\nentries\tr\t{}", state.columns.entries, state.rows.entries).unwrap();

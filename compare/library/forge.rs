@@ -7,6 +7,7 @@ use crate::lent::{ITEMS, RECORDS, TEXT};
 use crate::palgwern::State;
 use crate::planted::{self, FAULTS};
 use crate::promises::{self, Promises};
+use crate::runs;
 use std::collections::BTreeMap;
 use std::io::BufReader;
 use std::sync::atomic::{AtomicU64, Ordering};
@@ -17,9 +18,10 @@ const SHOWN: u64 = 20;
 /// Seconds after which a call is said not to end.
 const PATIENCE: u64 = 120;
 /// Calls of each panel, by name; those that look at the tables are made more often.
-const CALLS: [&str; 16] = [
+const CALLS: [&str; 18] = [
     "read_sheet", "enter_name", "enter_name", "explicit_size", "line_count", "record_count", "resolve_placement", "resolve_placement",
     "resolve_placement", "resolve_placement", "line_name", "line_name", "line_name", "line_name", "records", "records",
+    "resolve_placements", "line_names",
 ];
 static CALLS_MADE: AtomicU64 = AtomicU64::new(0);
 
@@ -57,7 +59,7 @@ fn numbers(chance: &mut Chance, state: State, call: &str) -> Numbers {
     let axis = if chance.once_in(8) { chance.count() } else { chance.below(2) as u32 };
     let line = if chance.once_in(3) { chance.count() } else { chance.below(12) as u32 };
     let held = match call {
-        "resolve_placement" => state.placements.clamp(1, 256) as usize,
+        "resolve_placement" | "resolve_placements" => state.placements.clamp(1, 256) as usize,
         "line_name" => 2,
         _ => 24,
     };
@@ -94,11 +96,19 @@ fn lend_records(chance: &mut Chance, forged: &mut Forged, numbers: Numbers) {
     forged.lent.words[RECORDS].fill_with(&vec![0x7777_7777_7777_7777; words]);
 }
 
+/// Words for a run of placements or line names, of lengths around those that are needed.
+fn lend_run(chance: &mut Chance, forged: &mut Forged) {
+    let entries = forged.state.columns.entries.max(forged.state.rows.entries).min(4_096) as usize;
+    let words = chance.pick(&[0, 2, 3, 30, 31, 770, entries, entries.saturating_sub(1), 4_096]);
+    forged.lent.words[RECORDS].fill_with(&vec![0x7777_7777_7777_7777; words]);
+}
+
 fn lend(call: &str, chance: &mut Chance, sheets: &Sheets, forged: &mut Forged, numbers: Numbers) {
     match call {
         "read_sheet" => forged.lent.bytes[TEXT].fill_with(&a_sheet(chance, sheets)),
         "enter_name" => forged.lent.bytes[TEXT].fill_with(&a_name(chance)),
         "records" => lend_records(chance, forged, numbers),
+        "resolve_placements" | "line_names" => lend_run(chance, forged),
         _ => (),
     }
 }
@@ -114,6 +124,8 @@ fn make(call: &str, forged: &Forged, numbers: Numbers) -> (u32, Promises) {
         "record_count" => promises::record_count(*state, numbers),
         "resolve_placement" => promises::resolve_placement(lent, *state, numbers),
         "line_name" => promises::line_name(lent, *state, numbers),
+        "resolve_placements" => runs::resolve_placements(lent, *state, numbers),
+        "line_names" => runs::line_names(lent, *state, numbers),
         _ => promises::records(lent, *state, numbers),
     }
 }

@@ -12,6 +12,7 @@ mod lent;
 mod palgwern;
 mod planted;
 mod promises;
+mod runs;
 
 fn number(word: &str) -> u64 {
     word.parse().expect("a number")

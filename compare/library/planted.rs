@@ -5,7 +5,7 @@ use crate::palgwern::raw;
 use std::sync::atomic::{AtomicUsize, Ordering};
 
 /// The faults, from 1 on.
-pub const FAULTS: [&str; 19] = [
+pub const FAULTS: [&str; 20] = [
     "a refused sheet changes a word",
     "a word that the tables held reaches the panel",
     "a sheet writes past the columns",
@@ -25,6 +25,7 @@ pub const FAULTS: [&str; 19] = [
     "refused records are written",
     "a record too few is counted",
     "refused records are counted",
+    "the first record of a run is another",
 ];
 
 /// The fault in place, 0 for none.
@@ -99,6 +100,7 @@ pub fn in_records(lent: &mut Lent, answer: &mut raw::CountAnswer) {
         17 if answer.number == 10 && !words.is_empty() => words[0] = 0,
         18 if answer.number == 0 => answer.count -= 1,
         19 if answer.number == 10 => answer.count = 3,
+        20 if answer.number == 0 => words[0] ^= 2,
         _ => (),
     }
 }

@@ -7,13 +7,13 @@ use crate::palgwern::{raw, State};
 pub type Promises = Vec<(&'static str, bool)>;
 
 /// A call made twice on the same contents, the second time between other guards.
-struct Twice<A> {
-    answer: A,
-    after: Lent,
-    promises: Promises,
+pub struct Twice<A> {
+    pub answer: A,
+    pub after: Lent,
+    pub promises: Promises,
 }
 
-fn twice<A: PartialEq>(lent: &Lent, call: impl Fn(&mut Lent) -> A) -> Twice<A> {
+pub fn twice<A: PartialEq>(lent: &Lent, call: impl Fn(&mut Lent) -> A) -> Twice<A> {
     let (mut first, mut second) = (lent.guarded_by(0x5a), lent.guarded_by(0xc3));
     let (answer, again) = (call(&mut first), call(&mut second));
     let promises = vec![
@@ -25,7 +25,7 @@ fn twice<A: PartialEq>(lent: &Lent, call: impl Fn(&mut Lent) -> A) -> Twice<A> {
 }
 
 /// What each refused call promises, and what it may refuse by.
-fn of_refusal(number: u32, numbers: &[u32], zeros: bool, untouched: bool) -> Promises {
+pub fn of_refusal(number: u32, numbers: &[u32], zeros: bool, untouched: bool) -> Promises {
     vec![
         ("a refusal has one of its numbers", number == 0 || numbers.contains(&number)),
         ("a refusal gives zeros, or the panel back", number == 0 || zeros),
@@ -147,6 +147,15 @@ fn are_records(words: &[u64]) -> bool {
     words.chunks(3).all(|record| record[0] <= 3 && record[1] >> 32 <= 7 && record[2] >> 32 <= 7)
 }
 
+/// Whether a run that starts one record further holds the same records.
+fn is_same_further_on(lent: &Lent, panel: State, numbers: Numbers, written: &[u64]) -> bool {
+    let mut other = lent.clone();
+    let further = Numbers { place: numbers.place + 1, ..numbers };
+    let answer = calls::records(&mut other, panel, further);
+    let both = written.len() / 3 - 1;
+    answer.count as usize >= both && other.words[RECORDS].content()[..3 * both] == written[3..]
+}
+
 pub fn records(lent: &Lent, panel: State, numbers: Numbers) -> (u32, Promises) {
     let Twice { answer, after, mut promises } = twice(lent, |lent| calls::records(lent, panel, numbers));
     let (lent_words, written) = (lent.words[RECORDS].content(), after.words[RECORDS].content());
@@ -154,6 +163,7 @@ pub fn records(lent: &Lent, panel: State, numbers: Numbers) -> (u32, Promises) {
     let fit = lent_words.len() as u64 / 3;
     let end = (3 * answer.count.min(fit)) as usize;
     let accepted = answer.number == 0;
+    let few_items = (lent.bytes[ITEMS].content().len() as u64) < tracks(panel, numbers);
     promises.extend(of_refusal(answer.number, &[4, 10], answer.count == 0, after.has_contents_of(lent)));
     promises.push(("only the words lent are written", after.is_but_for(lent, &[RECORDS], &[])));
     promises.push(("as many records are written as there are and fit", !accepted || answer.count == there.min(fit)));
@@ -161,7 +171,8 @@ pub fn records(lent: &Lent, panel: State, numbers: Numbers) -> (u32, Promises) {
     promises.push(("a record has a kind and two sizes", are_records(&written[..end])));
     promises.push(("a record that isn't there is refused by 4", there != 0 || answer.number == 4));
     promises.push(("words for no record are refused", fit != 0 || !accepted));
-    promises.push(("fewer item bytes than tracks are refused", !accepted || lent.bytes[ITEMS].content().len() as u64 >= tracks(panel, numbers)));
+    promises.push(("fewer item bytes than tracks are refused", !few_items || !accepted));
+    promises.push(("a record is the same in every run", end < 6 || is_same_further_on(lent, panel, numbers, &written[..end])));
     (answer.number, promises)
 }
 

@@ -2,7 +2,3 @@
 pub mod Refusals
 pub mod Lines
 pub mod Signed
-pub mod Answers
-pub mod Counts
-pub mod Spans
-pub mod Cases

@@ -20,7 +20,7 @@ use Rattle.explicit_grid.specs.declared.AutoRepeatStrategy.{AutoRepeatSt
 use Rattle.explicit_grid.specs.declared.RepetitionCount.{RepetitionCount}
 use Rattle.explicit_grid.specs.declared.RepetitionCount.the-variants.{Single, Count, AutoFill, AutoFit}
 use Rattle.explicit_grid.specs.declared.ExplicitSize.{ExplicitSize}
-use Rattle.explicit_grid.specs.declared.size.TemplateSize.{TemplateSize}
+use Rattle.explicit_grid.specs.declared.TemplateSize.{TemplateSize}
 use Rattle.explicit_grid.proofs.Tests.{or-parts, above-test}
 use Rattle.explicit_grid.proofs.Valid.{none-empty, valid-css}
 use Rattle.explicit_grid.proofs.Css.{repetitions-css}

@@ -17,8 +17,8 @@ use Rattle.explicit_grid.specs.Summary.{noComponents, outsideStep, autom
 use Rattle.explicit_grid.specs.Bounds.{CountOfWord, OfWord, Gathered}
 use Rattle.explicit_grid.specs.declared.RepetitionCount.{RepetitionCount}
 use Rattle.explicit_grid.specs.declared.RepetitionCount.the-variants.{Single, Count, AutoFill, AutoFit}
-use Rattle.explicit_grid.specs.declared.tracks.TrackTotals.{TrackTotals}
-use Rattle.explicit_grid.specs.declared.summary.TemplateSummary.{TemplateSummary}
+use Rattle.explicit_grid.specs.declared.TrackTotals.{TrackTotals}
+use Rattle.explicit_grid.specs.declared.TemplateSummary.{TemplateSummary}
 use Rattle.explicit_grid.proofs.Rounding.{in-float}
 use Rattle.explicit_grid.proofs.Tests.{or-parts, above-test}
 

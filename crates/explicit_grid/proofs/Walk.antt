@@ -20,8 +20,8 @@ use Rattle.explicit_grid.specs.Space.{spaceIn, spaceOf, repeatedTrackSpa
 use Rattle.explicit_grid.specs.Summary.{meaningOf, noTracks, trackStep, noComponents, summaryStep, summaryOf}
 use Rattle.explicit_grid.specs.declared.RepetitionCount.{RepetitionCount}
 use Rattle.explicit_grid.specs.declared.RepetitionCount.the-variants.{Single, Count, AutoFill, AutoFit}
-use Rattle.explicit_grid.specs.declared.tracks.TrackTotals.{TrackTotals}
-use Rattle.explicit_grid.specs.declared.summary.TemplateSummary.{TemplateSummary}
+use Rattle.explicit_grid.specs.declared.TrackTotals.{TrackTotals}
+use Rattle.explicit_grid.specs.declared.TemplateSummary.{TemplateSummary}
 use Rattle.explicit_grid.proofs.Tests.{test-above}
 
 -- one more component

@@ -5,7 +5,7 @@ use mathlib.Core.Path.{_≡_}
 use Rattle.explicit_grid.specs.declared.RepetitionCount.{RepetitionCount}
 use Rattle.explicit_grid.specs.declared.RepetitionCount.the-variants.{Single, Count, AutoFill, AutoFit}
 use Rattle.explicit_grid.specs.declared.GridTemplateComponent.{GridTemplateComponent}
-use Rattle.explicit_grid.specs.declared.summary.TemplateSummary.{TemplateSummary}
+use Rattle.explicit_grid.specs.declared.TemplateSummary.{TemplateSummary}
 
 -- a count of a word, and a single with its one track
 abbrev pub CountOfWord : RepetitionCount → ℕ → Type 0

@@ -17,8 +17,8 @@ use Rattle.explicit_grid.specs.declared.InnerSize.{InnerSize}
 use Rattle.explicit_grid.specs.declared.InnerSize.the-variants.{Definite, Indefinite}
 use Rattle.explicit_grid.specs.declared.AutoRepeatStrategy.{AutoRepeatStrategy}
 use Rattle.explicit_grid.specs.declared.ExplicitSize.{ExplicitSize}
-use Rattle.explicit_grid.specs.declared.size.TemplateSize.{TemplateSize}
-use Rattle.explicit_grid.specs.declared.summary.TemplateSummary.{TemplateSummary}
+use Rattle.explicit_grid.specs.declared.TemplateSize.{TemplateSize}
+use Rattle.explicit_grid.specs.declared.TemplateSummary.{TemplateSummary}
 
 -- valid unless "a repeat with no tracks, two automatic repeats, or one in a template where any track has no fixed kind";
 -- an empty template has no tracks either way

@@ -11,7 +11,7 @@ use Rattle.explicit_grid.specs.declared.InnerSize.{InnerSize}
 use Rattle.explicit_grid.specs.declared.InnerSize.the-variants.{Definite, Indefinite}
 use Rattle.explicit_grid.specs.declared.AutoRepeatStrategy.{AutoRepeatStrategy}
 use Rattle.explicit_grid.specs.declared.AutoRepeatStrategy.the-variants.{MaxRepetitionsThatDoNotOverflow, MinRepetitionsThatDoOverflow}
-use Rattle.explicit_grid.specs.declared.summary.TemplateSummary.{TemplateSummary}
+use Rattle.explicit_grid.specs.declared.TemplateSummary.{TemplateSummary}
 
 -- "the tracks outside the repeat held to 10,000 for the gaps": the tracks outside, one repetition, and the gaps between them
 abbrev pub firstSpace : TemplateSummary → Float → Float

@@ -13,8 +13,8 @@ use Rattle.explicit_grid.specs.Counts.{outsideCount, automaticCount, bef
 use Rattle.explicit_grid.specs.Space.{whole32, spaceIn, singleSpace, outsideSpace, repetitionSpace}
 use Rattle.explicit_grid.specs.declared.RepetitionCount.{RepetitionCount}
 use Rattle.explicit_grid.specs.declared.RepetitionCount.the-variants.{Single, Count, AutoFill, AutoFit}
-use Rattle.explicit_grid.specs.declared.tracks.TrackTotals.{TrackTotals}
-use Rattle.explicit_grid.specs.declared.summary.TemplateSummary.{TemplateSummary}
+use Rattle.explicit_grid.specs.declared.TrackTotals.{TrackTotals}
+use Rattle.explicit_grid.specs.declared.TemplateSummary.{TemplateSummary}
 
 -- what is gathered after a template, each field in document 01's words
 abbrev pub meaningOf : Float → List Component → TemplateSummary

@@ -1,12 +1,6 @@
 // Layer 3: the components of a template, and the explicit size of an axis.
 pub mod component;
-mod repetitions;
-pub mod size;
-mod summary;
-mod tracks;
 pub mod whole;
-
-pub use size::compute_explicit_grid_size_in_axis;
 
 // How often a component is written out: a single track, a counted repeat, or an automatic one.
 pub enum RepetitionCount {
@@ -41,4 +35,29 @@ pub struct ExplicitSize {
     pub repetitions: u32,
     pub template: u32,
     pub explicit: u32,
+}
+
+// The tracks of a component: whether each has a fixed kind, and the sum of what they measure.
+pub struct TrackTotals {
+    pub fixed: bool,
+    pub space: f32,
+}
+
+// A template so far: whether a repeat has no tracks, whether every track has a fixed kind, how many automatic repeats there are,
+// the tracks outside them, those before the first and those in it, the space used outside, and that of one repetition.
+pub struct TemplateSummary {
+    pub empty: bool,
+    pub fixed: bool,
+    pub automatic: u64,
+    pub outside: u64,
+    pub before: u64,
+    pub repeated: u64,
+    pub used: f32,
+    pub once: f32,
+}
+
+// A template written out: the repetitions of its automatic repeat, and its tracks, not cut.
+pub struct TemplateSize {
+    pub repetitions: u64,
+    pub tracks: u64,
 }

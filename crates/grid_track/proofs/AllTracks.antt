@@ -14,7 +14,7 @@ use Rattle.explicit_grid.specs.Template.{Component}
 use Rattle.grid_track.specs.declared.WrittenTrack.{WrittenTrack}
 use Rattle.grid_track.specs.declared.TrackSource.the-variants.{Area, Positive}
 use Rattle.grid_track.specs.declared.AxisTracks.{AxisTracks}
-use Rattle.grid_track.specs.declared.plan.Plan.{Plan}
+use Rattle.grid_track.specs.declared.Plan.{Plan}
 use Rattle.grid_track.specs.Written.{writtenOut}
 use Rattle.grid_track.specs.Records.{listed, negativeOf, explicitOf, positiveOf, tracksIn, implicit, spareAt, negativeAt, explicitTracks, areaCount, positiveRun, allTracks, noTrack, closedBy, openTo}
 use Rattle.grid_track.specs.Steps.{totalsOf, sumOf, writtenAt, writtenCount, cursorAt, trackAt, closedAt, planOf}

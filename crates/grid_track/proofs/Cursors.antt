@@ -7,7 +7,7 @@ use mathlib.Core.List.{List, [], _∷_}
 use lib.ListN.{length, getD, drop, length-append, length-map, List·getD-append}
 use borrow.Author.Tests.{lt-ltb, le-ltb, eq-eqb, ne-eqb}
 use Rattle.explicit_grid.specs.Template.{Component}
-use Rattle.grid_track.specs.declared.cursor.Cursor.{Cursor}
+use Rattle.grid_track.specs.declared.Cursor.{Cursor}
 use Rattle.grid_track.specs.Written.{repeatsOf, copies, written, onceOf, writtenOut}
 use Rattle.grid_track.specs.Records.{noTrack}
 use Rattle.grid_track.specs.Steps.{totalOf, totalsOf, sumOf, cursor, settleOf, cursorOf, nextOf, noComponent, writtenIn, writtenAt}

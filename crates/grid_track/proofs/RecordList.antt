@@ -13,8 +13,8 @@ use Rattle.explicit_grid.specs.Template.{Component}
 use Rattle.grid_track.specs.declared.GridTrack.{GridTrack}
 use Rattle.grid_track.specs.declared.WrittenTrack.{WrittenTrack}
 use Rattle.grid_track.specs.declared.AxisTracks.{AxisTracks}
-use Rattle.grid_track.specs.declared.cursor.Cursor.{Cursor}
-use Rattle.grid_track.specs.declared.plan.Plan.{Plan}
+use Rattle.grid_track.specs.declared.Cursor.{Cursor}
+use Rattle.grid_track.specs.declared.Plan.{Plan}
 use Rattle.grid_track.specs.Tracks.{gutterOf, trackOf}
 use Rattle.grid_track.specs.Records.{tracksIn, recordsIn, allTracks, noTrack, itemAt, closedBy, closedIn, openTo, fitEndsIn, shutGutter, recordIn, recordsOf}
 use Rattle.grid_track.specs.Steps.{totalsOf, trackWith, cursorAt, trackAt, closedAt, planOf, pairWith, recordWith, recordOf}

@@ -12,8 +12,8 @@ use Rattle.grid_track.specs.declared.GridTrack.{GridTrack}
 use Rattle.grid_track.specs.declared.WrittenTrack.{WrittenTrack}
 use Rattle.grid_track.specs.declared.TrackSource.the-variants.{Area, Positive}
 use Rattle.grid_track.specs.declared.AxisTracks.{AxisTracks}
-use Rattle.grid_track.specs.declared.cursor.Cursor.{Cursor}
-use Rattle.grid_track.specs.declared.plan.Plan.{Plan}
+use Rattle.grid_track.specs.declared.Cursor.{Cursor}
+use Rattle.grid_track.specs.declared.Plan.{Plan}
 use Rattle.grid_track.specs.Tracks.{gutterOf, trackOf}
 use Rattle.grid_track.specs.Written.{repeatsOf, onceOf}
 use Rattle.grid_track.specs.Records.{negativeOf, explicitOf, tracksIn, implicit, spareAt, negativeAt, noTrack, closedBy, openTo}

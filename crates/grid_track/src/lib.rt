@@ -1,14 +1,11 @@
 // Layer 5: track records, their collapse, and the rule for one record.
-pub mod cursor;
 pub mod grid_track;
 pub mod implicit;
-pub mod plan;
-pub mod rule;
 
 use coordinates::Refusal;
-use coordinates::TrackCounts;
 use sizing::MinMax;
 use sizing::Sizing;
+use track_counts::TrackCounts;
 
 // Whether a record is a track or a gutter between tracks.
 pub enum GridTrackKind {
@@ -50,4 +47,16 @@ pub struct AxisTracks {
 pub struct RecordAnswer {
     pub refusal: Refusal,
     pub track: GridTrack,
+}
+
+// A component of a template, and which of the tracks that it writes.
+pub struct Cursor {
+    pub component: usize,
+    pub offset: u64,
+}
+
+// The explicit tracks that the template writes, and one past the last open track.
+pub struct Plan {
+    pub written: u32,
+    pub opened: u64,
 }

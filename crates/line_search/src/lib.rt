@@ -1,12 +1,5 @@
 // Layer 4, the lines that bear a name: those of entries, and the edges of drawn areas.
-mod areas;
-mod backwards;
-mod forwards;
-mod highest;
-mod marks;
-pub mod search;
-mod seek;
-mod suffix;
+pub mod suffix;
 
 // The line that a search comes to, or how many lines of the name were still to be passed over.
 pub enum Found {

@@ -47,7 +47,7 @@ module _ (line : ℕ) (entries store : List ℕ) where
   shown-end i left h = rw (drop-of-length-le entries h)
 
   module _ (i : ℕ) (h : i < length entries) where
-    shown-step : shownFrom line entries store i
+    pub shown-step : shownFrom line entries store i
         ≡ cond (shows line (entriesOf (take i entries) store) (entryAt entries store i))
         (entryOf (getD entries i 0) ∷ shownFrom line entries store (i + 1)) (shownFrom line entries store (i + 1))
     unfolding entriesAfter

@@ -1,6 +1,5 @@
 // Layer 4, the store: the name entries of an axis in a lent table of words, and their bytes in the axis's lent store.
 pub mod bytes;
-pub mod enter;
 pub mod entry;
 pub mod line_names;
 pub mod name;

@@ -49,7 +49,7 @@ fn written_before(entries: &[u64], store: &[u8], end: usize, line: u32, name: &[
 }
 
 // Whether the entry at a place shows its name on the line: it is there, and no entry before has the name there.
-fn is_shown(entries: &[u64], store: &[u8], place: usize, line: u32, entry: NameEntry) -> bool
+pub fn is_shown(entries: &[u64], store: &[u8], place: usize, line: u32, entry: NameEntry) -> bool
     requires { ⌜ place ≤ length (now entries) ⌝ }
     ensures { λ r. ⌜ r ≡ shows line (entriesOf (take place (now (entries .entry))) (now (store .entry))) (namedEntry (now (store .entry)) entry) ⌝ }
 {

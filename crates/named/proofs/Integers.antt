@@ -9,7 +9,7 @@ use mir.Syntax.{w16}
 use mir.Val.{SFits}
 use Rattle.coordinates.specs.Lines.{Within, outside, toOriginZero, toGridLine}
 use Rattle.coordinates.specs.Signed.{integerOf, sixteenBits, Small}
-use Rattle.coordinates.specs.Answers.{originZeroAnswer, gridLineAnswer}
+use Rattle.grid_lines.specs.Answers.{originZeroAnswer, gridLineAnswer}
 use Rattle.coordinates.specs.declared.signed.Signed.{Signed}
 use Rattle.coordinates.proofs.Integers.{plus-before, minus-at, minus-before, fits-pos, fits-neg, split-small}
 use Rattle.named.specs.Placements.{gridLineOf}

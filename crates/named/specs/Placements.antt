@@ -13,7 +13,7 @@ use Rattle.line_placement.specs.Css as Css
 use Rattle.line_placement.specs.Css.{Bytes, AxisNames}
 use Rattle.line_placement.specs.Rule.{named?, numbered, lineAt, resolved, resolve}
 use Rattle.line_search.specs.Areas.{axisNames}
-use Rattle.coordinates.specs.declared.line.GridLine.{GridLine}
+use Rattle.grid_lines.specs.declared.line.GridLine.{GridLine}
 use Rattle.named.specs.declared.Name.{Name}
 use Rattle.named.specs.declared.GridPlacement.{GridPlacement}
 use Rattle.named.specs.declared.GridPlacement.the-variants as Written

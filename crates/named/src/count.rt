@@ -8,9 +8,9 @@ ghost use Rattle.line_search.specs.Marks.{seekOf};
 ghost use Rattle.named.specs.Counts.{CountFits, CountedSpan, LeftFits, firstLine, foundLine, indexCount, isZero};
 ghost use lib.IntN.{pos};
 ghost use mathlib.Core.Path.{_≡_};
-use coordinates::OriginZeroLine;
 use coordinates::signed;
 use coordinates::signed::Signed;
+use grid_lines::OriginZeroLine;
 use line_search::Found;
 use line_search::GridAreaEnd;
 

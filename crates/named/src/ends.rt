@@ -13,16 +13,16 @@ use crate::NonNamedGridPlacement;
 use crate::count;
 use crate::find;
 use coordinates::Axis;
-use coordinates::GridLine;
-use coordinates::OriginZeroLine;
 use coordinates::signed;
 use coordinates::signed::Signed;
+use grid_lines::GridLine;
+use grid_lines::OriginZeroLine;
 use line_search::GridAreaEnd;
 use name_store::NameEntry;
 use name_store::entry;
 
 // The bytes of a placement's name.
-fn name_of(names: &[u8], name: Name) -> &[u8]
+pub fn name_of(names: &[u8], name: Name) -> &[u8]
     ensures { λ r. ⌜ now r ≡ nameOf (now (names .entry)) name ⌝ }
 {
     entry::name_in(

@@ -11,12 +11,12 @@ ghost use mathlib.Core.Path.{_≡_};
 use crate::count;
 use crate::count::Count;
 use coordinates::Axis;
-use coordinates::OriginZeroLine;
 use coordinates::signed;
 use coordinates::signed::Signed;
+use grid_lines::OriginZeroLine;
 use line_search::Found;
 use line_search::GridAreaEnd;
-use line_search::search;
+use nth_line::search;
 
 // The line of a name after `over` lines of it that are not before `first`; missing lines are counted on past the explicit grid.
 fn find_forwards(

@@ -1,11 +1,11 @@
 // Layer 4, the resolver: which line a name stands for.
 mod count;
-mod ends;
+pub mod ends;
 mod find;
 pub mod resolve;
 
-use coordinates::GridLine;
 use coordinates::Refusal;
+use grid_lines::GridLine;
 
 // Where a placement's name lies in the lent bytes of the placements' names.
 pub struct Name {

@@ -1,8 +1,6 @@
 // Numbers as a sheet writes them: whole numbers in decimal digits, sizes as the hexadecimal digits of their bits.
-pub mod hexadecimal;
 pub mod whole;
 
-pub use hexadecimal::read_bits;
 pub use whole::read_count;
 pub use whole::read_index;
 

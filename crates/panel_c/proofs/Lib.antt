@@ -1,4 +1,4 @@
--- Laws of the exported calls: where a name lies (Parts), the records one after the other (Running), and a run of them (Runs).
+-- Laws of the exported calls: where a name lies (Parts), and all line names in one run, which are those that are asked for one by one
+-- (Listed).
 pub mod Parts
-pub mod Running
-pub mod Runs
+pub mod Listed

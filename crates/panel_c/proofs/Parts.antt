@@ -18,8 +18,9 @@ use Rattle.panel_tables.specs.Placements.{axisOf}
 use Rattle.panel_rules.specs.Calls.{NameTables, storeIn}
 use Rattle.panel_grid.specs.LineEntries.{lineEntryIn}
 use Rattle.panel_grid.proofs.LineEntries.{line-entry-name}
-use Rattle.panel_c.specs.declared.NameAnswer.{NameAnswer}
-use Rattle.panel_c.specs.Answers.{namePart, namePartOf, ShowsName}
+use Rattle.panel_numbers.specs.declared.NameAnswer.{NameAnswer}
+use Rattle.panel_numbers.specs.Answers.{namePart}
+use Rattle.panel_c.specs.Names.{namePartOf, ShowsName}
 
 -- no more than there is
 cut : (l : List ℕ) (n m : ℕ) → length l ≡ m → take (min n m) l ≡ take n l

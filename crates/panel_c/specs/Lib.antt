@@ -1,3 +1,2 @@
--- What the contracts of the exported calls cite: the answers of the calls on a panel, as numbers.
-pub mod Answers
-pub mod Records
+-- What the contracts of the exported calls cite beside the answers as numbers.
+pub mod Names

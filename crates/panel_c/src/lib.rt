@@ -4,18 +4,21 @@ ghost use Rattle.sheet_rules.specs.Read.{readSheet};
 ghost use Rattle.sheet.specs.Runs.{inTables};
 ghost use Rattle.panel_rules.specs.Calls.{NameTables, NamedWords};
 ghost use Rattle.panel_rules.specs.Placing.{resolvePlacement};
-ghost use Rattle.panel_c.specs.Answers.{PanelRead, panelRead, PanelEntered, nameEntered, sizeOf, lineCountOf, recordCountOf, placementNumbers, ShowsName};
-ghost use Rattle.panel_c.specs.Records.{WrittenRun, recordsWritten};
-
-mod axis;
-mod numbers;
-mod part;
-mod run;
-
-use axis::ROWS;
-use axis::axis_of;
-use axis::entry_in_no_axis;
+ghost use Rattle.panel_numbers.specs.Answers.{PanelRead, panelRead, PanelEntered, nameEntered, sizeOf, lineCountOf, recordCountOf, placementNumbers};
+ghost use Rattle.panel_c.specs.Names.{ShowsName};
+ghost use Rattle.panel_numbers.specs.Records.{WrittenRun, recordsWritten};
+ghost use Rattle.line_name_run.specs.Lists.{listsWritten};
+ghost use Rattle.placement_run.specs.Placements.{WrittenNumbers, placementsWritten};
 use coordinates::refusal::COUNT;
+use panel_numbers::CountAnswer;
+use panel_numbers::NameAnswer;
+use panel_numbers::PanelAnswer;
+use panel_numbers::PlacementNumbers;
+use panel_numbers::SizeAnswer;
+use panel_numbers::axis::axis_of;
+use panel_numbers::axis::entry_in_no_axis;
+use panel_numbers::numbers;
+use panel_numbers::part;
 use panel_tables::Panel;
 use panel_tables::area::AREA_BYTES;
 use panel_tables::area::AREA_WORDS;
@@ -24,48 +27,8 @@ use panel_tables::placement::PLACEMENT_WORDS;
 use tables::layout::AXIS_MARKS;
 use tables::layout::AXIS_WORDS;
 
-// A panel, or a refusal: its number, 0 where there is none, and its line. On a refusal `read_sheet` gives zeros for the panel, and
-// `enter_name` gives it back as it came.
-#[repr(C)]
-pub struct PanelAnswer {
-    pub number: u32,
-    pub line: u32,
-    pub panel: Panel,
-}
-
-// The explicit size of an axis, or a refusal and zeros.
-#[repr(C)]
-pub struct SizeAnswer {
-    pub number: u32,
-    pub repetitions: u32,
-    pub explicit: u32,
-}
-
-// A count, or a refusal and 0.
-#[repr(C)]
-pub struct CountAnswer {
-    pub number: u32,
-    pub count: u64,
-}
-
-// Where a name lies in the store of its axis, or a refusal and zeros. Length 0: there is no such name.
-#[repr(C)]
-pub struct NameAnswer {
-    pub number: u32,
-    pub offset: u32,
-    pub length: u32,
-}
-
-// A resolved placement, or a refusal and zeros: its axis, and for each end its kind (0 `auto`, 1 `line`, 3 `span`) and number.
-#[repr(C)]
-pub struct PlacementNumbers {
-    pub number: u32,
-    pub axis: u32,
-    pub startkind: u32,
-    pub startnumber: i32,
-    pub endkind: u32,
-    pub endnumber: i32,
-}
+// The number of the rows, the last of an axis.
+const ROWS: u32 = 1;
 
 // The panel that a sheet describes, in the answer and everything lent.
 #[no_mangle]
@@ -220,6 +183,38 @@ pub extern "C" fn palgwern_resolve_placement(
     numbers::placement_numbers(answer)
 }
 
+// Placements from `first` on with their names resolved, as many as there are and fit: six numbers each, those of PlacementNumbers.
+#[no_mangle]
+pub extern "C" fn palgwern_resolve_placements(
+    panel: Panel,
+    columns: &[u64; AXIS_WORDS],
+    rows: &[u64; AXIS_WORDS],
+    columnstore: &[u8],
+    rowstore: &[u8],
+    areas: &[u64; AREA_WORDS],
+    areabytes: &[u8; AREA_BYTES],
+    placements: &[u64; PLACEMENT_WORDS],
+    placementbytes: &[u8; PLACEMENT_BYTES],
+    first: u32,
+    numbers: &mut [i32],
+) -> CountAnswer
+    ensures { λ r. ⌜ record { answer = r; numbers = now (numbers .exit) } ≡ placementsWritten panel (record { columns = now (columns .entry); rows = now (rows .entry); columnStore = now (columnstore .entry); rowStore = now (rowstore .entry) }) (record { words = now (areas .entry); bytes = now (areabytes .entry) }) (record { words = now (placements .entry); bytes = now (placementbytes .entry) }) first (now (numbers .entry)) ⌝ }
+{
+    placement_run::write_placements(
+        panel,
+        columns,
+        rows,
+        columnstore,
+        rowstore,
+        areas,
+        areabytes,
+        placements,
+        placementbytes,
+        first,
+        numbers,
+    )
+}
+
 // Where a name of a line of an axis lies in the axis's store, by its place from 0.
 #[no_mangle]
 pub extern "C" fn palgwern_line_name(
@@ -255,6 +250,34 @@ pub extern "C" fn palgwern_line_name(
     part::name_part(bytes, entry)
 }
 
+// All line names of an axis, one list for each explicit line after the other: a word for each name, its line, its offset in the
+// axis's store times 2^16 and its length times 2^32.
+#[no_mangle]
+pub extern "C" fn palgwern_line_names(
+    panel: Panel,
+    columns: &[u64; AXIS_WORDS],
+    rows: &[u64; AXIS_WORDS],
+    columnstore: &[u8],
+    rowstore: &[u8],
+    axis: u32,
+    words: &mut [u64],
+) -> CountAnswer
+    ensures { λ r. ⌜ record { answer = r; words = now (words .exit) } ≡ listsWritten panel (record { columns = now (columns .entry); rows = now (rows .entry); columnStore = now (columnstore .entry); rowStore = now (rowstore .entry) }) axis (now (words .entry)) ⌝ }
+{
+    if ROWS < axis {
+        return numbers::uncounted(COUNT);
+    }
+    line_name_run::write_lists(
+        panel,
+        columns,
+        rows,
+        columnstore,
+        rowstore,
+        axis_of(axis),
+        words,
+    )
+}
+
 // Records of an axis from `first` on, as many as there are and fit: three words each, kind, minimum and maximum.
 #[no_mangle]
 pub extern "C" fn palgwern_records(
@@ -271,5 +294,5 @@ pub extern "C" fn palgwern_records(
     if ROWS < axis {
         return numbers::uncounted(COUNT);
     }
-    run::write_run(panel, columns, rows, axis_of(axis), items, first, words)
+    record_run::write_run(panel, columns, rows, axis_of(axis), items, first, words)
 }

@@ -4,7 +4,7 @@ use Prim.Native.Nat.{ℕ}
 use lib.Dec.{T}
 use lib.Ieee.{ofBits, add, sub, mul, div, lt, ofInt}
 use lib.ListN.{length}
-use Rattle.coordinates.specs.Answers.{originZeroAnswer, gridLineAnswer}
+use Rattle.grid_lines.specs.Answers.{originZeroAnswer, gridLineAnswer}
 use Rattle.explicit_grid.specs.Explicit.{explicitSizeOf, templateSizeOf, withAreas}
 use Rattle.explicit_grid.specs.Counts.{outsideCount, automaticCount, beforeCount, automaticTracks, anyEmpty, allFixed, everyFixed}
 use Rattle.explicit_grid.specs.Space.{outsideSpace, repetitionSpace}

@@ -2,7 +2,7 @@
 use mathlib.Core.Bool.{Bool, true, _&&_}
 use mathlib.Core.List.{List, [], _∷_, _++_, map}
 use lib.ListN.{take}
-use Rattle.coordinates.specs.Cases as Lines
+use Rattle.grid_lines.specs.Cases as Lines
 use Rattle.explicit_grid.specs.Cases as Sizes
 use Rattle.line_placement.specs.Cases as Names
 use Rattle.grid_track.specs.Cases as Tracks

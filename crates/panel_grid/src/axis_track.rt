@@ -8,12 +8,12 @@ use crate::part::maximums_of;
 use crate::part::minimums_of;
 use crate::part::spare_maximums_of;
 use crate::part::spare_minimums_of;
-use coordinates::TrackCounts;
 use grid_track::AxisTracks;
 use grid_track::GridTrack;
 use grid_track::RecordAnswer;
 use tables::AxisState;
 use tables::layout::AXIS_WORDS;
+use track_counts::TrackCounts;
 use track_run::state::FillState;
 
 // A count of tracks, at most 10,000.
@@ -51,7 +51,7 @@ pub fn record_on(
 ) -> RecordAnswer
     ensures { λ r. ⌜ r ≡ trackRecord state (now (words .entry)) (now (items .entry)) index ⌝ }
 {
-    grid_track::rule::track_record(
+    track_rule::rule::track_record(
         components_of(state, words),
         minimums_of(state, words),
         maximums_of(state, words),

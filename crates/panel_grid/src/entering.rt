@@ -9,7 +9,7 @@ use crate::store::smaller;
 use coordinates::Axis;
 use coordinates::refusal::no_refusal;
 use coordinates::refusal::refusal_of;
-use name_store::enter::entry_refusal;
+use name_entries::enter::entry_refusal;
 use panel_rules::EntryAnswer;
 use panel_tables::Panel;
 use panel_tables::axis::state_in;

@@ -1,14 +1,14 @@
 // The calls on a panel: each takes the panel by value and is lent the tables and stores that it reads or writes.
 pub mod axis_track;
-mod ends;
+pub mod ends;
 pub mod entering;
 pub mod naming;
-mod part;
+pub mod part;
 pub mod placing;
-mod resolving;
+pub mod resolving;
 pub mod run;
 pub mod size;
-mod store;
+pub mod store;
 pub mod track;
 
 pub use entering::enter_name;

@@ -19,7 +19,7 @@ use panel_tables::placement::placement_at;
 use tables::layout::AXIS_WORDS;
 
 // A refused answer.
-fn refused_placement(number: u32) -> PlacementAnswer
+pub fn refused_placement(number: u32) -> PlacementAnswer
     ensures { λ r. ⌜ r ≡ refusedPlacement number ⌝ }
 {
     let refusal = refusal::refusal_of(number);
@@ -32,7 +32,7 @@ fn refused_placement(number: u32) -> PlacementAnswer
 }
 
 // The answer for a placement of an axis: the resolver's refusal, then 10 where a store is short.
-fn placed_by(resolved: Resolution, axis: Axis, short: bool) -> PlacementAnswer
+pub fn placed_by(resolved: Resolution, axis: Axis, short: bool) -> PlacementAnswer
     ensures { λ r. ⌜ r ≡ placedBy resolved axis short ⌝ }
 {
     let refusal = resolved.refusal;

@@ -32,7 +32,7 @@ pub fn zero_line() -> ResolvedLine
 }
 
 // The resolver's answer for an explicit count above 10,000.
-fn refused_resolution() -> Resolution
+pub fn refused_resolution() -> Resolution
     ensures { λ r. ⌜ r ≡ refusedResolution ⌝ }
 {
     let refusal = refusal::refusal_of(refusal::COUNT);

@@ -18,7 +18,7 @@ use track_run::state::FillState;
 pub fn record_count(panel: Panel, axis: Axis) -> u32
     ensures { λ r. ⌜ r ≡ recordsIn (axisTracks (stateIn panel axis)) ⌝ }
 {
-    2 * grid_track::plan::track_count(axis_track::axis_tracks(state_in(panel, axis))) + 1
+    2 * written_tracks::plan::track_count(axis_track::axis_tracks(state_in(panel, axis))) + 1
 }
 
 // Record `index` of an axis. Refuses an index of 2N + 1 or more by 4, and fewer than N item bytes by 10.

@@ -15,7 +15,7 @@ use Rattle.explicit_grid.specs.Template.{Component, countOf}
 use Rattle.explicit_grid.specs.Counts.{isAutomatic, outsideOf, outsideCount, automaticCount, automaticTracks}
 use Rattle.explicit_grid.specs.Summary.{meaningOf}
 use Rattle.explicit_grid.specs.Explicit.{innerValue}
-use Rattle.explicit_grid.specs.declared.size.TemplateSize.{TemplateSize}
+use Rattle.explicit_grid.specs.declared.TemplateSize.{TemplateSize}
 use Rattle.explicit_grid.specs.Css.{Valid, Repetitions}
 use Rattle.explicit_grid.specs.declared.RepetitionCount.{RepetitionCount}
 use Rattle.explicit_grid.specs.declared.RepetitionCount.the-variants.{Single, Count, AutoFill, AutoFit}

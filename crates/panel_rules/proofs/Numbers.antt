@@ -18,7 +18,7 @@ use Rattle.records.specs.Words.{at, nought, endWords}
 use Rattle.records.specs.Fields.{wordOf, axisOf}
 use Rattle.records.specs.Ends.{endKind, indexField, faultyNumber, endNumber, endOf}
 use Rattle.records.specs.declared.field.AxisField.{AxisField}
-use Rattle.records.specs.declared.ends.EndField.{EndField}
+use Rattle.records.specs.declared.EndField.{EndField}
 use Rattle.records.specs.Faults.{firstOf}
 use Rattle.records.specs.Records.{madePlace, placeLine, recordOf}
 use Rattle.records.specs.Forms.{place}

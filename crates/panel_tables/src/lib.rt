@@ -1,7 +1,7 @@
 // The tables of a panel beside those of its axes: the drawn areas and the placements, with the bytes of their names.
 pub mod area;
 pub mod axis;
-mod number;
+pub mod number;
 pub mod placement;
 pub mod state;
 

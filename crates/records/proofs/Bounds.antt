@@ -15,10 +15,10 @@ use Rattle.records.specs.declared.Record.the-variants.{Fault, Axis, Area
 use Rattle.records.specs.declared.RepeatRecord.{RepeatRecord}
 use Rattle.records.specs.declared.field.AxisField.{AxisField}
 use Rattle.records.specs.declared.field.Field.{Field}
-use Rattle.records.specs.declared.size.SizeField.{SizeField}
-use Rattle.records.specs.declared.size.InnerField.{InnerField}
-use Rattle.records.specs.declared.size.Position.the-variants.{Minimum, Maximum, Gap}
-use Rattle.records.specs.declared.ends.EndField.{EndField}
+use Rattle.records.specs.declared.SizeField.{SizeField}
+use Rattle.records.specs.declared.InnerField.{InnerField}
+use Rattle.records.specs.declared.Position.the-variants.{Minimum, Maximum, Gap}
+use Rattle.records.specs.declared.EndField.{EndField}
 use Rattle.records.specs.Words.{at, ruleWords}
 use Rattle.records.specs.Faults.{firstOf}
 use Rattle.records.specs.Fields.{axisOf, ruleOf, countOf, repetitionOf, nameFault}

@@ -18,8 +18,8 @@ use Rattle.numeral.specs.Spelling.{WritesBits}
 use Rattle.numeral.proofs.Decimals.{whole-unread}
 use Rattle.numeral.proofs.Hexadecimals.{hex-read, hex-written}
 use Rattle.sizing.specs.Ranges.{maximumOnly, isKind, minimumKind, valueInRange, lengthInRange}
-use Rattle.records.specs.declared.size.Position.{Position}
-use Rattle.records.specs.declared.size.Position.the-variants.{Minimum, Maximum, Gap}
+use Rattle.records.specs.declared.Position.{Position}
+use Rattle.records.specs.declared.Position.the-variants.{Minimum, Maximum, Gap}
 use Rattle.records.specs.declared.field.Field.{Field}
 use Rattle.records.specs.Words.{at, dash, axisWords, ruleWords, sizeWords, repeatWords}
 use Rattle.records.specs.Fields.{wordOf, axisOf, ruleOf, countOf, repetitionAt, repetitionOf, nameFault}

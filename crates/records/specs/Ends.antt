@@ -9,8 +9,8 @@ use Rattle.numeral.specs.Whole.{wholeOf, indexIn}
 use Rattle.numeral.specs.declared.Index.{Index}
 use Rattle.numeral.specs.declared.Index.the-variants.{Unread, Outside, Value}
 use Rattle.records.specs.declared.field.Field.{Field}
-use Rattle.records.specs.declared.ends.NumberField.{NumberField}
-use Rattle.records.specs.declared.ends.EndField.{EndField}
+use Rattle.records.specs.declared.NumberField.{NumberField}
+use Rattle.records.specs.declared.EndField.{EndField}
 use Rattle.records.specs.Faults.{firstOf}
 use Rattle.records.specs.Fields.{wordOf, countOf, nameFault}
 use Rattle.records.specs.Words.{dash, nought, endWords}

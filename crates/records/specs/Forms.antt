@@ -9,8 +9,8 @@ use lib.ListN.{length, getD}
 use lib.Signed.{_≤ℤ_}
 use Rattle.numeral.specs.Spelling.{Writes, WritesBits}
 use Rattle.sizing.specs.Ranges.{maximumOnly}
-use Rattle.records.specs.declared.size.Position.{Position}
-use Rattle.records.specs.declared.size.Position.the-variants.{Minimum, Maximum, Gap}
+use Rattle.records.specs.declared.Position.{Position}
+use Rattle.records.specs.declared.Position.the-variants.{Minimum, Maximum, Gap}
 use Rattle.records.specs.Words.{at, dash, nought, axisWords, kindWords, sizeWords, ruleWords, repeatWords, endWords}
 
 -- ---- one field

@@ -10,10 +10,10 @@ use Rattle.numeral.specs.declared.Bits.the-variants.{Unread, Value}
 use Rattle.sizing.specs.Ranges.{minimumKind, valueInRange, lengthInRange}
 use Rattle.sizing.specs.Words.{sizeWordOf}
 use Rattle.records.specs.declared.field.Field.{Field}
-use Rattle.records.specs.declared.size.Position.{Position}
-use Rattle.records.specs.declared.size.Position.the-variants.{Minimum, Maximum, Gap}
-use Rattle.records.specs.declared.size.SizeField.{SizeField}
-use Rattle.records.specs.declared.size.InnerField.{InnerField}
+use Rattle.records.specs.declared.Position.{Position}
+use Rattle.records.specs.declared.Position.the-variants.{Minimum, Maximum, Gap}
+use Rattle.records.specs.declared.SizeField.{SizeField}
+use Rattle.records.specs.declared.InnerField.{InnerField}
 use Rattle.records.specs.Fields.{wordOf}
 use Rattle.records.specs.Words.{dash, sizeWords}
 

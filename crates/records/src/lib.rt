@@ -1,17 +1,11 @@
 // One line of a panel sheet by itself: the record that its fields make, or its fault.
-pub mod ends;
 pub mod fault;
 pub mod field;
-pub mod lines;
 pub mod name;
-pub mod repetition;
-pub mod size;
-pub mod templates;
 
 use coordinates::Axis;
 pub use fault::first_fault;
 pub use fault::rank;
-pub use lines::read_record;
 pub use name::name_fault;
 
 // An `axis` line: the bits of the inner size, 0 where it is not definite; the rule, 0 for `max` and 1 for `min`; the gap's word.
@@ -59,4 +53,32 @@ pub enum Record {
     Extra(Axis, u32, u32),
     Item(Axis, u32),
     Place(Axis, PlaceEnd, PlaceEnd),
+}
+
+pub struct NumberField {
+    pub fault: u32,
+    pub value: i32,
+}
+
+pub struct EndField {
+    pub fault: u32,
+    pub end: PlaceEnd,
+}
+
+// Where a size stands: a minimum is of no maximum-only kind, a gap is a length or a percentage.
+pub enum Position {
+    Minimum,
+    Maximum,
+    Gap,
+}
+
+pub struct SizeField {
+    pub fault: u32,
+    pub word: u64,
+}
+
+pub struct InnerField {
+    pub fault: u32,
+    pub definite: bool,
+    pub bits: u32,
 }

@@ -13,7 +13,7 @@ use panel_tables::placement::PLACEMENT_BYTES;
 use panel_tables::placement::PLACEMENT_WORDS;
 use panel_tables::state::zero_panel;
 use panel_tables::state::zero_panel_reading;
-use sheet_line::read_line;
+use sheet_step::read_line;
 use tables::layout::AXIS_BYTES;
 use tables::layout::AXIS_MARKS;
 use tables::layout::AXIS_WORDS;

@@ -4,7 +4,7 @@ ghost use Rattle.sheet_end.specs.End.{innerIn, strategyIn, sizeIn};
 use explicit_grid::AutoRepeatStrategy;
 use explicit_grid::ExplicitSize;
 use explicit_grid::InnerSize;
-use explicit_grid::compute_explicit_grid_size_in_axis;
+use explicit_size::compute_explicit_grid_size_in_axis;
 use sizing::word::length_of;
 use sizing::word::sizing_of;
 use tables::AxisState;

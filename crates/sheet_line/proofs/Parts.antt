@@ -10,7 +10,7 @@ use Rattle.records.specs.Faults.{firstOf}
 use Rattle.records.specs.Records.{recordOf, faultOf}
 use Rattle.panel_tables.specs.Written.{PanelHeld, PanelStepped}
 use Rattle.sheet_rules.specs.Steps.{onHeld, heldStep}
-use Rattle.sheet_line.specs.declared.panel.Part.{Part}
+use Rattle.sheet_line.specs.declared.Part.{Part}
 use Rattle.sheet_line.specs.Lines.{twiceIn, stageIn, lateIn, faultBefore, atStage, recordIn, lineIn}
 use Rattle.sheet_line.specs.Parts.{axisPart, partOf, partStep, twiceOf, beforeOf}
 

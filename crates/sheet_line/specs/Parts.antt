@@ -21,8 +21,8 @@ use Rattle.panel_tables.specs.Axes.{readingIn}
 use Rattle.panel_tables.specs.Written.{PanelHeld, PanelStepped, ofAreas, ofPlacements}
 use Rattle.sheet_rules.specs.Lines.{edgesOf, placedEnd}
 use Rattle.sheet_rules.specs.Steps.{stayed, onHeld}
-use Rattle.sheet_line.specs.declared.panel.Part.{Part}
-use Rattle.sheet_line.specs.declared.panel.Part.the-variants.{Nothing, Columns, Rows, Areas, Placements}
+use Rattle.sheet_line.specs.declared.Part.{Part}
+use Rattle.sheet_line.specs.declared.Part.the-variants.{Nothing, Columns, Rows, Areas, Placements}
 use Rattle.sheet_line.specs.Lines.{lateIn}
 
 -- ---- what a record is written to

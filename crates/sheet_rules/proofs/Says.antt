@@ -19,7 +19,7 @@ use Rattle.records.specs.declared.field.AxisField.{AxisField}
 use Rattle.records.specs.Words.{at, axisWords, kindWords}
 use Rattle.records.specs.Faults.{firstOf}
 use Rattle.records.specs.Fields.{axisAt, axisOf, ruleOf, countOf, repetitionOf, nameFault}
-use Rattle.records.specs.declared.size.Position.the-variants.{Minimum, Maximum, Gap}
+use Rattle.records.specs.declared.Position.the-variants.{Minimum, Maximum, Gap}
 use Rattle.records.specs.Sizes.{sizeOf, innerOf}
 use Rattle.records.specs.Ends.{endOf}
 use Rattle.records.specs.Records.{unless, edgesOf, madeAxis, madeArea, madeName, madeSizes, madeRepeat, madeEnd, madeExtra, madeItem, madePlace, axisLine, areaLine, nameLine, sizesLine, repeatLine, endLine, extraLine, itemLine, placeLine, recordOf}

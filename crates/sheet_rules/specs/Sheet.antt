@@ -9,7 +9,7 @@ use Rattle.explicit_grid.specs.declared.InnerSize.{InnerSize}
 use Rattle.explicit_grid.specs.declared.InnerSize.the-variants.{Definite, Indefinite}
 use Rattle.explicit_grid.specs.declared.AutoRepeatStrategy.{AutoRepeatStrategy}
 use Rattle.explicit_grid.specs.declared.AutoRepeatStrategy.the-variants.{MaxRepetitionsThatDoNotOverflow, MinRepetitionsThatDoOverflow}
-use Rattle.explicit_grid.specs.declared.size.TemplateSize.{TemplateSize}
+use Rattle.explicit_grid.specs.declared.TemplateSize.{TemplateSize}
 use Rattle.explicit_grid.specs.Summary.{meaningOf}
 use Rattle.explicit_grid.specs.Explicit.{templateSizeOf, innerValue}
 use Rattle.line_placement.specs.Css.{Entry}

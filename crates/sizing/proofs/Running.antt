@@ -16,8 +16,8 @@ use lib.Ieee.Positive.{num, den, den-pos}
 use Rattle.sizing.specs.declared.Sizing.{Sizing}
 use Rattle.sizing.specs.declared.Sizing.the-variants.{Length, Percent, Fraction, Auto, MinContent, MaxContent, FitContentLength, FitContentPercent}
 use Rattle.sizing.specs.declared.MinMax.{MinMax}
-use Rattle.sizing.specs.declared.definite.DefiniteSize.{DefiniteSize}
-use Rattle.sizing.specs.declared.definite.DefiniteSize.the-variants.{Definite, Indefinite}
+use Rattle.sizing.specs.declared.DefiniteSize.{DefiniteSize}
+use Rattle.sizing.specs.declared.DefiniteSize.the-variants.{Definite, Indefinite}
 use Rattle.sizing.specs.Words.{zero32}
 use Rattle.sizing.specs.Ranges.{upTo, largestLength, largestPercentage, sizingInRange}
 use Rattle.sizing.specs.Definite.{definiteOf, raisedOr, trackValueOf, orZero}

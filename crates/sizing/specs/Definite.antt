@@ -4,8 +4,8 @@ use lib.Ieee.{Float, binary32, mul, lt}
 use Rattle.sizing.specs.declared.Sizing.{Sizing}
 use Rattle.sizing.specs.declared.Sizing.the-variants.{Length, Percent, Fraction, Auto, MinContent, MaxContent, FitContentLength, FitContentPercent}
 use Rattle.sizing.specs.declared.MinMax.{MinMax}
-use Rattle.sizing.specs.declared.definite.DefiniteSize.{DefiniteSize}
-use Rattle.sizing.specs.declared.definite.DefiniteSize.the-variants.{Definite, Indefinite}
+use Rattle.sizing.specs.declared.DefiniteSize.{DefiniteSize}
+use Rattle.sizing.specs.declared.DefiniteSize.the-variants.{Definite, Indefinite}
 use Rattle.sizing.specs.Words.{zero32}
 
 -- a length, or a percentage times the inner size (layer 2); no other kind has a definite size

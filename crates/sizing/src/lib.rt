@@ -1,6 +1,4 @@
 // Layer 2: sizes of tracks, and the words that hold them.
-pub mod definite;
-pub mod range;
 pub mod word;
 
 // The size of a track at one end.
@@ -19,4 +17,10 @@ pub enum Sizing {
 pub struct MinMax {
     pub min: Sizing,
     pub max: Sizing,
+}
+
+// A size that is definite, or none: the Rust's `Option<f32>`.
+pub enum DefiniteSize {
+    Definite(f32),
+    Indefinite,
 }

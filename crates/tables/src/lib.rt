@@ -1,10 +1,7 @@
 // The tables of one axis of a panel: a small state by value, and lent arrays of words, marks and name bytes.
-pub mod axis;
 pub mod layout;
 pub mod name;
-pub mod spare;
 pub mod state;
-pub mod template;
 
 // An axis of a panel: its `axis` record (whether it has an inner size, the bits of that, rule 0 `max` or 1 `min`, the gap's word),
 // what the tables hold of it, its implicit counts, its explicit size, and the tracks that areas span.

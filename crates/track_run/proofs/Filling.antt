@@ -14,8 +14,8 @@ use Rattle.sizing.specs.declared.MinMax.{MinMax}
 use Rattle.explicit_grid.specs.Template.{Component, templateOf}
 use Rattle.grid_track.specs.declared.GridTrack.{GridTrack}
 use Rattle.grid_track.specs.declared.AxisTracks.{AxisTracks}
-use Rattle.grid_track.specs.declared.cursor.Cursor.{Cursor}
-use Rattle.grid_track.specs.declared.plan.Plan.{Plan}
+use Rattle.grid_track.specs.declared.Cursor.{Cursor}
+use Rattle.grid_track.specs.declared.Plan.{Plan}
 use Rattle.grid_track.specs.Tracks.{zeroGridTrack}
 use Rattle.grid_track.specs.Written.{writtenOut}
 use Rattle.grid_track.specs.Records.{listed, negativeOf, explicitOf, tracksIn, recordsIn, allTracks, noTrack, itemAt, recordIn, recordsOf}

@@ -8,7 +8,7 @@ use Rattle.sizing.specs.declared.MinMax.{MinMax}
 use Rattle.explicit_grid.specs.Template.{Component}
 use Rattle.grid_track.specs.declared.GridTrack.{GridTrack}
 use Rattle.grid_track.specs.declared.AxisTracks.{AxisTracks}
-use Rattle.grid_track.specs.declared.cursor.Cursor.{Cursor}
+use Rattle.grid_track.specs.declared.Cursor.{Cursor}
 use Rattle.grid_track.specs.Records.{listed, negativeOf, tracksIn, recordsIn}
 use Rattle.grid_track.specs.Steps.{totalsOf, cursorOf, nextOf, cursorAt, planOf, recordWith, recordOf}
 use Rattle.track_run.specs.declared.state.FillState.{FillState}

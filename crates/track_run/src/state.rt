@@ -8,9 +8,9 @@ ghost use Rattle.track_run.specs.Run.{refusedFill, fillAnswerOf};
 ghost use Rattle.track_run.specs.Steps.{fillCount, stateAt, stateRecord, advanceOf};
 use crate::FillAnswer;
 use grid_track::AxisTracks;
+use grid_track::Cursor;
 use grid_track::GridTrack;
-use grid_track::cursor::Cursor;
-use grid_track::plan::Plan;
+use grid_track::Plan;
 
 // An axis with its plan, and the cursor that belongs to the next record.
 pub struct FillState {
@@ -23,7 +23,7 @@ pub struct FillState {
 pub fn fill_count(lent: usize, items: usize, axis: AxisTracks) -> usize
     ensures { λ r. ⌜ r ≡ fillCount axis lent items ⌝ }
 {
-    let tracks = grid_track::plan::track_count(axis) as usize;
+    let tracks = written_tracks::plan::track_count(axis) as usize;
     if lent < 2 * tracks + 1 {
         return 0;
     }
@@ -45,7 +45,7 @@ fn refused() -> FillAnswer
 pub fn fill_answer(lent: usize, items: usize, axis: AxisTracks) -> FillAnswer
     ensures { λ r. ⌜ r ≡ fillAnswerOf axis lent items ⌝ }
 {
-    let tracks = grid_track::plan::track_count(axis);
+    let tracks = written_tracks::plan::track_count(axis);
     if lent < (2 * tracks + 1) as usize {
         return refused();
     }
@@ -68,8 +68,8 @@ pub fn begin_at(
 ) -> FillState
     ensures { λ r. ⌜ r ≡ stateAt axis (templateOf (now (components .entry)) (now (minimums .entry)) (now (maximums .entry))) (itemAt (now (items .entry))) index ⌝ }
 {
-    let plan = grid_track::plan::make_plan(components, minimums, maximums, items, axis);
-    let cursor = grid_track::rule::cursor_at(components, axis, index as u64);
+    let plan = written_tracks::plan::make_plan(components, minimums, maximums, items, axis);
+    let cursor = track_rule::rule::cursor_at(components, axis, index as u64);
     FillState { axis, plan, cursor }
 }
 
@@ -102,7 +102,7 @@ pub fn record_at(
     let axis = at.axis;
     let plan = at.plan;
     let cursor = at.cursor;
-    grid_track::rule::record_with(
+    track_rule::rule::record_with(
         components,
         minimums,
         maximums,
@@ -130,7 +130,7 @@ pub fn advance(components: &[u64], at: FillState, index: usize) -> FillState
     }
     let plan = at.plan;
     let cursor = at.cursor;
-    let next = grid_track::cursor::next(components, axis.repetitions, cursor);
+    let next = written_tracks::cursor::next(components, axis.repetitions, cursor);
     FillState {
         axis,
         plan,

@@ -2,9 +2,9 @@
 use crate::input::after_line;
 use crate::input::line_at;
 use crate::input::number_of;
-use coordinates::GridLine;
 use coordinates::signed::joined;
 use coordinates::signed::split;
+use grid_lines::GridLine;
 use numeral::Index;
 use std::num::wrapping_add_u32;
 

@@ -1,6 +1,6 @@
 use mathlib.Core.Path.{ap}
 use borrow.Author.Tests.{le-leb, lt-leb}
-use Rattle.panel_c.specs.Answers.{panelEntered, nameEntered}
+use Rattle.panel_numbers.specs.Answers.{panelEntered, nameEntered}
 use borrow.Author.Needs.{needs}
 use Rattle.panel_c.proofs.palgwern_enter_name.Statement.{statement}
 use Rattle.panel_c.proofs.palgwern_enter_name.Tie as tie

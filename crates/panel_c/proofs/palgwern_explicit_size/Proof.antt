@@ -1,5 +1,5 @@
 use borrow.Author.Tests.{le-leb, lt-leb}
-use Rattle.panel_c.specs.Answers.{sizeOf}
+use Rattle.panel_numbers.specs.Answers.{sizeOf}
 use borrow.Author.Needs.{needs}
 use Rattle.panel_c.proofs.palgwern_explicit_size.Statement.{statement}
 use Rattle.panel_c.proofs.palgwern_explicit_size.Tie as tie

@@ -1,6 +1,6 @@
 use mathlib.Core.Path.{ap, _∙_}
 use borrow.Author.Tests.{le-leb, lt-leb}
-use Rattle.panel_c.specs.Answers.{counted, lineCountOf}
+use Rattle.panel_numbers.specs.Answers.{counted, lineCountOf}
 use borrow.Author.Needs.{needs}
 use Rattle.panel_c.proofs.palgwern_line_count.Statement.{statement}
 use Rattle.panel_c.proofs.palgwern_line_count.Tie as tie

@@ -1,5 +1,5 @@
 use mathlib.Core.Path.{ap}
-use Rattle.panel_c.specs.Answers.{panelRead}
+use Rattle.panel_numbers.specs.Answers.{panelRead}
 use borrow.Author.Needs.{needs}
 use Rattle.panel_c.proofs.palgwern_read_sheet.Statement.{statement}
 use Rattle.panel_c.proofs.palgwern_read_sheet.Tie as tie

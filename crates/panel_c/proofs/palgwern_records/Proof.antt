@@ -1,5 +1,5 @@
 use borrow.Author.Tests.{le-leb, lt-leb}
-use Rattle.panel_c.specs.Records.{recordsWritten}
+use Rattle.panel_numbers.specs.Records.{recordsWritten}
 use borrow.Author.Needs.{needs}
 use Rattle.panel_c.proofs.palgwern_records.Statement.{statement}
 use Rattle.panel_c.proofs.palgwern_records.Tie as tie

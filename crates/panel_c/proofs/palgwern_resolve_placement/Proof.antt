@@ -1,5 +1,5 @@
 use mathlib.Core.Path.{ap, _∙_}
-use Rattle.panel_c.specs.Answers.{placementNumbers}
+use Rattle.panel_numbers.specs.Answers.{placementNumbers}
 use borrow.Author.Needs.{needs}
 use Rattle.panel_c.proofs.palgwern_resolve_placement.Statement.{statement}
 use Rattle.panel_c.proofs.palgwern_resolve_placement.Tie as tie

@@ -7,7 +7,7 @@ use Rattle.named.proofs.Finding.{zero-is, zero-not, span-within}
 use Rattle.named.specs.Placements.{answerOf}
 use Rattle.named.proofs.Resolving.{beside-line}
 use Rattle.coordinates.specs.Lines.{toOriginZero}
-use Rattle.coordinates.specs.declared.line.OriginZeroAnswer.{OriginZeroAnswer}
+use Rattle.grid_lines.specs.declared.line.OriginZeroAnswer.{OriginZeroAnswer}
 use Rattle.coordinates.proofs.Lines.{origin-zero-within}
 use Rattle.named.proofs.Integers.{origin-zero-answer}
 use mir.Syntax.{w16}

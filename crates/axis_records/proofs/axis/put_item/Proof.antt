@@ -1,0 +1,26 @@
+use borrow.Author.Tests.{lt-ltb, le-ltb}
+use Rattle.tables.specs.Store.{putItem}
+use borrow.Author.Needs.{needs}
+use Rattle.axis_records.proofs.axis.put_item.Statement.{statement}
+use Rattle.axis_records.proofs.axis.put_item.Tie as tie
+
+put-requires : tie.Need-put-requires
+put-requires c κs = search needs
+
+returns : tie.Need-returns
+unfolding putItem
+returns c = rw (c .put .ensures, lt-ltb _ _ (c .before .if1 .taken))
+
+element-write-marks : tie.Need-element-write-marks
+element-write-marks c = search needs
+
+put-requires-2 : tie.Need-put-requires-2
+put-requires-2 c κs = search needs
+
+returns-2 : tie.Need-returns-2
+unfolding putItem
+returns-2 c = rw (c .put2 .ensures, le-ltb _ _ (c .before .if1 .left))
+
+pub put-item-spec : {M : Type 1} → statement M
+put-item-spec =
+    tie.close (tie.spec put-requires returns element-write-marks put-requires-2 returns-2)

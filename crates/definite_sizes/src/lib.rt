@@ -1,0 +1,2 @@
+// What a size measures where that is definite.
+pub mod definite;

@@ -1,0 +1,81 @@
+use mathlib.Core.Path.{_≡_, ap, _∙_}
+use mathlib.Core.Bool.{cond}
+use mathlib.Core.List.{List}
+use Prim.Native.Nat.{ℕ, _<_, _≤_}
+use borrow.Author.Tests.{le-leb, lt-leb}
+use lib.Dec.{leb}
+use lib.Ieee.{Float}
+use lib.ListN.{length, length-map}
+use Rattle.coordinates.specs.Refusals.{crowded}
+use Rattle.sizing.specs.declared.Sizing.{Sizing}
+use Rattle.explicit_grid.specs.Template.{componentOf, withTracks, templateOf}
+use Rattle.explicit_grid.specs.Summary.{meaningOf, noComponents, summaryOf}
+use Rattle.explicit_grid.specs.Explicit.{innerValue, templateSizeOf, refusedSize, withAreas, explicitSizeOf}
+use Rattle.explicit_grid.specs.declared.InnerSize.{InnerSize}
+use Rattle.explicit_grid.specs.declared.AutoRepeatStrategy.{AutoRepeatStrategy}
+use Rattle.explicit_grid.specs.declared.ExplicitSize.{ExplicitSize}
+use Rattle.explicit_grid.specs.declared.TemplateSize.{TemplateSize}
+use Rattle.explicit_grid.specs.declared.TemplateSummary.{TemplateSummary}
+use Rattle.explicit_grid.proofs.Walk.{summary-means}
+use borrow.Author.Needs.{needs}
+use Rattle.explicit_size.proofs.size.compute_explicit_grid_size_in_axis.Statement.{statement}
+use Rattle.explicit_size.proofs.size.compute_explicit_grid_size_in_axis.Tie as tie
+
+-- over plain lists
+module _ (words minimums maximums : List ℕ) where
+  length-template : length (templateOf words minimums maximums) ≡ length words
+  unfolding templateOf
+  length-template = length-map words (λ (w : ℕ). withTracks minimums maximums (componentOf w))
+
+  crowds : (inner : InnerSize) (strategy : AutoRepeatStrategy) (gap : Sizing) (areas : ℕ) (r : ExplicitSize) → 64 < length words → r ≡ refusedSize crowded
+      → r ≡ explicitSizeOf inner strategy gap areas (templateOf words minimums maximums)
+  unfolding explicitSizeOf
+  crowds inner strategy gap areas r h e = rw (length-template, lt-leb (length words) 64 h) e
+
+  counts : (inner : InnerSize) (strategy : AutoRepeatStrategy) (gap : Sizing) (areas : ℕ) (value : Float) (s : TemplateSummary) (t : TemplateSize) (r : ExplicitSize) → length words ≤ 64
+      → value ≡ innerValue inner → s ≡ cond (leb (length words) 64) (summaryOf value (templateOf words minimums maximums)) noComponents → t ≡ templateSizeOf inner strategy gap s → r ≡ withAreas areas t
+      → r ≡ explicitSizeOf inner strategy gap areas (templateOf words minimums maximums)
+  unfolding explicitSizeOf
+  counts inner strategy gap areas value s t r h v e f g =
+      let cs = templateOf words minimums maximums in
+      rw (length-template, le-leb (length words) 64 h)
+      (g ∙ ap (withAreas areas) (f ∙ ap (templateSizeOf inner strategy gap) ((rw (le-leb (length words) 64 h) at e) ∙ summary-means value cs ∙ ap (λ (x : Float). meaningOf x cs) v)))
+
+refused-size-requires : tie.Need-refused-size-requires
+refused-size-requires c κs = search needs
+
+returns : tie.Need-returns
+returns c =
+    let a = c .before .before .before .before .before .args in
+    crowds (a .components .now) (a .minimums .now) (a .maximums .now) _ _ _ _ _ (c .before .if1 .taken) (c .refused-size .ensures)
+
+inner-value-requires : tie.Need-inner-value-requires
+inner-value-requires c κs = search needs
+
+template-summary-requires : tie.Need-template-summary-requires
+template-summary-requires c κs = search needs
+
+template-size-requires : tie.Need-template-size-requires
+template-size-requires c κs = c .template-summary .ensures .1
+
+size-with-areas-requires : tie.Need-size-with-areas-requires
+size-with-areas-requires c κs = search needs
+
+returns-2 : tie.Need-returns-2
+returns-2 c =
+    let n = c .before .before .before .before in
+    let a = n .before .before .before .before .args in
+    counts (a .components .now) (a .minimums .now) (a .maximums .now) _ _ _ _ _ _ _ _ (n .if1 .left) (c .before .before .before .inner-value .ensures) (c .before .before .template-summary .ensures .0)
+    (c .before .template-size .ensures .0) (c .size-with-areas .ensures)
+
+pub compute-explicit-grid-size-in-axis-spec : {M : Type 1} → statement M
+compute-explicit-grid-size-in-axis-spec =
+    tie.close
+    (tie.spec
+    refused-size-requires
+    returns
+    inner-value-requires
+    template-summary-requires
+    template-size-requires
+    size-with-areas-requires
+    returns-2)

@@ -1,0 +1,5 @@
+// Layer 3: the repetitions of an automatic repeat, and the explicit size of an axis.
+mod repetitions;
+pub mod size;
+
+pub use size::compute_explicit_grid_size_in_axis;

@@ -1,0 +1,119 @@
+// The explicit size of an axis.
+ghost use mathlib.Core.Path.{_≡_};
+ghost use Prim.Native.Nat.{_≤_, max};
+ghost use Rattle.explicit_grid.specs.Template.{templateOf};
+ghost use Rattle.explicit_grid.specs.Explicit.{validOf, templateSizeOf, refusedSize, withAreas, innerValue, explicitSizeOf};
+ghost use Rattle.explicit_grid.specs.Bounds.{Gathered};
+use crate::repetitions::automatic_repetitions;
+use explicit_grid::AutoRepeatStrategy;
+use explicit_grid::ExplicitSize;
+use explicit_grid::InnerSize;
+use explicit_grid::TemplateSize;
+use explicit_grid::TemplateSummary;
+use sizing::Sizing;
+use template_summary::summary::template_summary;
+
+// Whether a template has no repeat without tracks, and at most one automatic repeat, which stands among fixed tracks only.
+fn is_valid(summary: TemplateSummary) -> bool
+    ensures { λ r. ⌜ r ≡ validOf summary ⌝ }
+{
+    !summary.empty & ((summary.automatic == 0) | ((summary.automatic == 1) & summary.fixed))
+}
+
+// The repetitions and tracks of a template; none where it is invalid.
+fn template_size(
+    summary: TemplateSummary,
+    inner: InnerSize,
+    strategy: AutoRepeatStrategy,
+    gap: Sizing,
+) -> TemplateSize
+    requires { ⌜ Gathered 64 summary ⌝ }
+    ensures { λ r. ⌜ (r ≡ templateSizeOf inner strategy gap summary) × (r .repetitions ≤ 10000) ⌝ }
+{
+    if is_valid(summary) {
+        if summary.automatic == 0 {
+            return TemplateSize {
+                repetitions: 0,
+                tracks: summary.outside,
+            };
+        }
+        let repetitions = automatic_repetitions(summary, inner, strategy, gap);
+        return TemplateSize {
+            repetitions,
+            tracks: summary.outside + summary.repeated * repetitions,
+        };
+    }
+    TemplateSize {
+        repetitions: 0,
+        tracks: 0,
+    }
+}
+
+// The larger of two counts.
+fn larger(a: u64, b: u64) -> u64
+    ensures { λ r. ⌜ r ≡ max a b ⌝ }
+{
+    if a < b {
+        return b;
+    }
+    a
+}
+
+// The answer of a refused call: its number, and zeros.
+fn refused_size(number: u32) -> ExplicitSize
+    ensures { λ r. ⌜ r ≡ refusedSize number ⌝ }
+{
+    ExplicitSize {
+        refusal: coordinates::refusal::refusal_of(number),
+        repetitions: 0,
+        template: 0,
+        explicit: 0,
+    }
+}
+
+// The explicit tracks of a template beside areas; above 10,000 they are refused.
+fn size_with_areas(size: TemplateSize, areas: u32) -> ExplicitSize
+    requires { ⌜ size .repetitions ≤ 10000 ⌝ }
+    ensures { λ r. ⌜ r ≡ withAreas areas size ⌝ }
+{
+    let explicit = larger(size.tracks, areas as u64);
+    if explicit <= 10000 {
+        return ExplicitSize {
+            refusal: coordinates::refusal::no_refusal(),
+            repetitions: size.repetitions as u32,
+            template: size.tracks as u32,
+            explicit: explicit as u32,
+        };
+    }
+    refused_size(coordinates::refusal::COUNT)
+}
+
+// The inner size that percentages are taken of; 0 where there is none, and then no size is used.
+fn inner_value(inner: InnerSize) -> f32
+    ensures { λ r. ⌜ r ≡ innerValue inner ⌝ }
+{
+    match inner {
+        InnerSize::Definite(x) => x,
+        InnerSize::Indefinite => 0.0,
+    }
+}
+
+// The explicit size of an axis, from the words of its template and the tracks that its areas span.
+pub fn compute_explicit_grid_size_in_axis(
+    components: &[u64],
+    minimums: &[u64],
+    maximums: &[u64],
+    inner: InnerSize,
+    strategy: AutoRepeatStrategy,
+    gap: Sizing,
+    areas: u32,
+) -> ExplicitSize
+    ensures { λ r. ⌜ r ≡ explicitSizeOf inner strategy gap areas (templateOf (now (components .entry)) (now (minimums .entry)) (now (maximums .entry))) ⌝ }
+{
+    if components.len() > 64 {
+        return refused_size(coordinates::refusal::CROWDED);
+    }
+    let summary = template_summary(components, minimums, maximums, inner_value(inner));
+    let size = template_size(summary, inner, strategy, gap);
+    size_with_areas(size, areas)
+}

@@ -1,0 +1,2 @@
+-- Laws of the calls on lines.
+pub mod Conversions

@@ -1,0 +1,4 @@
+// Hexadecimal digits of a sheet.
+pub mod hexadecimal;
+
+pub use hexadecimal::read_bits;

@@ -1,0 +1,2 @@
+-- What the contracts of the line lists cite.
+pub mod Lists

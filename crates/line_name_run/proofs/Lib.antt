@@ -1,0 +1,2 @@
+-- Laws of the lists of an axis: what refuses them, and what is written.
+pub mod Listing

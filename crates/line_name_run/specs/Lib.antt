@@ -1,0 +1,2 @@
+-- What the contract of all line names in one run cites.
+pub mod Lists

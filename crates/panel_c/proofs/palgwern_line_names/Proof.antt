@@ -1,0 +1,36 @@
+use borrow.Author.Tests.{le-leb, lt-leb}
+use Rattle.line_name_run.specs.Lists.{listsWritten}
+use borrow.Author.Needs.{needs}
+use Rattle.panel_c.proofs.palgwern_line_names.Statement.{statement}
+use Rattle.panel_c.proofs.palgwern_line_names.Tie as tie
+
+uncounted-requires : tie.Need-uncounted-requires
+uncounted-requires c κs = search needs
+
+returns : tie.Need-returns
+unfolding listsWritten
+returns c = rw (lt-leb _ 1 (c .before .if1 .taken), c .uncounted .ensures)
+
+axis-of-requires : tie.Need-axis-of-requires
+axis-of-requires c κs = search needs
+
+write-lists-requires : tie.Need-write-lists-requires
+write-lists-requires c κs = search needs
+
+same-length : tie.Need-same-length
+same-length c = search needs
+
+returns-2 : tie.Need-returns-2
+unfolding listsWritten
+returns-2 c = rw (le-leb _ 1 (c .before .before .before .before .before .if1 .left), ← c .before .before .before .before .axis-of .ensures) (c .before .before .write-lists .ensures)
+
+pub palgwern-line-names-spec : {M : Type 1} → statement M
+palgwern-line-names-spec =
+    tie.close
+    (tie.spec
+    uncounted-requires
+    returns
+    axis-of-requires
+    write-lists-requires
+    same-length
+    returns-2)

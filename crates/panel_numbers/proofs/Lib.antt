@@ -1,0 +1,2 @@
+-- A law of the kinds of records.
+pub mod RecordKinds

@@ -1,0 +1,2 @@
+-- Laws of runs of placements.
+pub mod Entries

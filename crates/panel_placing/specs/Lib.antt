@@ -1,0 +1,2 @@
+-- What the contracts of runs of placements cite.
+pub mod Indexes

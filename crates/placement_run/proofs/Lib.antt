@@ -1,0 +1,2 @@
+-- Laws of a run of placements.
+pub mod PlacementRuns

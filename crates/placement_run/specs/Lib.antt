@@ -1,0 +1,2 @@
+-- What the contract of a run of placements cites.
+pub mod Placements

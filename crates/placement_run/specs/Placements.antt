@@ -1,0 +1,58 @@
+-- Resolved placements as numbers, six each, a run of them at a time.
+use Prim.Native.Nat.{ℕ, zero, suc, _+_, _-_, _/_, _<_, min}
+use mathlib.Core.Bool.{cond, _||_}
+use mathlib.Core.List.{List, [], _∷_, _++_}
+use lib.Dec.{eqb, leb, ltb}
+use lib.IntN.{ℤ, pos}
+use lib.ListN.{length}
+use lib.Seq.{sets}
+use Rattle.coordinates.specs.Refusals.{count, short}
+use Rattle.panel_tables.specs.declared.Panel.{Panel}
+use Rattle.panel_rules.specs.Calls.{NameTables, NamedWords, shorterStore}
+use Rattle.panel_rules.specs.Placing.{resolvePlacement}
+use Rattle.panel_numbers.specs.declared.CountAnswer.{CountAnswer}
+use Rattle.panel_numbers.specs.declared.PlacementNumbers.{PlacementNumbers}
+use Rattle.panel_numbers.specs.Answers.{counted, uncounted, placementNumbers}
+
+-- ---- one placement
+
+-- refusal, axis, and for each end its kind and number
+abbrev pub numbersOf : PlacementNumbers → List ℤ
+numbersOf n = pos (n .number) ∷ pos (n .axis) ∷ pos (n .startkind) ∷ n .startnumber ∷ pos (n .endkind) ∷ n .endnumber ∷ []
+
+-- the numbers without a sign are below 2^31
+pub record SmallNumbers (n : PlacementNumbers) : Type 0 where
+  pub number : n .number < 2147483648
+  pub axis : n .axis < 2147483648
+  pub startkind : n .startkind < 2147483648
+  pub endkind : n .endkind < 2147483648
+
+-- ---- a run
+
+-- so many placements from one on
+unfoldable pub runNumbers : Panel → NameTables → NamedWords → NamedWords → ℕ → ℕ → List ℤ
+runNumbers p t areas placements first zero = []
+runNumbers p t areas placements first (suc n) =
+    numbersOf (placementNumbers (resolvePlacement p t areas placements first)) ++ runNumbers p t areas placements (first + 1) n
+
+-- 4 for a first placement that isn't held; then 10 for a store below 32,768 bytes, or numbers for no placement
+unfoldable pub numbersRefusal : ℕ → ℕ → ℕ → ℕ → ℕ
+numbersRefusal held shorter lent first = cond (leb held first) count (cond (ltb shorter 32768 || ltb lent 6) short 0)
+
+-- how many placements are written: as many as there are, and as fit
+unfoldable pub numbersCount : ℕ → ℕ → ℕ → ℕ
+numbersCount held lent first = min (lent / 6) (held - first)
+
+-- the answer, and what the lent numbers hold
+pub record WrittenNumbers : Type 0 where
+  pub answer : CountAnswer
+  pub numbers : List ℤ
+
+unfoldable pub placementsWritten : Panel → NameTables → NamedWords → NamedWords → ℕ → List ℤ → WrittenNumbers
+placementsWritten p t areas placements first lent =
+    cond (eqb (numbersRefusal (p .placements) (shorterStore t) (length lent) first) 0)
+    (record {
+      answer = counted (numbersCount (p .placements) (length lent) first);
+      numbers = sets lent 0 (runNumbers p t areas placements first (numbersCount (p .placements) (length lent) first));
+    })
+    (record { answer = uncounted (numbersRefusal (p .placements) (shorterStore t) (length lent) first); numbers = lent })

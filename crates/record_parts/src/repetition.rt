@@ -1,0 +1,35 @@
+// How often a repeat is written: a count, `fill` or `fit`.
+ghost use mathlib.Core.Path.{_≡_};
+ghost use Rattle.records.specs.Fields.{repetitionField, repetitionOf};
+use records::RepeatRecord;
+use records::field::Field;
+use records::field::count;
+
+fn repetition_field(c: Field) -> RepeatRecord
+    ensures { λ r. ⌜ r ≡ repetitionField c ⌝ }
+{
+    RepeatRecord {
+        fault: c.fault,
+        kind: 0,
+        number: c.value,
+    }
+}
+
+pub fn repetition(f: &[u8]) -> RepeatRecord
+    ensures { λ r. ⌜ r ≡ repetitionOf (now (f .entry)) ⌝ }
+{
+    let i = text::find_part(b"fill\tfit", 9, f);
+    match i {
+        0 => RepeatRecord {
+            fault: 0,
+            kind: 1,
+            number: 0,
+        },
+        1 => RepeatRecord {
+            fault: 0,
+            kind: 2,
+            number: 0,
+        },
+        _ => repetition_field(count(f, 0, 65535)),
+    }
+}

@@ -1,0 +1,120 @@
+// Sizes: a kind and the bits of its value, and the inner size.
+ghost use mathlib.Core.Path.{_≡_};
+ghost use Rattle.records.specs.Sizes.{kindOf, allowedAt, valueField, sizeField, sizeOf, innerField, innerOf};
+use coordinates::refusal::UNREAD;
+use coordinates::refusal::VALUE;
+use numeral::Bits;
+use records::InnerField;
+use records::Position;
+use records::SizeField;
+use records::field::Field;
+use records::field::word;
+
+// The number of a kind of size; unread where the field names none.
+fn kind(f: &[u8]) -> Field
+    ensures { λ r. ⌜ r ≡ kindOf (now (f .entry)) ⌝ }
+{
+    word(b"len\tpct\tfr\tauto\tmin\tmax\tfitl\tfitp", 8, f)
+}
+
+// Whether a kind may stand there.
+fn allowed(position: Position, kind: u32) -> bool
+    ensures { λ r. ⌜ r ≡ allowedAt position kind ⌝ }
+{
+    match position {
+        Position::Minimum => size_ranges::range::is_kind_of_minimum(kind),
+        Position::Maximum => kind < 8,
+        Position::Gap => kind < 2,
+    }
+}
+
+// A value of a kind.
+fn value_field(kind: u32, bits: u32) -> SizeField
+    ensures { λ r. ⌜ r ≡ valueField kind bits ⌝ }
+{
+    if size_ranges::range::value_in_range(kind, bits) {
+        SizeField {
+            fault: 0,
+            word: sizing::word::size_word(kind, bits),
+        }
+    } else {
+        SizeField {
+            fault: VALUE,
+            word: 0,
+        }
+    }
+}
+
+fn size_field(position: Position, kind: Field, value: Bits) -> SizeField
+    ensures { λ r. ⌜ r ≡ sizeField position kind value ⌝ }
+{
+    match value {
+        Bits::Unread => SizeField {
+            fault: UNREAD,
+            word: 0,
+        },
+        Bits::Value(bits) => {
+            if kind.fault != 0 {
+                return SizeField {
+                    fault: UNREAD,
+                    word: 0,
+                };
+            }
+            if allowed(position, kind.value) {
+                return value_field(kind.value, bits);
+            }
+            SizeField {
+                fault: UNREAD,
+                word: 0,
+            }
+        }
+    }
+}
+
+// A size that two fields write.
+pub fn size(position: Position, f: &[u8], g: &[u8]) -> SizeField
+    ensures { λ r. ⌜ r ≡ sizeOf position (now (f .entry)) (now (g .entry)) ⌝ }
+{
+    size_field(position, kind(f), hexadecimal::read_bits(g))
+}
+
+fn inner_field(value: Bits) -> InnerField
+    ensures { λ r. ⌜ r ≡ innerField value ⌝ }
+{
+    match value {
+        Bits::Unread => InnerField {
+            fault: UNREAD,
+            definite: false,
+            bits: 0,
+        },
+        Bits::Value(bits) => {
+            if size_ranges::range::length_in_range(bits) {
+                InnerField {
+                    fault: 0,
+                    definite: true,
+                    bits,
+                }
+            } else {
+                InnerField {
+                    fault: VALUE,
+                    definite: false,
+                    bits: 0,
+                }
+            }
+        }
+    }
+}
+
+// An inner size, or `-` for none.
+pub fn inner(f: &[u8]) -> InnerField
+    ensures { λ r. ⌜ r ≡ innerOf (now (f .entry)) ⌝ }
+{
+    if text::equal(f, b"-") {
+        return InnerField {
+            fault: 0,
+            definite: false,
+            bits: 0,
+        };
+    }
+    inner_field(hexadecimal::read_bits(f))
+}

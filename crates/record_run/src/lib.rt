@@ -1,0 +1,121 @@
+// A run of the records of an axis, written as numbers.
+ghost use mathlib.Core.Path.{_≡_};
+ghost use Prim.Native.Nat.{_+_, _*_, _≤_};
+ghost use lib.ListN.{length};
+ghost use lib.Seq.{sets};
+ghost use Rattle.name_store.specs.LineNames.{ofAxis};
+ghost use Rattle.grid_track.specs.Records.{tracksIn, recordsIn};
+ghost use Rattle.panel_tables.specs.Axes.{stateIn};
+ghost use Rattle.panel_rules.specs.Calls.{axisTracks};
+ghost use Rattle.panel_numbers.specs.Records.{runWords, runRefusal, runCount, WrittenRun, writtenRun};
+use coordinates::Axis;
+use coordinates::refusal::COUNT;
+use coordinates::refusal::SHORT;
+use panel_grid::axis_track::axis_tracks;
+use panel_numbers::CountAnswer;
+use panel_numbers::numbers::counted;
+use panel_numbers::numbers::uncounted;
+use panel_tables::Panel;
+use tables::AxisState;
+use tables::layout::AXIS_WORDS;
+use tables::layout::MAXIMUMS;
+use tables::layout::MINIMUMS;
+use tables::layout::SPARE_MAXIMUMS;
+use tables::layout::SPARE_MINIMUMS;
+use tables::layout::words_part;
+use written_tracks::plan::track_count;
+
+mod edge;
+
+use edge::write_axis;
+
+// Writes so many records from one on.
+fn write_records(
+    state: AxisState,
+    tables: &[u64; AXIS_WORDS],
+    items: &[u8],
+    first: usize,
+    count: usize,
+    words: &mut [u64],
+)
+    requires { ⌜ first + count ≤ recordsIn (axisTracks state) ⌝ }
+    requires { ⌜ tracksIn (axisTracks state) ≤ length (now items) ⌝ }
+    requires { ⌜ 3 * count ≤ length (now words) ⌝ }
+    ensures { λ _. ⌜ now (words .exit) ≡ sets (now (words .entry)) 0 (runWords state (now (tables .entry)) (now (items .entry)) first count) ⌝ }
+{
+    write_axis(
+        words_part(tables, 0, state.components),
+        words_part(tables, MINIMUMS, state.tracks),
+        words_part(tables, MAXIMUMS, state.tracks),
+        words_part(tables, SPARE_MINIMUMS, state.spares),
+        words_part(tables, SPARE_MAXIMUMS, state.spares),
+        items,
+        axis_tracks(state),
+        first,
+        count,
+        words,
+    );
+}
+
+// What a run is refused by.
+fn run_refusal(state: AxisState, items: usize, lent: usize, first: u32) -> u32
+    ensures { λ r. ⌜ r ≡ runRefusal state items lent first ⌝ }
+{
+    let tracks = track_count(axis_tracks(state));
+    if 2 * tracks + 1 <= first {
+        return COUNT;
+    }
+    if (items < tracks as usize) | (lent < 3) {
+        return SHORT;
+    }
+    0
+}
+
+// How many records are written from one that there is.
+fn run_count(state: AxisState, lent: usize, first: u32) -> usize
+    requires { ⌜ first ≤ recordsIn (axisTracks state) ⌝ }
+    ensures { λ r. ⌜ r ≡ runCount state lent first ⌝ }
+{
+    let left = (2 * track_count(axis_tracks(state)) + 1 - first) as usize;
+    if left < lent / 3 {
+        return left;
+    }
+    lent / 3
+}
+
+// Writes the records of one axis from `first` on.
+fn write_on(
+    state: AxisState,
+    tables: &[u64; AXIS_WORDS],
+    items: &[u8],
+    first: u32,
+    words: &mut [u64],
+) -> CountAnswer
+    ensures { λ r. ⌜ record { answer = r; words = now (words .exit) } ≡ writtenRun state (now (tables .entry)) (now (items .entry)) first (now (words .entry)) ⌝ }
+{
+    let number = run_refusal(state, items.len(), words.len(), first);
+    if number != 0 {
+        return uncounted(number);
+    }
+    let count = run_count(state, words.len(), first);
+    write_records(state, tables, items, first as usize, count, words);
+    counted(count as u64)
+}
+
+// The same, of an axis of a panel.
+pub fn write_run(
+    panel: Panel,
+    columns: &[u64; AXIS_WORDS],
+    rows: &[u64; AXIS_WORDS],
+    axis: Axis,
+    items: &[u8],
+    first: u32,
+    words: &mut [u64],
+) -> CountAnswer
+    ensures { λ r. ⌜ record { answer = r; words = now (words .exit) } ≡ writtenRun (stateIn panel axis) (ofAxis axis (now (columns .entry)) (now (rows .entry))) (now (items .entry)) first (now (words .entry)) ⌝ }
+{
+    match axis {
+        Axis::Column => write_on(panel.columns, columns, items, first, words),
+        Axis::Row => write_on(panel.rows, rows, items, first, words),
+    }
+}

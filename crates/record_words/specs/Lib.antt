@@ -1,0 +1,3 @@
+-- Definitions that the contracts of `record_words` cite.
+pub mod Pairs
+pub mod Plans

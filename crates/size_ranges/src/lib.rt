@@ -1,0 +1,2 @@
+// The range of each kind of size.
+pub mod range;

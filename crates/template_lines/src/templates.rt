@@ -1,0 +1,144 @@
+// The lines that make a template and its axis: `axis`, `track`, `spare`, `repeat`, `end`.
+ghost use mathlib.Core.Path.{_≡_};
+ghost use Rattle.text.specs.Split.{split};
+ghost use Rattle.records.specs.Fields.{ruleOf};
+ghost use Rattle.records.specs.Records.{madeAxis, axisLine, madeSizes, sizesLine, madeRepeat, repeatLine, madeEnd, endLine};
+use coordinates::refusal::UNREAD;
+use record_parts::repetition::repetition;
+use record_parts::size::inner;
+use record_parts::size::size;
+use records::AxisRecord;
+use records::InnerField;
+use records::Position;
+use records::Record;
+use records::RepeatRecord;
+use records::SizeField;
+use records::fault::first_fault;
+use records::field::AxisField;
+use records::field::Field;
+use records::field::axis;
+use records::field::word;
+
+fn rule(f: &[u8]) -> Field
+    ensures { λ r. ⌜ r ≡ ruleOf (now (f .entry)) ⌝ }
+{
+    word(b"max\tmin", 2, f)
+}
+
+fn make_axis(a: AxisField, i: InnerField, r: Field, g: SizeField) -> Record
+    ensures { λ x. ⌜ x ≡ madeAxis a i r g ⌝ }
+{
+    let fault = first_fault(a.fault, first_fault(i.fault, first_fault(r.fault, g.fault)));
+    let axis = a.axis;
+    if fault == 0 {
+        Record::Axis(AxisRecord {
+            axis,
+            definite: i.definite,
+            inner: i.bits,
+            rule: r.value,
+            gap: g.word,
+        })
+    } else {
+        Record::Fault(fault)
+    }
+}
+
+// `axis`, axis, inner size or `-`, `max` or `min`, gap kind, gap
+pub fn axis_line(line: &[u8]) -> Record
+    ensures { λ r. ⌜ r ≡ axisLine (split 9 (now (line .entry))) ⌝ }
+{
+    if text::parts(line, 9) != 6 {
+        return Record::Fault(UNREAD);
+    }
+    let a = axis(text::part(line, 9, 1));
+    let i = inner(text::part(line, 9, 2));
+    let r = rule(text::part(line, 9, 3));
+    let g = size(
+        Position::Gap,
+        text::part(line, 9, 4),
+        text::part(line, 9, 5),
+    );
+    make_axis(a, i, r, g)
+}
+
+fn make_sizes(spare: bool, a: AxisField, min: SizeField, max: SizeField) -> Record
+    ensures { λ r. ⌜ r ≡ madeSizes spare a min max ⌝ }
+{
+    let fault = first_fault(a.fault, first_fault(min.fault, max.fault));
+    let axis = a.axis;
+    if fault != 0 {
+        return Record::Fault(fault);
+    }
+    if spare {
+        Record::Spare(axis, min.word, max.word)
+    } else {
+        Record::Track(axis, min.word, max.word)
+    }
+}
+
+// `track` or `spare`, axis, minimum kind, value, maximum kind, value
+pub fn sizes_line(spare: bool, line: &[u8]) -> Record
+    ensures { λ r. ⌜ r ≡ sizesLine spare (split 9 (now (line .entry))) ⌝ }
+{
+    if text::parts(line, 9) != 6 {
+        return Record::Fault(UNREAD);
+    }
+    let a = axis(text::part(line, 9, 1));
+    let min = size(
+        Position::Minimum,
+        text::part(line, 9, 2),
+        text::part(line, 9, 3),
+    );
+    let max = size(
+        Position::Maximum,
+        text::part(line, 9, 4),
+        text::part(line, 9, 5),
+    );
+    make_sizes(spare, a, min, max)
+}
+
+fn make_repeat(a: AxisField, n: RepeatRecord) -> Record
+    ensures { λ r. ⌜ r ≡ madeRepeat a n ⌝ }
+{
+    let axis = a.axis;
+    if a.fault != 0 {
+        return Record::Fault(a.fault);
+    }
+    if n.fault == UNREAD {
+        return Record::Fault(UNREAD);
+    }
+    Record::Repeat(axis, n)
+}
+
+// `repeat`, axis, count or `fill` or `fit`
+pub fn repeat_line(line: &[u8]) -> Record
+    ensures { λ r. ⌜ r ≡ repeatLine (split 9 (now (line .entry))) ⌝ }
+{
+    if text::parts(line, 9) != 3 {
+        return Record::Fault(UNREAD);
+    }
+    let a = axis(text::part(line, 9, 1));
+    let n = repetition(text::part(line, 9, 2));
+    make_repeat(a, n)
+}
+
+fn make_end(a: AxisField) -> Record
+    ensures { λ r. ⌜ r ≡ madeEnd a ⌝ }
+{
+    let axis = a.axis;
+    if a.fault == 0 {
+        Record::End(axis)
+    } else {
+        Record::Fault(a.fault)
+    }
+}
+
+// `end`, axis
+pub fn end_line(line: &[u8]) -> Record
+    ensures { λ r. ⌜ r ≡ endLine (split 9 (now (line .entry))) ⌝ }
+{
+    if text::parts(line, 9) != 2 {
+        return Record::Fault(UNREAD);
+    }
+    make_end(axis(text::part(line, 9, 1)))
+}

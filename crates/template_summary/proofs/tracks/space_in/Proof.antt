@@ -1,0 +1,56 @@
+use borrow.Author.Needs.{needs}
+use Rattle.template_summary.proofs.tracks.space_in.Statement.{statement}
+use Rattle.template_summary.proofs.tracks.space_in.Tie as tie
+
+enum-told : tie.Need-enum-told
+enum-told c = search needs
+
+track-space-requires : tie.Need-track-space-requires
+track-space-requires c κs = search needs
+
+enum-told-2 : tie.Need-enum-told-2
+enum-told-2 c = search needs
+
+track-space-requires-2 : tie.Need-track-space-requires-2
+track-space-requires-2 c κs = search needs
+
+enum-told-3 : tie.Need-enum-told-3
+enum-told-3 c = search needs
+
+repeated-track-space-requires : tie.Need-repeated-track-space-requires
+repeated-track-space-requires c κs = search needs
+
+enum-told-4 : tie.Need-enum-told-4
+enum-told-4 c = search needs
+
+repeated-track-space-requires-2 : tie.Need-repeated-track-space-requires-2
+repeated-track-space-requires-2 c κs = search needs
+
+returns : tie.Need-returns
+returns c = rw (c .before .enum-told .given .1) (c .track-space .ensures)
+
+returns-2 : tie.Need-returns-2
+returns-2 c = rw (c .before .enum-told2 .given .1) (c .track-space2 .ensures)
+
+returns-3 : tie.Need-returns-3
+returns-3 c = rw (c .before .enum-told3 .given .1) (c .repeated-track-space .ensures)
+
+returns-4 : tie.Need-returns-4
+returns-4 c = rw (c .before .enum-told4 .given .1) (c .repeated-track-space2 .ensures)
+
+pub space-in-spec : {M : Type 1} → statement M
+space-in-spec =
+    tie.close
+    (tie.spec
+    enum-told
+    track-space-requires
+    enum-told-2
+    track-space-requires-2
+    enum-told-3
+    repeated-track-space-requires
+    enum-told-4
+    repeated-track-space-requires-2
+    returns
+    returns-2
+    returns-3
+    returns-4)

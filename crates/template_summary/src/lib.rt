@@ -1,0 +1,3 @@
+// Layer 3: what one walk over a template gathers.
+pub mod summary;
+mod tracks;

@@ -1,0 +1,60 @@
+use Rattle.explicit_grid.specs.Template.{templateOf}
+use Rattle.grid_track.specs.Written.{sparesOf}
+use Rattle.grid_track.specs.Records.{itemAt}
+use Rattle.grid_track.proofs.RecordList.{gutter-record, track-record}
+use borrow.Author.Needs.{needs}
+use Rattle.track_rule.proofs.rule.record_with.Statement.{statement}
+use Rattle.track_rule.proofs.rule.record_with.Tie as tie
+
+gutter-requires : tie.Need-gutter-requires
+gutter-requires c κs = search needs
+
+returns : tie.Need-returns
+returns c = rw (c .before .if1 .taken) (c .gutter .ensures)
+
+sub-t : tie.Need-sub-t
+sub-t c = search needs
+
+track-with-requires : tie.Need-track-with-requires
+track-with-requires c κs = search needs
+
+collapses-requires : tie.Need-collapses-requires
+collapses-requires c κs = search needs
+
+either-requires : tie.Need-either-requires
+either-requires c κs = search needs
+
+gutter-requires-2 : tie.Need-gutter-requires-2
+gutter-requires-2 c κs = search needs
+
+returns-2 : tie.Need-returns-2
+returns-2 c =
+    let g = c .before .before .before .before .before .before .before .before .before .before .before .before .before .args in
+    gutter-record (g .axis) (g .plan) (templateOf (g .components .now) (g .minimums .now) (g .maximums .now)) (sparesOf (g .spare-minimums .now) (g .spare-maximums .now)) (itemAt (g .items .now)) (g .at) (g .index) (c .before .before .before .before .before .before .if1 .left)
+    (c .before .before .before .before .before .track-with .result) (c .before .before .before .before .collapses .result) (c .before .before .before .before .before .track-with .ensures) (c .before .before .before .before .collapses .ensures)
+    (c .gutter2 .result) (c .before .either .result) (c .before .before .before .if2 .taken) (c .before .either .ensures) (c .gutter2 .ensures)
+
+track-requires : tie.Need-track-requires
+track-requires c κs = search needs
+
+returns-3 : tie.Need-returns-3
+returns-3 c =
+    let g = c .before .before .before .before .before .before .before .before .before .before .before .before .args in
+    track-record (g .axis) (g .plan) (templateOf (g .components .now) (g .minimums .now) (g .maximums .now)) (sparesOf (g .spare-minimums .now) (g .spare-maximums .now)) (itemAt (g .items .now)) (g .at) (g .index) (c .before .before .before .before .before .if1 .left)
+    (c .before .before .before .before .track-with .result) (c .before .before .before .collapses .result) (c .before .before .before .before .track-with .ensures) (c .before .before .before .collapses .ensures)
+    (c .track .result) (c .before .before .if2 .left) (c .track .ensures)
+
+pub record-with-spec : {M : Type 1} → statement M
+record-with-spec =
+    tie.close
+    (tie.spec
+    gutter-requires
+    returns
+    sub-t
+    track-with-requires
+    collapses-requires
+    either-requires
+    gutter-requires-2
+    returns-2
+    track-requires
+    returns-3)

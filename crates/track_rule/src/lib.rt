@@ -1,0 +1,2 @@
+// The rule for one track record.
+pub mod rule;
