@@ -6,13 +6,14 @@
 #![allow(dead_code)]
 use std::fmt;
 
-const AXIS_WORDS: usize = 12_480;
-const AXIS_MARKS: usize = 30_000;
-const AREA_WORDS: usize = 128;
-const AREA_BYTES: usize = 2_048;
-const PLACEMENT_WORDS: usize = 512;
-const PLACEMENT_BYTES: usize = 16_384;
-const STORE_BYTES: usize = 32_768;
+/// Lengths of the buffers that are lent, as in `palgwern.h`.
+pub const AXIS_WORDS: usize = 12_480;
+pub const AXIS_MARKS: usize = 30_000;
+pub const AREA_WORDS: usize = 128;
+pub const AREA_BYTES: usize = 2_048;
+pub const PLACEMENT_WORDS: usize = 512;
+pub const PLACEMENT_BYTES: usize = 16_384;
+pub const STORE_BYTES: usize = 32_768;
 /// The most name entries of an axis.
 pub const ENTRIES: usize = 4_096;
 /// The words of a record.

@@ -1,13 +1,7 @@
 //! Everything that is lent to the calls, each buffer between guards.
 
-/// The lengths of the arrays, as in `palgwern.h`.
-const AXIS_WORDS: usize = 12_480;
-const AREA_WORDS: usize = 128;
-const PLACEMENT_WORDS: usize = 512;
-const AXIS_MARKS: usize = 30_000;
-const AREA_BYTES: usize = 2_048;
-const PLACEMENT_BYTES: usize = 16_384;
-pub const STORE_BYTES: usize = 32_768;
+pub use crate::palgwern::STORE_BYTES;
+use crate::palgwern::{AREA_BYTES, AREA_WORDS, AXIS_MARKS, AXIS_WORDS, PLACEMENT_BYTES, PLACEMENT_WORDS};
 
 /// Places in `words`.
 pub const COLUMNS: usize = 0;
