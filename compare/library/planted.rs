@@ -5,7 +5,7 @@ use crate::palgwern::raw;
 use std::sync::atomic::{AtomicUsize, Ordering};
 
 /// The faults, from 1 on.
-pub const FAULTS: [&str; 20] = [
+pub const FAULTS: [&str; 22] = [
     "a refused sheet changes a word",
     "a word that the tables held reaches the panel",
     "a sheet writes past the columns",
@@ -26,6 +26,8 @@ pub const FAULTS: [&str; 20] = [
     "a record too few is counted",
     "refused records are counted",
     "the first record of a run is another",
+    "the last placement of a run is another",
+    "a name of a run is another",
 ];
 
 /// The fault in place, 0 for none.
@@ -102,5 +104,17 @@ pub fn in_records(lent: &mut Lent, answer: &mut raw::CountAnswer) {
         19 if answer.number == 10 => answer.count = 3,
         20 if answer.number == 0 => words[0] ^= 2,
         _ => (),
+    }
+}
+
+pub fn in_placements(lent: &mut Lent, answer: &raw::CountAnswer) {
+    if planted() == 21 && answer.count > 0 {
+        lent.words[RECORDS].content_mut()[3 * answer.count as usize - 1] ^= 1;
+    }
+}
+
+pub fn in_names(lent: &mut Lent, answer: &raw::CountAnswer) {
+    if planted() == 22 && answer.count > 0 {
+        lent.words[RECORDS].content_mut()[0] ^= 1 << 16;
     }
 }

@@ -2,6 +2,7 @@
 use crate::calls::{self, Numbers};
 use crate::lent::*;
 use crate::palgwern::{raw, State};
+use crate::planted;
 use crate::promises::{of_refusal, twice, Promises, Twice};
 
 /// Two numbers of a run lie in each word that is lent.
@@ -11,13 +12,15 @@ fn placements(lent: &mut Lent, panel: State, numbers: Numbers) -> raw::CountAnsw
     let [areabytes, placementbytes] = [AREA_NAMES, PLACEMENT_NAMES].map(|at| lent.bytes[at].content().as_ptr());
     let run = run.content_mut();
     // SAFETY: as in `calls::read_sheet`; any word is two numbers.
-    unsafe {
+    let answer = unsafe {
         raw::palgwern_resolve_placements(
             panel, columns.content().as_ptr().cast(), rows.content().as_ptr().cast(), columnstore.as_ptr(), columnstore.len(),
             rowstore.as_ptr(), rowstore.len(), areas.content().as_ptr().cast(), areabytes.cast(), placements.content().as_ptr().cast(),
             placementbytes.cast(), numbers.place, run.as_mut_ptr().cast(), 2 * run.len(),
         )
-    }
+    };
+    planted::in_placements(lent, &answer);
+    answer
 }
 
 fn names(lent: &mut Lent, panel: State, numbers: Numbers) -> raw::CountAnswer {
@@ -25,12 +28,14 @@ fn names(lent: &mut Lent, panel: State, numbers: Numbers) -> raw::CountAnswer {
     let (columnstore, rowstore) = (lent.bytes[COLUMN_STORE].content(), lent.bytes[ROW_STORE].content());
     let run = run.content_mut();
     // SAFETY: as above.
-    unsafe {
+    let answer = unsafe {
         raw::palgwern_line_names(
             panel, columns.content().as_ptr().cast(), rows.content().as_ptr().cast(), columnstore.as_ptr(), columnstore.len(),
             rowstore.as_ptr(), rowstore.len(), numbers.axis, run.as_mut_ptr(), run.len(),
         )
-    }
+    };
+    planted::in_names(lent, &answer);
+    answer
 }
 
 /// The three words of a placement that is asked for alone.
@@ -52,7 +57,7 @@ pub fn resolve_placements(lent: &Lent, panel: State, numbers: Numbers) -> (u32, 
     promises.push(("only the numbers lent are written", after.is_but_for(lent, &[RECORDS], &[])));
     promises.push(("as many placements are written as there are and fit", answer.number != 0 || answer.count == there.min(fit)));
     promises.push(("numbers past the placements stay", written[end..] == held[end..]));
-    promises.push(("a placement of a run is the one asked for alone", written[..end].chunks(3).enumerate().step_by(7).all(&mut same)));
+    promises.push(("a placement of a run is the one asked for alone", written[..end].chunks(3).enumerate().all(&mut same)));
     (answer.number, promises)
 }
 
