@@ -6,7 +6,7 @@ ghost use Rattle.panel_text.specs.Written.{WritesLine};
 ghost use Rattle.panel_answer.specs.Answer.{placedLine};
 ghost use Rattle.panel_answer.specs.Walk.{placeFrom};
 use crate::AnswerLine;
-use panel_grid::placing::resolve_placement;
+use panel_resolving::placing::resolve_placement;
 use panel_tables::Panel;
 use panel_tables::area::AREA_BYTES;
 use panel_tables::area::AREA_WORDS;

@@ -9,7 +9,7 @@ use Rattle.tables.specs.Runs.{partOf}
 use Rattle.panel_tables.specs.declared.Panel.{Panel}
 use Rattle.panel_tables.specs.Placements.{axisOf}
 use Rattle.panel_rules.specs.Calls.{NameTables, storeIn, lineNameIn}
-use Rattle.panel_grid.specs.LineEntries.{lineEntryIn}
+use Rattle.panel_naming.specs.LineEntries.{lineEntryIn}
 use Rattle.panel_numbers.specs.declared.NameAnswer.{NameAnswer}
 use Rattle.panel_numbers.specs.Answers.{isAxis, namePart}
 

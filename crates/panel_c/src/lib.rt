@@ -91,7 +91,7 @@ pub extern "C" fn palgwern_enter_name(
             panel,
         };
     }
-    let entered = panel_grid::entering::enter_name(
+    let entered = panel_entry::entering::enter_name(
         panel,
         columns,
         rows,
@@ -168,7 +168,7 @@ pub extern "C" fn palgwern_resolve_placement(
 ) -> PlacementNumbers
     ensures { λ r. ⌜ r ≡ placementNumbers (resolvePlacement panel (record { columns = now (columns .entry); rows = now (rows .entry); columnStore = now (columnstore .entry); rowStore = now (rowstore .entry) }) (record { words = now (areas .entry); bytes = now (areabytes .entry) }) (record { words = now (placements .entry); bytes = now (placementbytes .entry) }) index) ⌝ }
 {
-    let answer = panel_grid::placing::resolve_placement(
+    let answer = panel_resolving::placing::resolve_placement(
         panel,
         columns,
         rows,
@@ -236,7 +236,7 @@ pub extern "C" fn palgwern_line_name(
             length: 0,
         };
     }
-    let entry = panel_grid::naming::line_entry(
+    let entry = panel_naming::naming::line_entry(
         panel,
         columns,
         rows,

@@ -1,19 +1,13 @@
 // The calls on a panel: each takes the panel by value and is lent the tables and stores that it reads or writes.
 pub mod axis_track;
-pub mod ends;
-pub mod entering;
-pub mod naming;
 pub mod part;
-pub mod placing;
-pub mod resolving;
 pub mod run;
 pub mod size;
-pub mod store;
 pub mod track;
 
-pub use entering::enter_name;
-pub use naming::line_name;
-pub use placing::resolve_placement;
+pub use panel_entry::entering::enter_name;
+pub use panel_naming::naming::line_name;
+pub use panel_resolving::placing::resolve_placement;
 pub use run::initialize_grid_tracks;
 pub use sheet::read_sheet;
 pub use size::explicit_size;

@@ -5,7 +5,6 @@ ghost use Rattle.tables.specs.Runs.{partOf};
 use coordinates::Axis;
 use tables::AxisState;
 use tables::layout::AXIS_WORDS;
-use tables::layout::ENTRIES;
 use tables::layout::MAXIMUMS;
 use tables::layout::MINIMUMS;
 use tables::layout::SPARE_MAXIMUMS;
@@ -59,11 +58,4 @@ pub fn spare_maximums_of(state: AxisState, words: &[u64]) -> &[u64]
     ensures { λ r. ⌜ now r ≡ partOf (now (words .entry)) 4224 (state .spares) ⌝ }
 {
     words_part(words, SPARE_MAXIMUMS, state.spares)
-}
-
-// The name entries.
-pub fn entries_of(state: AxisState, words: &[u64]) -> &[u64]
-    ensures { λ r. ⌜ now r ≡ partOf (now (words .entry)) 8384 (state .entries) ⌝ }
-{
-    words_part(words, ENTRIES, state.entries)
 }

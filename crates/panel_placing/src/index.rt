@@ -5,7 +5,7 @@ ghost use Rattle.name_index.specs.Index.{Indexed};
 use name_index::index::KEYS;
 use name_index::index::PLACES;
 use name_index::index::index_entries;
-use panel_grid::part::entries_of;
+use panel_stores::store::entries_of;
 use tables::AxisState;
 use tables::layout::AXIS_WORDS;
 

@@ -3,7 +3,7 @@ use mathlib.Core.Path.{ap}
 use borrow.Author.Tests.{le-ltb}
 use lib.Dec.{ltb}
 use Rattle.panel_rules.specs.Placing.{resolvePlacement}
-use Rattle.panel_grid.proofs.Placed.{placed}
+use Rattle.panel_resolving.proofs.Placed.{placed}
 use borrow.Author.Needs.{needs}
 use Rattle.panel_placing.proofs.resolve.resolve_beside.Statement.{statement}
 use Rattle.panel_placing.proofs.resolve.resolve_beside.Tie as tie

@@ -1,0 +1,2 @@
+-- What the contracts of an entry call cite.
+pub mod Entered

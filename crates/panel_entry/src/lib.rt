@@ -1,0 +1,2 @@
+// A line and a name entered in an axis of a panel.
+pub mod entering;

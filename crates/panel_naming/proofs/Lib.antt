@@ -1,0 +1,2 @@
+-- A law of line names: the entry that shows one.
+pub mod LineEntries

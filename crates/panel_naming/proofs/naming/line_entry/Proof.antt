@@ -1,0 +1,49 @@
+use borrow.Author.Tests.{lt-ltb, le-ltb}
+use Rattle.panel_naming.specs.LineEntries.{lineEntryIn}
+use borrow.Author.Needs.{needs}
+use Rattle.panel_naming.proofs.naming.line_entry.Statement.{statement}
+use Rattle.panel_naming.proofs.naming.line_entry.Tie as tie
+
+smaller-requires : tie.Need-smaller-requires
+smaller-requires c κs = search needs
+
+no-entry-requires : tie.Need-no-entry-requires
+no-entry-requires c κs = search needs
+
+returns : tie.Need-returns
+unfolding lineEntryIn
+returns c = rw (← c .before .before .smaller .ensures, lt-ltb _ _ (c .before .if1 .taken)) (c .no-entry .ensures)
+
+enum-told : tie.Need-enum-told
+enum-told c = search needs
+
+entry-on-requires : tie.Need-entry-on-requires
+entry-on-requires c κs = search needs
+
+enum-told-2 : tie.Need-enum-told-2
+enum-told-2 c = search needs
+
+entry-on-requires-2 : tie.Need-entry-on-requires-2
+entry-on-requires-2 c κs = search needs
+
+returns-2 : tie.Need-returns-2
+unfolding lineEntryIn
+returns-2 c = rw (← c .before .before .before .before .smaller .ensures, le-ltb _ _ (c .before .before .before .if1 .left), c .before .enum-told .given .1) (c .entry-on .ensures)
+
+returns-3 : tie.Need-returns-3
+unfolding lineEntryIn
+returns-3 c = rw (← c .before .before .before .before .smaller .ensures, le-ltb _ _ (c .before .before .before .if1 .left), c .before .enum-told2 .given .1) (c .entry-on2 .ensures)
+
+pub line-entry-spec : {M : Type 1} → statement M
+line-entry-spec =
+    tie.close
+    (tie.spec
+    smaller-requires
+    no-entry-requires
+    returns
+    enum-told
+    entry-on-requires
+    enum-told-2
+    entry-on-requires-2
+    returns-2
+    returns-3)

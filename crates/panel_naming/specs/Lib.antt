@@ -1,0 +1,2 @@
+-- What the contracts of the line names cite.
+pub mod LineEntries

@@ -1,0 +1,2 @@
+// The line names of a panel.
+pub mod naming;

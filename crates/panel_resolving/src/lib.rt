@@ -1,0 +1,4 @@
+// The placements of a panel with their names resolved.
+pub mod ends;
+pub mod placing;
+pub mod resolving;

@@ -1,0 +1,2 @@
+// What the calls on a panel read of its stores.
+pub mod store;
