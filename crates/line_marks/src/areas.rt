@@ -56,7 +56,7 @@ fn mark_area(
 }
 
 // The word at a place, 0 past the end.
-fn word_at(words: &[u64], at: usize) -> u64
+pub fn word_at(words: &[u64], at: usize) -> u64
     ensures { λ r. ⌜ r ≡ getD (now (words .entry)) at 0 ⌝ }
 {
     if at < words.len() {

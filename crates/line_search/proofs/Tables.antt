@@ -63,25 +63,23 @@ bears-edge : (book : List Entry) (areas : List Area) (nm : Bytes) (s : Side) (nu
 unfolding bears
 bears-edge book areas nm s number = rw (any-same (edged? nm s number) (drawn? (nm ++ suffix s) number) areas (λ a. sym (drawn-edge nm s number a)))
 
+-- the number of an edge of an area that lies in the tables
+pub edge-line : (axis : Axis) (w n : ℕ) (store : List ℕ) (s : Side) → edgeIn axis s w ≡ edge (areaOf axis w n store) s
+edge-line axis w n store start = refl
+edge-line axis w n store end = refl
+
 -- an edge of an area that lies in the tables
 module _ (ms : List ℕ) (low : ℕ) (axis : Axis) (w n : ℕ) (store : List ℕ) (s : Side) (nm : Bytes) where
-  edge-line : edgeIn axis s w ≡ edge (areaOf axis w n store) s
-  edge-line = go s
-    where
-      go : (s : Side) → edgeIn axis s w ≡ edge (areaOf axis w n store) s
-      go start = refl
-      go end = refl
-
   pub edge-marked : (after : List ℕ) (line : ℕ) → line ≡ edgeIn axis s w → eqBytes (nameIn store (entryOf n)) nm ≡ true → Adds ms after (λ k. eqb line (suc (low + k)))
       → Adds ms after (λ k. edged? nm s (suc (low + k)) (areaOf axis w n store))
   edge-marked after line e yea f =
-      mark-if ms after low (edge (areaOf axis w n store) s) (eqBytes (nameIn store (entryOf n)) nm) yea (rw (e ∙ edge-line) at f)
+      mark-if ms after low (edge (areaOf axis w n store) s) (eqBytes (nameIn store (entryOf n)) nm) yea (rw (e ∙ edge-line axis w n store s) at f)
 
   pub edge-passed : eqBytes (nameIn store (entryOf n)) nm ≡ false → Adds ms ms (λ k. edged? nm s (suc (low + k)) (areaOf axis w n store))
   edge-passed nay = mark-not ms low (edge (areaOf axis w n store) s) (eqBytes (nameIn store (entryOf n)) nm) nay
 
   pub edge-outside : (line : ℕ) → line ≡ edgeIn axis s w → liesIn low (length ms) line ≡ false → Adds ms ms (λ k. edged? nm s (suc (low + k)) (areaOf axis w n store))
-  edge-outside line e o = mark-outside ms low (edge (areaOf axis w n store) s) (eqBytes (nameIn store (entryOf n)) nm) (rw (e ∙ edge-line) at o)
+  edge-outside line e o = mark-outside ms low (edge (areaOf axis w n store) s) (eqBytes (nameIn store (entryOf n)) nm) (rw (e ∙ edge-line axis w n store s) at o)
 
 -- no drawn area has an edge of a name that ends in neither suffix
 bears-plain : (book : List Entry) (areas : List Area) (nm : Bytes) (number : ℕ) → endsWith nm (suffix start) ≡ false → endsWith nm (suffix end) ≡ false

@@ -1,5 +1,8 @@
--- Laws of the name index.
+-- Laws of chains and of grouped entries.
 pub mod Chaining
 pub mod Keying
-pub mod Candidacy
-pub mod Agreement
+pub mod Listing
+pub mod KeyEntries
+pub mod GroupWords
+pub mod Grouping
+pub mod Groups

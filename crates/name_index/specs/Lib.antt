@@ -1,5 +1,4 @@
--- What the contracts of the name index cite.
+-- What the contracts of grouped entries and of chains cite.
 pub mod Chains
-pub mod Keys
-pub mod Candidates
-pub mod Index
+pub mod Listing
+pub mod Grouping

@@ -1,6 +1,5 @@
-// An index of the name entries of an axis: chains of the entries whose names have the same key. A run of placements is resolved beside it.
-mod candidates;
+// The name entries of an axis copied group after group, by the keys of their names; and places of a table chained by a key.
 pub mod chains;
+pub mod group;
 pub mod index;
-mod key;
-pub mod resolve;
+pub mod listed;

@@ -1,13 +1,10 @@
 -- What a search over marks comes to, in the words of the rule. Assumes nothing.
 use mathlib.Core.Path.{_≡_, refl, sym, _∙_, ap}
-use mathlib.Core.Logic.{⊎-elim}
 use mathlib.Core.Bool.{Bool, true, false}
 use mathlib.Core.List.{List, _++_}
 use Prim.Native.Nat.{ℕ, zero, suc, pred, _+_, _-_, _≤_, _<_, max, min}
 use native.Mathlib.Numerals.{add-one}
 use native.Mathlib.Omega.{arith}
-use borrow.Author.Tests.{ne-eqb}
-use lib.Dec.{eqb}
 use lib.IntN.{ℤ, pos, negsuc, _+ℤ_, _-ℤ_}
 use Rattle.coordinates.specs.Lines.{held, Within}
 use Rattle.coordinates.proofs.Lines.{held-within, lt-or-ge}
@@ -21,22 +18,13 @@ use Rattle.coordinates.specs.declared.signed.Signed.the-variants.{NonNegative, 
 use Rattle.line_search.specs.Marks.{seekOf, back}
 use Rattle.line_search.specs.declared.Found.{Found}
 use Rattle.line_search.specs.declared.Found.the-variants.{At, Left}
-use Rattle.named.specs.Counts.{countedLine, isZero, indexCount, CountedSpan, firstLine, LeftFits, foundLine}
-use Rattle.named.specs.declared.count.Count.{Count}
-use Rattle.named.specs.declared.count.Count.the-variants.{Forwards, Backwards}
+use Rattle.line_counts.specs.Counts.{CountFits, countedLine, isZero, indexCount, CountedSpan, firstLine, foundLine}
+use Rattle.line_counts.specs.declared.count.Count.{Count}
+use Rattle.line_counts.specs.declared.count.Count.the-variants.{Forwards, Backwards}
 use Rattle.line_search.proofs.Suffixes.{never}
-use Rattle.line_search.proofs.Walk.{left-le}
-
--- what is left is no more than what was to be passed over
-pub left-fits : (p : ℕ → Bool) (k f m : ℕ) (r : Found) → m < 65536 → seekOf r ≡ seek p k f m → LeftFits r
-left-fits p k f m (At l) h e = tt
-left-fits p k f m (Left n) h e = omega (arith, left-le p k f m n e)
+use Rattle.named.proofs.Integers.{minus-small, plus-small}
 
 -- a count forwards
-pub first-small : (s : Signed) → Small s → firstLine (integerOf s) < 32768
-first-small (NonNegative l) h = h
-first-small (Negative k) h = omega arith
-
 forwards-first : (e : ℕ) (p : ℕ → Bool) (z : ℤ) (m : ℕ) → pos (upFrom e p (firstLine z) m) ≡ forwards e p z m
 forwards-first e p (pos f) m = refl
 forwards-first e p (negsuc f) m = refl
@@ -78,10 +66,6 @@ module _ (e : ℕ) (names : Bytes → ℕ → Bool) (nm : Bytes) (s : Side) (z :
   find-left r q h = rw (← q) h
 
 -- 0 is told from the other numbers
-pub zero-test : (n : ℕ) → eqb n 0 ≡ isZero (pos n)
-zero-test zero = refl
-zero-test (suc n) = ne-eqb (suc n) 0 (λ e. omega arith)
-
 pub zero-is : (i : ℤ) → isZero i ≡ true → i ≡ pos 0
 zero-is (pos zero) h = refl
 zero-is (pos (suc i)) h = never h
@@ -91,10 +75,6 @@ pub zero-not : (i : ℤ) → isZero i ≡ false → i ≡ pos 0 → ⊥
 zero-not i h e = never (sym (rw e at h))
 
 -- an index and a span as counts
-pub index-pos : (e i : ℕ) → (i ≡ 0 → ⊥) → Forwards (NonNegative 0) (i - 1) ≡ indexCount e (pos i)
-index-pos e zero h = absurd (h refl)
-index-pos e (suc i) h = let q : suc i - 1 ≡ i = omega arith in rw q
-
 pub find-count : (e : ℕ) (names : Bytes → ℕ → Bool) (nm : Bytes) (s : Side) (i : ℤ) → isZero i ≡ false
     → countedLine e (marks e names nm) (indexCount e i) ≡ find e names nm s i
 find-count e names nm s (pos zero) h = never (sym h)
@@ -107,6 +87,18 @@ span-counted e names Css.start nm n o (Forwards first over) h = absurd h
 span-counted e names Css.start nm n o (Backwards last over) h = rw (h .0, h .1)
 span-counted e names Css.end nm n o (Forwards first over) h = rw (h .0, h .1)
 span-counted e names Css.end nm n o (Backwards last over) h = absurd h
+
+-- both counts begin near the grid
+pub index-fits : (e : ℕ) (i : Signed) → e ≤ 10000 → Small i → CountFits (indexCount e (integerOf i))
+index-fits e (NonNegative zero) h s = (omega arith, omega arith)
+index-fits e (NonNegative (suc i)) h s = (omega arith, omega arith)
+index-fits e (Negative i) h s = (omega arith, omega arith)
+
+pub span-fits : (s : Side) (n : ℕ) (o : ℤ) (c : Count) → n < 65536 → Within o → CountedSpan s n o c → CountFits c
+span-fits Css.start n o (Forwards first over) h w q = absurd q
+span-fits Css.start n o (Backwards last over) h w q = (minus-small last o w (q .0), omega (arith, q .1))
+span-fits Css.end n o (Forwards first over) h w q = (plus-small first o w (q .0), omega (arith, q .1))
+span-fits Css.end n o (Backwards last over) h w q = absurd q
 
 -- what is found is held
 module _ (e : ℕ) (names : Bytes → ℕ → Bool) where

@@ -1,3 +1,2 @@
 -- What the contracts of the resolver cite.
-pub mod Counts
 pub mod Placements

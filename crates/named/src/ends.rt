@@ -6,17 +6,18 @@ ghost use Rattle.line_placement.specs.Rule.{beside, lineAt, numbered, resolved,
 ghost use Rattle.line_search.specs.Areas.{bearsIn, sideOf};
 ghost use Rattle.named.specs.Placements.{answerOf, gridLineOf, nameOf, placementOf};
 ghost use mathlib.Core.List.{[]};
+ghost use Rattle.name_groups.specs.Groups.{Grouped};
 ghost use mathlib.Core.Path.{_≡_};
 use crate::GridPlacement;
 use crate::Name;
 use crate::NonNamedGridPlacement;
-use crate::count;
 use crate::find;
 use coordinates::Axis;
 use coordinates::signed;
 use coordinates::signed::Signed;
 use grid_lines::GridLine;
 use grid_lines::OriginZeroLine;
+use line_counts::count;
 use line_search::GridAreaEnd;
 use name_store::NameEntry;
 use name_store::entry;
@@ -49,6 +50,8 @@ pub(crate) fn numbered_end(
     explicit: u16,
     axis: Axis,
     entries: &[u64],
+    grouped: &[u64],
+    groups: &[u64],
     store: &[u8],
     edges: &[u64],
     areas: &[u64],
@@ -58,6 +61,7 @@ pub(crate) fn numbered_end(
     end: GridAreaEnd,
 ) -> GridPlacement
     requires { ⌜ explicit ≤ 10000 ⌝ }
+    requires { ⌜ Grouped (now entries) (now store) (now grouped) (now groups) ⌝ }
     ensures { λ r. ⌜ placementOf (now (names .entry)) r ≡ numbered explicit (bearsIn axis (now (entries .entry)) (now (store .entry)) (now (edges .entry)) (now (areas .entry)) (now (areastore .entry))) (sideOf end) (placementOf (now (names .entry)) placement) ⌝ }
 {
     match placement {
@@ -68,6 +72,8 @@ pub(crate) fn numbered_end(
                 explicit,
                 axis,
                 entries,
+                grouped,
+                groups,
                 store,
                 edges,
                 areas,
@@ -101,6 +107,8 @@ fn named_span(
     explicit: u16,
     axis: Axis,
     entries: &[u64],
+    grouped: &[u64],
+    groups: &[u64],
     store: &[u8],
     edges: &[u64],
     areas: &[u64],
@@ -111,6 +119,7 @@ fn named_span(
     end: GridAreaEnd,
 ) -> NonNamedGridPlacement
     requires { ⌜ explicit ≤ 10000 ⌝ }
+    requires { ⌜ Grouped (now entries) (now store) (now grouped) (now groups) ⌝ }
     ensures { λ r. ⌜ r ≡ answerOf (beside explicit (bearsIn axis (now (entries .entry)) (now (store .entry)) (now (edges .entry)) (now (areas .entry)) (now (areastore .entry))) (line .0) (spanFrom explicit (bearsIn axis (now (entries .entry)) (now (store .entry)) (now (edges .entry)) (now (areas .entry)) (now (areastore .entry))) (sideOf end) (now (name .entry)) span)) ⌝ }
 {
     let number = line.0;
@@ -122,6 +131,8 @@ fn named_span(
         explicit,
         axis,
         entries,
+        grouped,
+        groups,
         store,
         edges,
         areas,
@@ -139,6 +150,8 @@ pub(crate) fn resolved_end(
     explicit: u16,
     axis: Axis,
     entries: &[u64],
+    grouped: &[u64],
+    groups: &[u64],
     store: &[u8],
     edges: &[u64],
     areas: &[u64],
@@ -149,6 +162,7 @@ pub(crate) fn resolved_end(
     end: GridAreaEnd,
 ) -> NonNamedGridPlacement
     requires { ⌜ explicit ≤ 10000 ⌝ }
+    requires { ⌜ Grouped (now entries) (now store) (now grouped) (now groups) ⌝ }
     ensures { λ r. ⌜ r ≡ answerOf (resolved explicit (bearsIn axis (now (entries .entry)) (now (store .entry)) (now (edges .entry)) (now (areas .entry)) (now (areastore .entry))) (sideOf end) (line .0) (placementOf (now (names .entry)) placement)) ⌝ }
 {
     match placement {
@@ -160,6 +174,8 @@ pub(crate) fn resolved_end(
             explicit,
             axis,
             entries,
+            grouped,
+            groups,
             store,
             edges,
             areas,

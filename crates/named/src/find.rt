@@ -5,24 +5,27 @@ ghost use Rattle.coordinates.specs.Signed.{Small, integerOf};
 ghost use Rattle.line_placement.specs.Rule as Rule;
 ghost use Rattle.line_placement.specs.Rule.{backwards, find, forwards, spanFrom};
 ghost use Rattle.line_search.specs.Areas.{bearsIn, sideOf};
-ghost use Rattle.named.specs.Counts.{CountFits, countedLine};
+ghost use Rattle.line_counts.specs.Counts.{CountFits, countedLine};
 ghost use lib.IntN.{pos};
+ghost use Rattle.name_groups.specs.Groups.{Grouped};
 ghost use mathlib.Core.Path.{_≡_};
-use crate::count;
-use crate::count::Count;
 use coordinates::Axis;
 use coordinates::signed;
 use coordinates::signed::Signed;
 use grid_lines::OriginZeroLine;
+use line_counts::count;
+use line_counts::count::Count;
 use line_search::Found;
 use line_search::GridAreaEnd;
-use nth_line::search;
+use name_search::search;
 
 // The line of a name after `over` lines of it that are not before `first`; missing lines are counted on past the explicit grid.
 fn find_forwards(
     explicit: u16,
     axis: Axis,
     entries: &[u64],
+    grouped: &[u64],
+    groups: &[u64],
     store: &[u8],
     edges: &[u64],
     areas: &[u64],
@@ -31,13 +34,15 @@ fn find_forwards(
     first: Signed,
     over: u32,
 ) -> Signed
-    requires { ⌜ Small first × (over < 65536) ⌝ }
+    requires { ⌜ Grouped (now entries) (now store) (now grouped) (now groups) ⌝ }
     ensures { λ r. ⌜ integerOf r ≡ held (forwards explicit (Rule.marks explicit (bearsIn axis (now (entries .entry)) (now (store .entry)) (now (edges .entry)) (now (areas .entry)) (now (areastore .entry))) (now (name .entry))) (integerOf first) over) ⌝ }
 {
     let line = count::first_line(first);
     let found = search::seek_forwards(
         axis,
         entries,
+        grouped,
+        groups,
         store,
         edges,
         areas,
@@ -54,6 +59,8 @@ fn find_backwards(
     explicit: u16,
     axis: Axis,
     entries: &[u64],
+    grouped: &[u64],
+    groups: &[u64],
     store: &[u8],
     edges: &[u64],
     areas: &[u64],
@@ -63,6 +70,7 @@ fn find_backwards(
     over: u32,
 ) -> Signed
     requires { ⌜ (explicit ≤ 10000) × Small last × (over < 65536) ⌝ }
+    requires { ⌜ Grouped (now entries) (now store) (now grouped) (now groups) ⌝ }
     ensures { λ r. ⌜ integerOf r ≡ held (backwards explicit (Rule.marks explicit (bearsIn axis (now (entries .entry)) (now (store .entry)) (now (edges .entry)) (now (areas .entry)) (now (areastore .entry))) (now (name .entry))) (integerOf last) over) ⌝ }
 {
     match last {
@@ -71,6 +79,8 @@ fn find_backwards(
             let found = search::seek_backwards(
                 axis,
                 entries,
+                grouped,
+                groups,
                 store,
                 edges,
                 areas,
@@ -90,6 +100,8 @@ fn find_line(
     explicit: u16,
     axis: Axis,
     entries: &[u64],
+    grouped: &[u64],
+    groups: &[u64],
     store: &[u8],
     edges: &[u64],
     areas: &[u64],
@@ -98,6 +110,7 @@ fn find_line(
     count: Count,
 ) -> Signed
     requires { ⌜ (explicit ≤ 10000) × CountFits count ⌝ }
+    requires { ⌜ Grouped (now entries) (now store) (now grouped) (now groups) ⌝ }
     ensures { λ r. ⌜ integerOf r ≡ countedLine explicit (Rule.marks explicit (bearsIn axis (now (entries .entry)) (now (store .entry)) (now (edges .entry)) (now (areas .entry)) (now (areastore .entry))) (now (name .entry))) count ⌝ }
 {
     match count {
@@ -105,6 +118,8 @@ fn find_line(
             explicit,
             axis,
             entries,
+            grouped,
+            groups,
             store,
             edges,
             areas,
@@ -117,6 +132,8 @@ fn find_line(
             explicit,
             axis,
             entries,
+            grouped,
+            groups,
             store,
             edges,
             areas,
@@ -133,6 +150,8 @@ fn find_area_line(
     explicit: u16,
     axis: Axis,
     entries: &[u64],
+    grouped: &[u64],
+    groups: &[u64],
     store: &[u8],
     edges: &[u64],
     areas: &[u64],
@@ -141,14 +160,28 @@ fn find_area_line(
     end: GridAreaEnd,
 ) -> Signed
     requires { ⌜ explicit ≤ 10000 ⌝ }
+    requires { ⌜ Grouped (now entries) (now store) (now grouped) (now groups) ⌝ }
     ensures { λ r. ⌜ integerOf r ≡ find explicit (bearsIn axis (now (entries .entry)) (now (store .entry)) (now (edges .entry)) (now (areas .entry)) (now (areastore .entry))) (now (name .entry)) (sideOf end) (pos 0) ⌝ }
 {
-    match search::seek_edge(axis, entries, store, edges, areas, areastore, name, end) {
+    match search::seek_edge(
+        axis,
+        entries,
+        grouped,
+        groups,
+        store,
+        edges,
+        areas,
+        areastore,
+        name,
+        end,
+    ) {
         Found::At(l) => signed::hold(Signed::NonNegative(l)),
         Found::Left(_) => find_line(
             explicit,
             axis,
             entries,
+            grouped,
+            groups,
             store,
             edges,
             areas,
@@ -164,6 +197,8 @@ pub(crate) fn find_named_line(
     explicit: u16,
     axis: Axis,
     entries: &[u64],
+    grouped: &[u64],
+    groups: &[u64],
     store: &[u8],
     edges: &[u64],
     areas: &[u64],
@@ -173,6 +208,7 @@ pub(crate) fn find_named_line(
     end: GridAreaEnd,
 ) -> Signed
     requires { ⌜ (explicit ≤ 10000) × Small index ⌝ }
+    requires { ⌜ Grouped (now entries) (now store) (now grouped) (now groups) ⌝ }
     ensures { λ r. ⌜ integerOf r ≡ find explicit (bearsIn axis (now (entries .entry)) (now (store .entry)) (now (edges .entry)) (now (areas .entry)) (now (areastore .entry))) (now (name .entry)) (sideOf end) (integerOf index) ⌝ }
 {
     if count::is_zero(index) {
@@ -180,6 +216,8 @@ pub(crate) fn find_named_line(
             explicit,
             axis,
             entries,
+            grouped,
+            groups,
             store,
             edges,
             areas,
@@ -192,6 +230,8 @@ pub(crate) fn find_named_line(
         explicit,
         axis,
         entries,
+        grouped,
+        groups,
         store,
         edges,
         areas,
@@ -206,6 +246,8 @@ pub(crate) fn span_line(
     explicit: u16,
     axis: Axis,
     entries: &[u64],
+    grouped: &[u64],
+    groups: &[u64],
     store: &[u8],
     edges: &[u64],
     areas: &[u64],
@@ -216,12 +258,15 @@ pub(crate) fn span_line(
     end: GridAreaEnd,
 ) -> Signed
     requires { ⌜ (explicit ≤ 10000) × Within (beside .0) ⌝ }
+    requires { ⌜ Grouped (now entries) (now store) (now grouped) (now groups) ⌝ }
     ensures { λ r. ⌜ integerOf r ≡ spanFrom explicit (bearsIn axis (now (entries .entry)) (now (store .entry)) (now (edges .entry)) (now (areas .entry)) (now (areastore .entry))) (sideOf end) (now (name .entry)) span (beside .0) ⌝ }
 {
     find_line(
         explicit,
         axis,
         entries,
+        grouped,
+        groups,
         store,
         edges,
         areas,

@@ -1,5 +1,4 @@
 // Layer 4, the resolver: which line a name stands for.
-mod count;
 pub mod ends;
 mod find;
 pub mod resolve;

@@ -2,6 +2,7 @@
 ghost use Prim.Native.Nat.{_≤_};
 ghost use Rattle.line_search.specs.Areas.{axisNames, bearsIn};
 ghost use Rattle.named.specs.Placements.{Numbered, refusedResolution, resolutionOf, resolvedEndsOf};
+ghost use Rattle.name_groups.specs.Groups.{Grouped};
 ghost use mathlib.Core.Path.{_≡_};
 use crate::Line;
 use crate::NonNamedGridPlacement;
@@ -17,6 +18,8 @@ fn numbered_line(
     explicit: u16,
     axis: Axis,
     entries: &[u64],
+    grouped: &[u64],
+    groups: &[u64],
     store: &[u8],
     edges: &[u64],
     areas: &[u64],
@@ -25,6 +28,7 @@ fn numbered_line(
     line: Line,
 ) -> Line
     requires { ⌜ explicit ≤ 10000 ⌝ }
+    requires { ⌜ Grouped (now entries) (now store) (now grouped) (now groups) ⌝ }
     ensures { λ r. ⌜ Numbered explicit (bearsIn axis (now (entries .entry)) (now (store .entry)) (now (edges .entry)) (now (areas .entry)) (now (areastore .entry))) (now (names .entry)) line r ⌝ }
 {
     let start = line.start;
@@ -33,6 +37,8 @@ fn numbered_line(
         explicit,
         axis,
         entries,
+        grouped,
+        groups,
         store,
         edges,
         areas,
@@ -45,6 +51,8 @@ fn numbered_line(
         explicit,
         axis,
         entries,
+        grouped,
+        groups,
         store,
         edges,
         areas,
@@ -64,6 +72,8 @@ fn resolved_line(
     explicit: u16,
     axis: Axis,
     entries: &[u64],
+    grouped: &[u64],
+    groups: &[u64],
     store: &[u8],
     edges: &[u64],
     areas: &[u64],
@@ -72,6 +82,7 @@ fn resolved_line(
     line: Line,
 ) -> ResolvedLine
     requires { ⌜ explicit ≤ 10000 ⌝ }
+    requires { ⌜ Grouped (now entries) (now store) (now grouped) (now groups) ⌝ }
     ensures { λ r. ⌜ r ≡ resolvedEndsOf explicit (bearsIn axis (now (entries .entry)) (now (store .entry)) (now (edges .entry)) (now (areas .entry)) (now (areastore .entry))) (now (names .entry)) line ⌝ }
 {
     let start = line.start;
@@ -80,6 +91,8 @@ fn resolved_line(
         explicit,
         axis,
         entries,
+        grouped,
+        groups,
         store,
         edges,
         areas,
@@ -93,6 +106,8 @@ fn resolved_line(
         explicit,
         axis,
         entries,
+        grouped,
+        groups,
         store,
         edges,
         areas,
@@ -122,6 +137,58 @@ fn refused() -> Resolution
     }
 }
 
+// What `resolve_line_names` answers, where `grouped` and `groups` hold the entries by the keys of their names.
+pub fn resolve_grouped(
+    explicit: u16,
+    axis: Axis,
+    entries: &[u64],
+    grouped: &[u64],
+    groups: &[u64],
+    store: &[u8],
+    edges: &[u64],
+    areas: &[u64],
+    areastore: &[u8],
+    names: &[u8],
+    line: Line,
+) -> Resolution
+    requires { ⌜ Grouped (now entries) (now store) (now grouped) (now groups) ⌝ }
+    ensures { λ r. ⌜ r ≡ resolutionOf (axisNames explicit axis (now (entries .entry)) (now (store .entry)) (now (edges .entry)) (now (areas .entry)) (now (areastore .entry))) (now (names .entry)) line ⌝ }
+{
+    if 10000 < explicit {
+        return refused();
+    }
+    let numbered = numbered_line(
+        explicit,
+        axis,
+        entries,
+        grouped,
+        groups,
+        store,
+        edges,
+        areas,
+        areastore,
+        names,
+        line,
+    );
+    let resolved = resolved_line(
+        explicit,
+        axis,
+        entries,
+        grouped,
+        groups,
+        store,
+        edges,
+        areas,
+        areastore,
+        names,
+        numbered,
+    );
+    Resolution {
+        refusal: refusal::no_refusal(),
+        line: resolved,
+    }
+}
+
 // Resolve the names of both ends of a placement. Refused by 4 where the explicit count is above 10,000.
 // `entries` and `store` hold the names of the axis, `edges`, `areas` and `areastore` the drawn areas, `names` the bytes of placements' names.
 pub fn resolve_line_names(
@@ -137,33 +204,17 @@ pub fn resolve_line_names(
 ) -> Resolution
     ensures { λ r. ⌜ r ≡ resolutionOf (axisNames explicit axis (now (entries .entry)) (now (store .entry)) (now (edges .entry)) (now (areas .entry)) (now (areastore .entry))) (now (names .entry)) line ⌝ }
 {
-    if 10000 < explicit {
-        return refused();
-    }
-    let numbered = numbered_line(
+    resolve_grouped(
         explicit,
         axis,
         entries,
+        entries,
+        &entries[0..0],
         store,
         edges,
         areas,
         areastore,
         names,
         line,
-    );
-    let resolved = resolved_line(
-        explicit,
-        axis,
-        entries,
-        store,
-        edges,
-        areas,
-        areastore,
-        names,
-        numbered,
-    );
-    Resolution {
-        refusal: refusal::no_refusal(),
-        line: resolved,
-    }
+    )
 }

@@ -1,4 +1,4 @@
-// Lines of a name before a line, the last first, in two windows: the next 64 lines, whose marks cost little, then the rest.
+// Lines of a name before a line, the last first: one nearest line after the other for few entries, else in two windows, the next 64 lines, whose marks cost little, then the rest.
 ghost use Prim.Native.Nat.{_-_, _≤_, min};
 ghost use Rattle.line_search.specs.Areas.{soughtIn};
 ghost use Rattle.line_search.specs.Marks.{back, seekOf};
@@ -9,6 +9,8 @@ use coordinates::Axis;
 use line_marks::marks;
 use line_search::Found;
 use line_search::suffix::AreaEdge;
+use nearest_line::distance;
+use nearest_line::few;
 
 // The near window: at most 64 lines from `low` on, the last first.
 fn near_backwards(
@@ -62,7 +64,7 @@ fn far_backwards(
     if end == 0 {
         return Found::Left(over);
     }
-    let last = highest::lower(highest::highest_line(axis, entries, edges), end);
+    let last = distance::lower(highest::highest_line(axis, entries, edges), end);
     let mut marks = [0u8; 20000];
     marks::mark_sought(
         &mut marks,
@@ -89,8 +91,8 @@ fn near_start(end: u32) -> u32
     end - 64
 }
 
-// The line of the name before `end` after `over` lines of it, the last first.
-pub fn backwards(
+// The line of the name before `end` after `over` lines of it, the last first, by windows of marks.
+fn many_backwards(
     axis: Axis,
     entries: &[u64],
     store: &[u8],
@@ -104,7 +106,7 @@ pub fn backwards(
 ) -> Found
     ensures { λ r. ⌜ seekOf r ≡ back (soughtIn axis (now (entries .entry)) (now (store .entry)) (now (edges .entry)) (now (areas .entry)) (now (areastore .entry)) (now (stem .entry)) edge) 0 (min end 20000) over ⌝ }
 {
-    let past = highest::lower(end, 20000);
+    let past = distance::lower(end, 20000);
     let low = near_start(past);
     match near_backwards(
         axis,
@@ -133,4 +135,47 @@ pub fn backwards(
             m,
         ),
     }
+}
+
+// The line of the name before `end` after `over` lines of it, the last first.
+pub fn backwards(
+    axis: Axis,
+    entries: &[u64],
+    store: &[u8],
+    edges: &[u64],
+    areas: &[u64],
+    areastore: &[u8],
+    stem: &[u8],
+    edge: AreaEdge,
+    end: u32,
+    over: u32,
+) -> Found
+    ensures { λ r. ⌜ seekOf r ≡ back (soughtIn axis (now (entries .entry)) (now (store .entry)) (now (edges .entry)) (now (areas .entry)) (now (areastore .entry)) (now (stem .entry)) edge) 0 (min end 20000) over ⌝ }
+{
+    if (entries.len() <= 16) & (edges.len() <= 16) {
+        return few::few_backwards(
+            axis,
+            entries,
+            store,
+            edges,
+            areas,
+            areastore,
+            stem,
+            edge,
+            end,
+            over,
+        );
+    }
+    many_backwards(
+        axis,
+        entries,
+        store,
+        edges,
+        areas,
+        areastore,
+        stem,
+        edge,
+        end,
+        over,
+    )
 }

@@ -1,5 +1,5 @@
 // The highest line that any entry or area edge has: no line past it bears a name.
-ghost use Prim.Native.Nat.{max, min};
+ghost use Prim.Native.Nat.{max};
 ghost use Rattle.line_search.specs.HighestLine.{higherEdge, highestEntry, highestLine};
 ghost use Rattle.name_store.specs.Entries.{entryOf};
 ghost use mathlib.Core.Path.{_≡_};
@@ -16,16 +16,6 @@ fn higher(a: u32, b: u32) -> u32
         return b;
     }
     a
-}
-
-// The smaller of two numbers.
-pub fn lower(a: u32, b: u32) -> u32
-    ensures { λ r. ⌜ r ≡ min a b ⌝ }
-{
-    if a < b {
-        return a;
-    }
-    b
 }
 
 // A number, or that of an entry's line where it is higher.

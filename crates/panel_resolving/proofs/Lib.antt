@@ -1,3 +1,4 @@
--- Laws of placements: numbers that are held (HeldNumbers), and the answer (Placed).
+-- Laws of placements: numbers that are held (HeldNumbers), the answer (Placed), and the groups of names (Groups).
 pub mod HeldNumbers
 pub mod Placed
+pub mod Groups

@@ -2,6 +2,7 @@
 ghost use mathlib.Core.Path.{_≡_};
 ghost use Rattle.panel_rules.specs.Calls.{NameTables, NamedWords};
 ghost use Rattle.panel_rules.specs.Placing.{refusedPlacement, placedBy, resolvePlacement};
+ghost use Rattle.panel_resolving.specs.Groups.{PanelGroups};
 use crate::ends::line_placement;
 use crate::resolving::resolve_in;
 use crate::resolving::zero_line;
@@ -9,6 +10,7 @@ use coordinates::Axis;
 use coordinates::refusal;
 use named::Resolution;
 use panel_rules::PlacementAnswer;
+use panel_stores::store::entries_of;
 use panel_stores::store::smaller;
 use panel_tables::Panel;
 use panel_tables::area::AREA_BYTES;
@@ -50,6 +52,52 @@ pub fn placed_by(resolved: Resolution, axis: Axis, short: bool) -> PlacementAnsw
     }
 }
 
+// What `resolve_placement` answers, where the names of both axes are held in groups.
+pub fn resolve_beside(
+    panel: Panel,
+    columns: &[u64; AXIS_WORDS],
+    rows: &[u64; AXIS_WORDS],
+    columnstore: &[u8],
+    rowstore: &[u8],
+    columngrouped: &[u64],
+    columngroups: &[u64],
+    rowgrouped: &[u64],
+    rowgroups: &[u64],
+    areas: &[u64; AREA_WORDS],
+    areabytes: &[u8; AREA_BYTES],
+    placements: &[u64; PLACEMENT_WORDS],
+    placementbytes: &[u8; PLACEMENT_BYTES],
+    index: u32,
+) -> PlacementAnswer
+    requires { ⌜ PanelGroups panel (record { columns = now columns; rows = now rows; columnStore = now columnstore; rowStore = now rowstore }) (now columngrouped) (now columngroups) (now rowgrouped) (now rowgroups) ⌝ }
+    ensures { λ r. ⌜ r ≡ resolvePlacement panel (record { columns = now (columns .entry); rows = now (rows .entry); columnStore = now (columnstore .entry); rowStore = now (rowstore .entry) }) (record { words = now (areas .entry); bytes = now (areabytes .entry) }) (record { words = now (placements .entry); bytes = now (placementbytes .entry) }) index ⌝ }
+{
+    if panel.placements <= index {
+        return refused_placement(refusal::COUNT);
+    }
+    let place = placement_at(placements, index);
+    let axis = place.axis;
+    let line = line_placement(place);
+    let resolved = resolve_in(
+        panel,
+        columns,
+        rows,
+        columnstore,
+        rowstore,
+        columngrouped,
+        columngroups,
+        rowgrouped,
+        rowgroups,
+        areas,
+        areabytes,
+        placementbytes,
+        axis,
+        line,
+    );
+    let shorter = smaller(columnstore.len(), rowstore.len());
+    placed_by(resolved, axis, shorter < 32768)
+}
+
 // Placement `index` of a panel with its names resolved. 4: no such placement; 10: a store below 32,768 bytes.
 pub fn resolve_placement(
     panel: Panel,
@@ -65,24 +113,22 @@ pub fn resolve_placement(
 ) -> PlacementAnswer
     ensures { λ r. ⌜ r ≡ resolvePlacement panel (record { columns = now (columns .entry); rows = now (rows .entry); columnStore = now (columnstore .entry); rowStore = now (rowstore .entry) }) (record { words = now (areas .entry); bytes = now (areabytes .entry) }) (record { words = now (placements .entry); bytes = now (placementbytes .entry) }) index ⌝ }
 {
-    if panel.placements <= index {
-        return refused_placement(refusal::COUNT);
-    }
-    let place = placement_at(placements, index);
-    let axis = place.axis;
-    let line = line_placement(place);
-    let resolved = resolve_in(
+    let ofcolumns = entries_of(panel.columns, columns);
+    let ofrows = entries_of(panel.rows, rows);
+    resolve_beside(
         panel,
         columns,
         rows,
         columnstore,
         rowstore,
+        ofcolumns,
+        &ofcolumns[0..0],
+        ofrows,
+        &ofrows[0..0],
         areas,
         areabytes,
+        placements,
         placementbytes,
-        axis,
-        line,
-    );
-    let shorter = smaller(columnstore.len(), rowstore.len());
-    placed_by(resolved, axis, shorter < 32768)
+        index,
+    )
 }

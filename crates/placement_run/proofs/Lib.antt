@@ -1,2 +1,3 @@
 -- Laws of a run of placements.
 pub mod PlacementRuns
+pub mod Entries

@@ -16,6 +16,7 @@ use panel_tables::placement::PLACEMENT_BYTES;
 use panel_tables::placement::PLACEMENT_WORDS;
 use tables::layout::AXIS_WORDS;
 
+mod group;
 mod put;
 mod write;
 

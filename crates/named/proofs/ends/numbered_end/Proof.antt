@@ -25,10 +25,10 @@ split-16-bits-requires : tie.Need-split-16-bits-requires
 split-16-bits-requires c κs = search needs
 
 find-named-line-requires : tie.Need-find-named-line-requires
-find-named-line-requires c κs = (c .before .before .before .before .before .before .before .before .before .before .before .pre, c .split-16-bits .ensures .small)
+find-named-line-requires c κs = let s = c .before .before .before .before .before .before .before .before .before .before .before .before .before in ((s .pre .0, c .split-16-bits .ensures .small), s .pre .1)
 
 grid-line-requires : tie.Need-grid-line-requires
-grid-line-requires c κs = let a = c .before .before .before .before .before .before .before .before .before .before .before .before .args in (c .before .before .before .before .before .before .before .before .before .before .before .before .pre, rw (c .find-named-line .ensures) (find-within (a .explicit) (bearsIn (a .axis) (a .entries .now) (a .store .now) (a .edges .now) (a .areas .now) (a .areastore .now)) (c .before .before .name-of .result .now) (sideOf (a .end)) (integerOf (c .before .split-16-bits .result))))
+grid-line-requires c κs = let a = c .before .before .before .before .before .before .before .before .before .before .before .before .before .before .args in (c .before .before .before .before .before .before .before .before .before .before .before .before .before .before .pre .0, rw (c .find-named-line .ensures) (find-within (a .explicit) (bearsIn (a .axis) (a .entries .now) (a .store .now) (a .edges .now) (a .areas .now) (a .areastore .now)) (c .before .before .name-of .result .now) (sideOf (a .end)) (integerOf (c .before .split-16-bits .result))))
 
 enum-told-3 : tie.Need-enum-told-3
 enum-told-3 c = search needs

@@ -26,11 +26,11 @@ find-line-requires : tie.Need-find-line-requires
 find-line-requires c κs = search needs
 
 returns : tie.Need-returns
-returns c = let a = c .before .before .before .before .before .before .before .before .before .before .before .args in let found : seekOf (At (c .before .before .l .given .0 .0)) ≡ seek (marks (a .explicit) (bearsIn (a .axis) (a .entries .now) (a .store .now) (a .edges .now) (a .areas .now) (a .areastore .now)) (a .name .now ++ suffix (sideOf (a .end)))) 20000 0 0 = rw (c .before .before .l .given .1) at (c .before .before .before .before .seek-edge .ensures) in
+returns c = let a = c .before .before .before .before .before .before .before .before .before .before .before .before .before .args in let found : seekOf (At (c .before .before .l .given .0 .0)) ≡ seek (marks (a .explicit) (bearsIn (a .axis) (a .entries .now) (a .store .now) (a .edges .now) (a .areas .now) (a .areastore .now)) (a .name .now ++ suffix (sideOf (a .end)))) 20000 0 0 = rw (c .before .before .l .given .1) at (c .before .before .before .before .seek-edge .ensures) in
     find-at (a .explicit) (bearsIn (a .axis) (a .entries .now) (a .store .now) (a .edges .now) (a .areas .now) (a .areastore .now)) (a .name .now) (sideOf (a .end)) _ (c .before .before .l .given .0 .0) found (c .hold .ensures)
 
 returns-2 : tie.Need-returns-2
-returns-2 c = let a = c .before .before .before .before .before .before .before .before .before .before .args in let found : seekOf (Left (c .before .enum-told .given .0 .0)) ≡ seek (marks (a .explicit) (bearsIn (a .axis) (a .entries .now) (a .store .now) (a .edges .now) (a .areas .now) (a .areastore .now)) (a .name .now ++ suffix (sideOf (a .end)))) 20000 0 0 = rw (c .before .enum-told .given .1) at (c .before .before .before .seek-edge .ensures) in
+returns-2 c = let a = c .before .before .before .before .before .before .before .before .before .before .before .before .args in let found : seekOf (Left (c .before .enum-told .given .0 .0)) ≡ seek (marks (a .explicit) (bearsIn (a .axis) (a .entries .now) (a .store .now) (a .edges .now) (a .areas .now) (a .areastore .now)) (a .name .now ++ suffix (sideOf (a .end)))) 20000 0 0 = rw (c .before .enum-told .given .1) at (c .before .before .before .seek-edge .ensures) in
     find-left (a .explicit) (bearsIn (a .axis) (a .entries .now) (a .store .now) (a .edges .now) (a .areas .now) (a .areastore .now)) (a .name .now) (sideOf (a .end)) _ (c .before .enum-told .given .0 .0) found (c .find-line .ensures)
 
 pub find-area-line-spec : {M : Type 1} → statement M

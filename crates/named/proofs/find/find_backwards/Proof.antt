@@ -24,16 +24,16 @@ line-backwards-requires c κs = search needs
 enum-known-last-2 : tie.Need-enum-known-last-2
 enum-known-last-2 c = search needs
 
-add-t16 : tie.Need-add-t16
-add-t16 c = let h : Small (Negative (c .before .last2 .given .0 .0)) = rw (c .before .last2 .given .1) at (c .before .before .before .before .before .before .before .before .before .pre .1) in record { fits = omega (arith, c .before .before .before .before .before .before .before .before .before .pre .2) }
+add-t18 : tie.Need-add-t18
+add-t18 c = let h : Small (Negative (c .before .last2 .given .0 .0)) = rw (c .before .last2 .given .1) at (c .before .before .before .before .before .before .before .before .before .before .before .pre .0 .1) in record { fits = omega (arith, c .before .before .before .before .before .before .before .before .before .before .before .pre .0 .2) }
 
 hold-requires : tie.Need-hold-requires
 hold-requires c κs = search needs
 
 returns : tie.Need-returns
-returns c = let a = c .before .before .before .before .before .before .before .before .before .before .before .before .args in let l = c .before .before .before .before .last .given .0 .0 in let n = c .before .before .explicit-end in let s = c .before .seek-backwards in
+returns c = let a = c .before .before .before .before .before .before .before .before .before .before .before .before .before .before .args in let l = c .before .before .before .before .last .given .0 .0 in let n = c .before .before .explicit-end in let s = c .before .seek-backwards in
     rw (c .before .before .before .before .last .given .1)
-    (found-backwards (a .explicit) (marks (a .explicit) (bearsIn (a .axis) (a .entries .now) (a .store .now) (a .edges .now) (a .areas .now) (a .areastore .now)) (a .name .now)) l (a .over) (n .result) (seekOf (s .result)) (integerOf (c .line-backwards .result)) (c .before .before .before .before .before .before .before .before .before .before .before .before .pre .0) (n .ensures) (s .ensures) (c .line-backwards .ensures))
+    (found-backwards (a .explicit) (marks (a .explicit) (bearsIn (a .axis) (a .entries .now) (a .store .now) (a .edges .now) (a .areas .now) (a .areastore .now)) (a .name .now)) l (a .over) (n .result) (seekOf (s .result)) (integerOf (c .line-backwards .result)) (c .before .before .before .before .before .before .before .before .before .before .before .before .before .before .pre .0 .0) (n .ensures) (s .ensures) (c .line-backwards .ensures))
 
 returns-2 : tie.Need-returns-2
 returns-2 c = rw (c .before .before .last2 .given .1) (c .hold .ensures)
@@ -47,7 +47,7 @@ find-backwards-spec =
     seek-backwards-requires
     line-backwards-requires
     enum-known-last-2
-    add-t16
+    add-t18
     hold-requires
     returns
     returns-2)

@@ -1,5 +1,5 @@
-use Rattle.named.specs.Counts.{CountFits}
-use Rattle.named.specs.declared.count.Count.the-variants.{Forwards, Backwards}
+use Rattle.line_counts.specs.Counts.{CountFits}
+use Rattle.line_counts.specs.declared.count.Count.the-variants.{Backwards}
 use borrow.Author.Needs.{needs}
 use Rattle.named.proofs.find.find_line.Statement.{statement}
 use Rattle.named.proofs.find.find_line.Tie as tie
@@ -8,13 +8,13 @@ enum-known-count : tie.Need-enum-known-count
 enum-known-count c = search needs
 
 find-forwards-requires : tie.Need-find-forwards-requires
-find-forwards-requires c κs = let h : CountFits (Forwards (c .before .count .given .0 .0) (c .before .count .given .0 .1 .0)) = rw (c .before .count .given .1) at (c .before .before .before .before .before .before .before .before .before .pre .1) in h
+find-forwards-requires c κs = search needs
 
 enum-known-count-2 : tie.Need-enum-known-count-2
 enum-known-count-2 c = search needs
 
 find-backwards-requires : tie.Need-find-backwards-requires
-find-backwards-requires c κs = let h : CountFits (Backwards (c .before .count2 .given .0 .0) (c .before .count2 .given .0 .1 .0)) = rw (c .before .count2 .given .1) at (c .before .before .before .before .before .before .before .before .before .pre .1) in (c .before .before .before .before .before .before .before .before .before .pre .0, h .0, h .1)
+find-backwards-requires c κs = let h : CountFits (Backwards (c .before .count2 .given .0 .0) (c .before .count2 .given .0 .1 .0)) = rw (c .before .count2 .given .1) at (c .before .before .before .before .before .before .before .before .before .before .before .pre .0 .1) in ((c .before .before .before .before .before .before .before .before .before .before .before .pre .0 .0, h .0, h .1), c .before .before .before .before .before .before .before .before .before .before .before .pre .1)
 
 returns : tie.Need-returns
 returns c = rw (c .before .before .count .given .1) (c .find-forwards .ensures)

@@ -1,45 +1,30 @@
-use borrow.Author.Tests.{le-leb, lt-leb}
-use Rattle.line_search.specs.Areas.{bearsIn}
-use Rattle.named.specs.Placements.{resolutionOf}
-use Rattle.named.proofs.Resolving.{numbered-ends, named-bears}
+use mathlib.Core.Path.{refl}
+use Rattle.name_groups.proofs.Ungrouped.{ungrouped}
 use borrow.Author.Needs.{needs}
 use Rattle.named.proofs.resolve.resolve_line_names.Statement.{statement}
 use Rattle.named.proofs.resolve.resolve_line_names.Tie as tie
 
-refused-requires : tie.Need-refused-requires
-refused-requires c κs = search needs
+sub-resolve-grouped : tie.Need-sub-resolve-grouped
+sub-resolve-grouped c = search needs
+
+part-resolve-grouped-start : tie.Need-part-resolve-grouped-start
+part-resolve-grouped-start c = search needs
+
+part-resolve-grouped-end : tie.Need-part-resolve-grouped-end
+part-resolve-grouped-end c = search needs
+
+resolve-grouped-requires : tie.Need-resolve-grouped-requires
+resolve-grouped-requires c κs = let a = c .before .before .before .before .before .before .before .args in ungrouped (a .entries .now) (a .store .now) _ refl
 
 returns : tie.Need-returns
-unfolding resolutionOf
-returns c = rw (lt-leb (c .before .before .before .before .before .before .before .before .args .explicit) 10000 (c .before .if1 .taken), c .refused .ensures)
-
-numbered-line-requires : tie.Need-numbered-line-requires
-numbered-line-requires c κs = search needs
-
-resolved-line-requires : tie.Need-resolved-line-requires
-resolved-line-requires c κs = search needs
-
-no-refusal-requires : tie.Need-no-refusal-requires
-no-refusal-requires c κs = search needs
-
-returns-2 : tie.Need-returns-2
-unfolding resolutionOf
-returns-2 c = let a = c .before .before .before .before .before .before .before .before .before .before .args in
-    rw (
-      le-leb (a .explicit) 10000 (c .before .before .before .if1 .left),
-      c .no-refusal .ensures,
-      c .before .resolved-line .ensures,
-      numbered-ends (a .explicit) (bearsIn (a .axis) (a .entries .now) (a .store .now) (a .edges .now) (a .areas .now) (a .areastore .now)) (a .names .now) (a .line) (c .before .before .numbered-line .result) (c .before .before .numbered-line .ensures),
-      named-bears (a .explicit) (a .axis) (a .entries .now) (a .store .now) (a .edges .now) (a .areas .now) (a .areastore .now),
-    )
+returns c = search needs
 
 pub resolve-line-names-spec : {M : Type 1} → statement M
 resolve-line-names-spec =
     tie.close
     (tie.spec
-    refused-requires
-    returns
-    numbered-line-requires
-    resolved-line-requires
-    no-refusal-requires
-    returns-2)
+    sub-resolve-grouped
+    part-resolve-grouped-start
+    part-resolve-grouped-end
+    resolve-grouped-requires
+    returns)

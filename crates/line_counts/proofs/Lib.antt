@@ -1,0 +1,2 @@
+-- Laws of counted lines.
+pub mod Counting

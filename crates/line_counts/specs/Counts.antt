@@ -1,0 +1,51 @@
+-- How the lines of a name are counted: from which line, which way, and past how many.
+use mathlib.Core.Path.{_≡_}
+use mathlib.Core.Bool.{Bool, true, false}
+use Prim.Native.Nat.{ℕ, zero, suc, pred, _<_}
+use lib.IntN.{ℤ, pos, negsuc, _+ℤ_, _-ℤ_}
+use Rattle.coordinates.specs.Lines.{held}
+use Rattle.coordinates.specs.Signed.{integerOf, Small}
+use Rattle.coordinates.specs.declared.signed.Signed.the-variants.{NonNegative}
+use Rattle.line_placement.specs.Css.{Side, start, end}
+use Rattle.line_placement.specs.Rule.{Seek, at, left, forwards, backwards}
+use Rattle.line_counts.specs.declared.count.Count.{Count}
+use Rattle.line_counts.specs.declared.count.Count.the-variants.{Forwards, Backwards}
+
+-- a count that begins near the grid and passes over at most 65,535 lines
+abbrev pub CountFits : Count → Type 0
+CountFits (Forwards first over) = Small first × (over < 65536)
+CountFits (Backwards last over) = Small last × (over < 65536)
+
+-- the line that it comes to among the lines that p marks, held
+abbrev pub countedLine : ℕ → (ℕ → Bool) → Count → ℤ
+countedLine explicit p (Forwards first over) = held (forwards explicit p (integerOf first) over)
+countedLine explicit p (Backwards last over) = held (backwards explicit p (integerOf last) over)
+
+-- 0, which is no line and no index
+abbrev pub isZero : ℤ → Bool
+isZero (pos zero) = true
+isZero (pos (suc n)) = false
+isZero (negsuc k) = false
+
+-- an index counts from line 0 on, 0 as 1; a negative one from the last explicit line back
+abbrev pub indexCount : ℕ → ℤ → Count
+indexCount explicit (pos zero) = Forwards (NonNegative 0) 0
+indexCount explicit (pos (suc i)) = Forwards (NonNegative 0) i
+indexCount explicit (negsuc i) = Backwards (NonNegative explicit) i
+
+-- a span of a start counts back from the line before o, a span of an end on from the line after it; a span of 0 as 1
+abbrev pub CountedSpan : Side → ℕ → ℤ → Count → Type 0
+CountedSpan start n o (Forwards first over) = ⊥
+CountedSpan start n o (Backwards last over) = (integerOf last ≡ o -ℤ pos 1) × (over ≡ pred n)
+CountedSpan end n o (Forwards first over) = (integerOf first ≡ o +ℤ pos 1) × (over ≡ pred n)
+CountedSpan end n o (Backwards last over) = ⊥
+
+-- a count forwards begins at line 0 where its line lies before that
+abbrev pub firstLine : ℤ → ℕ
+firstLine (pos l) = l
+firstLine (negsuc k) = 0
+
+-- the line that a search backwards comes to, every line before line 0 counting
+abbrev pub foundLine : Seek → ℤ
+foundLine (at l) = pos l
+foundLine (left m) = negsuc m

@@ -1,0 +1,2 @@
+-- What the contracts of counted lines cite.
+pub mod Counts

@@ -1,0 +1,75 @@
+-- Entries that list the lines of one name, entry by entry. Assumes nothing.
+use mathlib.Core.Path.{_≡_, refl, sym, _∙_, ap}
+use mathlib.Core.Bool.{Bool, true, false, not, _&&_}
+use mathlib.Core.List.{List}
+use Prim.Native.Nat.{ℕ, _+_, _/_, _≤_, _<_}
+use native.Mathlib.Numerals.{add-one}
+use native.Mathlib.Omega.{arith}
+use borrow.Author.Tests.{le-leb, lt-leb, lt-ltb, le-ltb, not-true, not-false}
+use lib.ListN.{length, getD, drop, drop-of-length-le}
+use lib.Seq.{drop-cons}
+use Rattle.line_placement.specs.Css.{Bytes}
+use Rattle.line_placement.specs.Rule.{eqBytes}
+use Rattle.name_store.specs.declared.NameEntry.{NameEntry}
+use Rattle.name_store.specs.Entries.{entryOf, nameIn}
+use Rattle.name_store.proofs.Same.{same-refl}
+use Rattle.name_groups.specs.Listed.{listedFrom}
+use Rattle.name_index.specs.Listing.{listsNext}
+
+-- entries of the same part of the store have the same name
+pub same-part : (store : List ℕ) (a b : ℕ) → a / 65536 ≡ b / 65536 → eqBytes (nameIn store (entryOf a)) (nameIn store (entryOf b)) ≡ true
+unfolding entryOf
+same-part store a b e =
+    let l : a / 4294967296 ≡ b / 4294967296 = omega arith in
+    rw (e, l) (same-refl (nameIn store (entryOf b)))
+
+-- ---- one entry more
+
+-- tests joined with one that fails, or that holds
+and-none : (a : Bool) → (a && false) ≡ false
+and-none true = refl
+and-none false = refl
+
+and-all : (a : Bool) → (a && true) ≡ a
+and-all true = refl
+and-all false = refl
+
+module _ (store : List ℕ) (nm : Bytes) (n w : ℕ) (e : NameEntry) (known : e ≡ entryOf w) where
+  -- its line
+  line : e .line ≡ entryOf w .line
+  line = ap (λ (x : NameEntry). x .line) known
+
+  -- its line is not after the one
+  pub lists-late : e .line ≤ n → false ≡ listsNext store nm n w
+  lists-late h = rw (le-ltb n (entryOf w .line) (rw line at h)) (sym (and-none (eqBytes (nameIn store (entryOf w)) nm)))
+
+  -- its line is not looked at
+  pub lists-past : n < e .line → 20000 < e .line → false ≡ listsNext store nm n w
+  lists-past h g = rw (lt-ltb n (entryOf w .line) (rw line at h), lt-leb (entryOf w .line) 20000 (rw line at g)) (sym (and-none (eqBytes (nameIn store (entryOf w)) nm)))
+
+  -- it is listed where it has the name
+  pub lists-here : n < e .line → e .line ≤ 20000 → eqBytes (nameIn store (entryOf w)) nm ≡ listsNext store nm n w
+  lists-here h g = rw (lt-ltb n (entryOf w .line) (rw line at h), le-leb (entryOf w .line) 20000 (rw line at g)) (sym (and-all (eqBytes (nameIn store (entryOf w)) nm)))
+
+-- ---- the entries one after the other
+
+module _ (store words : List ℕ) (nm : Bytes) (n i : ℕ) where
+  -- the entry at i, and those after it
+  step : i < length words
+      → listedFrom store nm n (drop i words) ≡ (listsNext store nm n (getD words i 0) && listedFrom store nm (entryOf (getD words i 0) .line) (drop (i + 1) words))
+  unfolding listedFrom
+  step h = rw (drop-cons words i 0 h, add-one i)
+
+  -- an entry that is not listed
+  pub listed-not : i < length words → (t : Bool) → t ≡ listsNext store nm n (getD words i 0) → not t ≡ true → listedFrom store nm n (drop i words) ≡ false
+  listed-not h t e q = step h ∙ rw (← e, not-true t q)
+
+  -- an entry that is
+  pub listed-next : i < length words → (e : NameEntry) → e ≡ entryOf (getD words i 0)
+      → (t : Bool) → t ≡ listsNext store nm n (getD words i 0) → not t ≡ false → listedFrom store nm (e .line) (drop (i + 1) words) ≡ listedFrom store nm n (drop i words)
+  listed-next h e known t f q = rw (ap (λ (x : NameEntry). x .line) known) (sym (step h ∙ rw (← f, not-false t q)))
+
+  -- after the last
+  pub listed-end : length words ≤ i → listedFrom store nm n (drop i words) ≡ true
+  unfolding listedFrom
+  listed-end h = rw (drop-of-length-le words h)

@@ -1,0 +1,2 @@
+-- Laws of the search among groups.
+pub mod Parts

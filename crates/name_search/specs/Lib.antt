@@ -1,0 +1,2 @@
+-- What the contracts of the search among groups cite.
+pub mod Drawn

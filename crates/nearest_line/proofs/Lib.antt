@@ -1,0 +1,4 @@
+-- Laws of the nearest line of a name.
+pub mod Distances
+pub mod Passes
+pub mod Walks

@@ -1,2 +1,0 @@
--- Laws of runs of placements.
-pub mod Entries

@@ -1,2 +1,0 @@
--- What the contracts of runs of placements cite.
-pub mod Indexes

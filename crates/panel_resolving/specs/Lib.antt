@@ -1,0 +1,2 @@
+-- What the contracts of placements beside groups cite.
+pub mod Groups
