@@ -162,7 +162,7 @@ palgwern_placement_answer palgwern_resolve_placement(
     uint32_t index);
 
 /* Placements from `first` on with their names resolved, as many as there are and as fit in `numbers`, six numbers each in the order
- * of palgwern_placement_answer; answers how many. The same answers as one by one, but an index of the names is made once for all,
+ * of palgwern_placement_answer; answers how many. The same answers as one by one, but the names are grouped once for all,
  * so hand over a run for all. Refuses by 4 (`first` is no placement), then by 10 (a short store, or fewer than six numbers). */
 palgwern_count_answer palgwern_resolve_placements(
     palgwern_panel panel, const uint64_t columns[PALGWERN_AXIS_WORDS], const uint64_t rows[PALGWERN_AXIS_WORDS],

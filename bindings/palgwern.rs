@@ -395,7 +395,7 @@ impl Panel {
         Ok(Placement { axis, start: end_of(answer.startkind, answer.startnumber), end: end_of(answer.endkind, answer.endnumber) })
     }
 
-    /// All placements with their names resolved, in one run: the answers of `placement`, with an index of the names made once.
+    /// All placements with their names resolved, in one run: the answers of `placement`, with the names grouped once.
     pub fn resolved(&self) -> Vec<Placement> {
         let mut numbers = vec![0; self.state.placements as usize * PLACEMENT_NUMBERS];
         let written = self.write_placements(0, &mut numbers).unwrap_or(0);

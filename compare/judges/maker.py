@@ -351,6 +351,33 @@ class Maker:
         calls += [self.call() for _ in range(5)]
         return lines, calls, None
 
+    def grouped(self):
+        """Many placements beside many entries of few or many names, in template order and in any order."""
+        letter = self.pick("cr")
+        self.names += [f"n{number:03}" for number in range(self.pick([0, 0, 2, 15, 300]))]
+        size = "len\t00000000\tlen\t00000000"
+        lines = self.area_lines()
+        for _ in range(self.pick([0, 1, 1, 2])):
+            lines.append(f"repeat\t{letter}\t{self.pick([1, 2, 7, 30, 120])}")
+            for _ in range(self.random.randint(1, 8)):
+                lines += self.name_lines(letter, 0.6) + [f"track\t{letter}\t{size}"]
+            lines.append(f"end\t{letter}")
+        calls = [(letter, self.random.randint(1, self.pick([9, 70, 900, 20000])), self.used_name().encode())
+                 for _ in range(self.pick([0, 3, 40, 400]))]
+        if self.chance(0.3):
+            calls.sort(key=lambda call: call[1])
+        for _ in range(self.pick([8, 30, 120, 256])):
+            ends = [self.far_end() if self.chance(0.4) else self.end() for _ in range(2)]
+            lines.append(f"place\t{letter}\t{ends[0]}\t{ends[1]}")
+        return lines, calls, None
+
+    def far_end(self):
+        """A name, or a span of one, counted far on or back."""
+        number = self.random.randint(1, self.pick([20, 400]))
+        if self.chance(0.3):
+            return f"nspan\t{self.used_name()}\t{number}"
+        return f"named\t{self.used_name()}\t{self.pick([number, -number])}"
+
     def long(self):
         """A sheet of just the longest length, or one byte more."""
         lines = self.sheet_lines()
@@ -376,7 +403,7 @@ class Maker:
 
 
 WEIGHTS = {"general": 600, "tie": 100, "large": 8, "over": 5, "far": 5, "writing_out": 12, "full": 12, "store": 2, "long": 3,
-           "damaged": 220, "spoiled": 60}
+           "damaged": 220, "spoiled": 60, "grouped": 0}  # asked for by name alone: the sheets of a seed stay
 
 
 def make(seed, number, only=None):

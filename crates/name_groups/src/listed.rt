@@ -30,7 +30,7 @@ fn has_name(store: &[u8], word: u64, stem: &[u8], edge: AreaEdge) -> bool
 }
 
 // Whether there are entries, and the first has the name.
-fn first_has_name(words: &[u64], store: &[u8], stem: &[u8], edge: AreaEdge) -> bool
+pub fn first_has_name(words: &[u64], store: &[u8], stem: &[u8], edge: AreaEdge) -> bool
     ensures { λ r. ⌜ r ≡ (ltb 0 (length (now (words .entry))) && eqBytes (nameIn (now (store .entry)) (entryOf (getD (now (words .entry)) 0 0))) (now (stem .entry) ++ tailOf edge)) ⌝ }
 {
     if words.len() == 0 {

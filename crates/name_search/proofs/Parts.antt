@@ -1,6 +1,6 @@
 -- The lines of a name by the entries of its group are those by all entries. Assumes nothing.
 use mathlib.Core.Path.{_≡_, refl, sym, _∙_, ap}
-use mathlib.Core.Bool.{Bool, true, false, not, _&&_, _||_}
+use mathlib.Core.Bool.{Bool, true, false, cond, not, _&&_, _||_}
 use mathlib.Core.List.{List, [], _∷_, _++_}
 use Prim.Native.Nat.{ℕ, suc, _+_, _≤_, _<_}
 use native.Mathlib.Nat.{add-zero}
@@ -23,6 +23,8 @@ use Rattle.line_search.proofs.Walk.{seek-alike, back-alike}
 use Rattle.name_groups.specs.Groups.{partFor, listedAt, Grouped}
 use Rattle.name_groups.specs.Keys.{joinedKey, keyOf}
 use Rattle.name_groups.specs.Listed.{listed}
+use Rattle.name_groups.proofs.Listing.{unmarked}
+use Rattle.name_search.specs.Parts.{firstNamed, namedPart}
 use Rattle.name_search.specs.Drawn.{drawnIn, edgesDrawn}
 
 -- where no area has the name, no line is an edge of one
@@ -43,6 +45,13 @@ none-edged-by : (axis : Axis) (edges names store : List ℕ) (stem : Bytes) (sou
 none-edged-by axis edges names store stem Start number h = none-edged axis store stem start number edges names h
 none-edged-by axis edges names store stem End number h = none-edged axis store stem end number edges names h
 none-edged-by axis edges names store stem Neither number h = refl
+
+-- without entries a name is on the same lines where no entry has it
+none-sought : (axis : Axis) (store edges areas areastore : List ℕ) (stem : Bytes) (sought : AreaEdge) (part : List ℕ) (l : ℕ)
+    → any (written? (stem ++ tailOf sought) (suc l)) (entriesOf part store) ≡ false
+    → soughtIn axis [] store edges areas areastore stem sought l ≡ soughtIn axis part store edges areas areastore stem sought l
+unfolding soughtIn bearsJoined entriesOf
+none-sought axis store edges areas areastore stem sought part l h = rw h
 
 not-drawn : (a b : Bool) → (a && not b) ≡ true → (a ≡ true) × (b ≡ false)
 not-drawn true true h = never h
@@ -74,18 +83,35 @@ module _ (axis : Axis) (entries store grouped groups edges areas areastore : Lis
       ∙ ap (λ (b : Bool). any (written? (stem ++ tailOf sought) (suc l)) (entriesOf entries store) || b)
       (sym (none-edged-by axis edges areas areastore stem sought (suc l) (not-drawn (listedAt groups (joinedKey stem sought)) (edgesDrawn edges areas areastore stem sought) h .1)))
 
-  -- what a search in the part comes to, whichever way it goes
-  pub part-up : (part : List ℕ) (key : ℕ) → part ≡ partFor grouped groups key → key ≡ joinedKey stem sought → (n f m : ℕ) (x : Seek)
-      → x ≡ seek (soughtIn axis part store edges areas areastore stem sought) n f m → x ≡ seek (soughtIn axis entries store edges areas areastore stem sought) n f m
-  part-up part key p q n f m x e =
-      e ∙ rw (p, q) (seek-alike (soughtIn axis (partFor grouped groups (joinedKey stem sought)) store edges areas areastore stem sought)
-      (soughtIn axis entries store edges areas areastore stem sought) n f m (λ j g b. part-sought j))
+  -- where the part lists another name, no entry of it has this one
+  own-sought : (l : ℕ) → soughtIn axis (namedPart store (partFor grouped groups (joinedKey stem sought)) (listedAt groups (joinedKey stem sought)) (stem ++ tailOf sought)) store edges areas areastore stem sought l
+      ≡ soughtIn axis entries store edges areas areastore stem sought l
+  unfolding namedPart
+  own-sought l = go (listedAt groups (joinedKey stem sought)) (firstNamed store part (stem ++ tailOf sought)) refl refl
+    where
+      part : List ℕ
+      part = partFor grouped groups (joinedKey stem sought)
 
-  pub part-back : (part : List ℕ) (key : ℕ) → part ≡ partFor grouped groups key → key ≡ joinedKey stem sought → (n m : ℕ) (x : Seek)
-      → x ≡ back (soughtIn axis part store edges areas areastore stem sought) 0 n m → x ≡ back (soughtIn axis entries store edges areas areastore stem sought) 0 n m
-  part-back part key p q n m x e =
-      e ∙ rw (p, q) (back-alike (soughtIn axis (partFor grouped groups (joinedKey stem sought)) store edges areas areastore stem sought)
-      (soughtIn axis entries store edges areas areastore stem sought) 0 n m (λ j g b. part-sought j))
+      go : (a b : Bool) → listedAt groups (joinedKey stem sought) ≡ a → firstNamed store part (stem ++ tailOf sought) ≡ b
+          → soughtIn axis (cond (a && not b) [] part) store edges areas areastore stem sought l ≡ soughtIn axis entries store edges areas areastore stem sought l
+      go true true e f = part-sought l
+      go true false e f = none-sought axis store edges areas areastore stem sought part l (unmarked store part (g .lists (joinedKey stem sought) e) (stem ++ tailOf sought) f l) ∙ part-sought l
+      go false b e f = part-sought l
+
+  -- what a search in the part comes to, whichever way it goes
+  module _ (part own : List ℕ) (key : ℕ) (flag : Bool) (p : part ≡ partFor grouped groups key) (q : key ≡ joinedKey stem sought)
+      (t : flag ≡ listedAt groups key) (o : own ≡ namedPart store part flag (stem ++ tailOf sought)) where
+    pub part-up : (n f m : ℕ) (x : Seek) → x ≡ seek (soughtIn axis own store edges areas areastore stem sought) n f m
+        → x ≡ seek (soughtIn axis entries store edges areas areastore stem sought) n f m
+    part-up n f m x e =
+        e ∙ rw (o, p, t, q) (seek-alike (soughtIn axis (namedPart store (partFor grouped groups (joinedKey stem sought)) (listedAt groups (joinedKey stem sought)) (stem ++ tailOf sought)) store edges areas areastore stem sought)
+        (soughtIn axis entries store edges areas areastore stem sought) n f m (λ j g b. own-sought j))
+
+    pub part-back : (n m : ℕ) (x : Seek) → x ≡ back (soughtIn axis own store edges areas areastore stem sought) 0 n m
+        → x ≡ back (soughtIn axis entries store edges areas areastore stem sought) 0 n m
+    part-back n m x e =
+        e ∙ rw (o, p, t, q) (back-alike (soughtIn axis (namedPart store (partFor grouped groups (joinedKey stem sought)) (listedAt groups (joinedKey stem sought)) (stem ++ tailOf sought)) store edges areas areastore stem sought)
+        (soughtIn axis entries store edges areas areastore stem sought) 0 n m (λ j g b. own-sought j))
 
   -- the same of a part whose lines are listed alone
   module _ (part : List ℕ) (key : ℕ) (p : part ≡ partFor grouped groups key) (q : key ≡ joinedKey stem sought)

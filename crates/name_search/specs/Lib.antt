@@ -1,2 +1,3 @@
 -- What the contracts of the search among groups cite.
 pub mod Drawn
+pub mod Parts

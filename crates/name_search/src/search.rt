@@ -10,11 +10,13 @@ ghost use Rattle.name_groups.specs.Keys.{joinedKey, keyOf};
 ghost use mathlib.Core.List.{_++_};
 ghost use mathlib.Core.Path.{_≡_};
 use crate::drawn::lists_alone;
+use crate::part::named_part;
 use coordinates::Axis;
 use line_search::Found;
 use line_search::GridAreaEnd;
 use line_search::suffix;
 use line_search::suffix::AreaEdge;
+use name_groups::group::is_listed;
 use name_groups::group::part_for;
 use name_groups::key::joined_key;
 use name_groups::listed::listed_backwards;
@@ -46,9 +48,10 @@ fn joined_forwards(
     if lists_alone(groups, key, edges, areas, areastore, stem, edge) {
         return listed_forwards(part, store, stem, edge, first, over);
     }
+    let own = named_part(part, is_listed(groups, key), store, stem, edge);
     forwards(
         axis,
-        part,
+        own,
         store,
         edges,
         areas,
@@ -84,9 +87,10 @@ fn joined_backwards(
     if lists_alone(groups, key, edges, areas, areastore, stem, edge) {
         return listed_backwards(part, store, stem, edge, end, over);
     }
+    let own = named_part(part, is_listed(groups, key), store, stem, edge);
     backwards(
         axis,
-        part,
+        own,
         store,
         edges,
         areas,

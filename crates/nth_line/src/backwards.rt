@@ -1,4 +1,4 @@
-// Lines of a name before a line, the last first: one nearest line after the other for few entries, else in two windows, the next 64 lines, whose marks cost little, then the rest.
+// Lines of a name before a line, the last first: one nearest line after the other for few entries, else in windows of 2,048 lines, one after the other, back from the highest line that bears any name.
 ghost use Prim.Native.Nat.{_-_, _≤_, min};
 ghost use Rattle.line_search.specs.Areas.{soughtIn};
 ghost use Rattle.line_search.specs.Marks.{back, seekOf};
@@ -12,8 +12,18 @@ use line_search::suffix::AreaEdge;
 use nearest_line::distance;
 use nearest_line::few;
 
-// The near window: at most 64 lines from `low` on, the last first.
-fn near_backwards(
+// Where the window begins that ends at `past`.
+fn window_start(past: u32) -> u32
+    ensures { λ r. ⌜ r ≡ past - 2048 ⌝ }
+{
+    if past < 2048 {
+        return 0;
+    }
+    past - 2048
+}
+
+// One window: at most 2,048 lines from `low` on, the last first.
+fn window_backwards(
     axis: Axis,
     entries: &[u64],
     store: &[u8],
@@ -26,10 +36,10 @@ fn near_backwards(
     end: u32,
     over: u32,
 ) -> Found
-    requires { ⌜ end - low ≤ 64 ⌝ }
+    requires { ⌜ end - low ≤ 2048 ⌝ }
     ensures { λ r. ⌜ seekOf r ≡ back (soughtIn axis (now (entries .entry)) (now (store .entry)) (now (edges .entry)) (now (areas .entry)) (now (areastore .entry)) (now (stem .entry)) edge) low (end - low) over ⌝ }
 {
-    let mut marks = [0u8; 64];
+    let mut marks = [0u8; 2048];
     marks::mark_sought(
         &mut marks,
         low,
@@ -43,52 +53,6 @@ fn near_backwards(
         edge,
     );
     seek::seek_down(&marks, low, end, over)
-}
-
-// The lines before `end`, the last first, of which only those up to the highest are looked at.
-fn far_backwards(
-    axis: Axis,
-    entries: &[u64],
-    store: &[u8],
-    edges: &[u64],
-    areas: &[u64],
-    areastore: &[u8],
-    stem: &[u8],
-    edge: AreaEdge,
-    end: u32,
-    over: u32,
-) -> Found
-    requires { ⌜ end ≤ 20000 ⌝ }
-    ensures { λ r. ⌜ seekOf r ≡ back (soughtIn axis (now (entries .entry)) (now (store .entry)) (now (edges .entry)) (now (areas .entry)) (now (areastore .entry)) (now (stem .entry)) edge) 0 end over ⌝ }
-{
-    if end == 0 {
-        return Found::Left(over);
-    }
-    let last = distance::lower(highest::highest_line(axis, entries, edges), end);
-    let mut marks = [0u8; 20000];
-    marks::mark_sought(
-        &mut marks,
-        0,
-        axis,
-        entries,
-        store,
-        edges,
-        areas,
-        areastore,
-        stem,
-        edge,
-    );
-    seek::seek_down(&marks, 0, last, over)
-}
-
-// Where the near window begins that ends at `end`.
-fn near_start(end: u32) -> u32
-    ensures { λ r. ⌜ r ≡ end - 64 ⌝ }
-{
-    if end < 64 {
-        return 0;
-    }
-    end - 64
 }
 
 // The line of the name before `end` after `over` lines of it, the last first, by windows of marks.
@@ -106,23 +70,12 @@ fn many_backwards(
 ) -> Found
     ensures { λ r. ⌜ seekOf r ≡ back (soughtIn axis (now (entries .entry)) (now (store .entry)) (now (edges .entry)) (now (areas .entry)) (now (areastore .entry)) (now (stem .entry)) edge) 0 (min end 20000) over ⌝ }
 {
-    let past = distance::lower(end, 20000);
-    let low = near_start(past);
-    match near_backwards(
-        axis,
-        entries,
-        store,
-        edges,
-        areas,
-        areastore,
-        stem,
-        edge,
-        low,
-        past,
-        over,
-    ) {
-        Found::At(line) => Found::At(line),
-        Found::Left(m) => far_backwards(
+    let highest = highest::highest_line(axis, entries, edges);
+    let mut past = distance::lower(distance::lower(end, 20000), highest);
+    let mut m = over;
+    while 0 < past {
+        let low = window_start(past);
+        match window_backwards(
             axis,
             entries,
             store,
@@ -132,9 +85,15 @@ fn many_backwards(
             stem,
             edge,
             low,
+            past,
             m,
-        ),
+        ) {
+            Found::At(line) => return Found::At(line),
+            Found::Left(n) => m = n,
+        }
+        past = low;
     }
+    Found::Left(m)
 }
 
 // The line of the name before `end` after `over` lines of it, the last first.

@@ -1,5 +1,5 @@
-// Lines of a name from a line on: one nearest line after the other for few entries, else in two windows, the next 64 lines, whose marks cost little, then those on to the highest line that bears any name.
-ghost use Prim.Native.Nat.{_+_, _-_, _≤_, max, min};
+// Lines of a name from a line on: one nearest line after the other for few entries, else in windows of 2,048 lines, one after the other, on to the highest line that bears any name.
+ghost use Prim.Native.Nat.{_+_, _-_, _≤_, _<_, min};
 ghost use Rattle.line_placement.specs.Rule.{seek};
 ghost use Rattle.line_search.specs.Areas.{soughtIn};
 ghost use Rattle.line_search.specs.Marks.{seekOf};
@@ -13,21 +13,19 @@ use line_search::suffix::AreaEdge;
 use nearest_line::distance;
 use nearest_line::few;
 
-// Where the near window ends that begins at `first`: no line from 20,000 on is looked at.
-fn near_end(first: u32) -> u32
-    ensures { λ r. ⌜ r ≡ max first (min (first + 64) 20000) ⌝ }
+// Where the window ends that begins at `low`, of the lines before `end`.
+fn window_end(low: u32, end: u32) -> u32
+    requires { ⌜ low < end ⌝ }
+    ensures { λ r. ⌜ r ≡ min (low + 2048) end ⌝ }
 {
-    if first < 19936 {
-        return first + 64;
+    if end - low < 2048 {
+        return end;
     }
-    if first < 20000 {
-        return 20000;
-    }
-    first
+    low + 2048
 }
 
-// The near window: at most 64 lines from `first` on.
-fn near_forwards(
+// One window: at most 2,048 lines from `first` on.
+fn window_forwards(
     axis: Axis,
     entries: &[u64],
     store: &[u8],
@@ -40,45 +38,10 @@ fn near_forwards(
     end: u32,
     over: u32,
 ) -> Found
-    requires { ⌜ end - first ≤ 64 ⌝ }
+    requires { ⌜ end - first ≤ 2048 ⌝ }
     ensures { λ r. ⌜ seekOf r ≡ seek (soughtIn axis (now (entries .entry)) (now (store .entry)) (now (edges .entry)) (now (areas .entry)) (now (areastore .entry)) (now (stem .entry)) edge) (end - first) first over ⌝ }
 {
-    let mut marks = [0u8; 64];
-    marks::mark_sought(
-        &mut marks,
-        first,
-        axis,
-        entries,
-        store,
-        edges,
-        areas,
-        areastore,
-        stem,
-        edge,
-    );
-    seek::seek_up(&marks, first, end, over)
-}
-
-// The lines from `first` on to 20,000, of which only those up to the highest are looked at.
-fn far_forwards(
-    axis: Axis,
-    entries: &[u64],
-    store: &[u8],
-    edges: &[u64],
-    areas: &[u64],
-    areastore: &[u8],
-    stem: &[u8],
-    edge: AreaEdge,
-    first: u32,
-    over: u32,
-) -> Found
-    ensures { λ r. ⌜ seekOf r ≡ seek (soughtIn axis (now (entries .entry)) (now (store .entry)) (now (edges .entry)) (now (areas .entry)) (now (areastore .entry)) (now (stem .entry)) edge) (20000 - first) first over ⌝ }
-{
-    let end = distance::lower(highest::highest_line(axis, entries, edges), 20000);
-    if end <= first {
-        return Found::Left(over);
-    }
-    let mut marks = [0u8; 20000];
+    let mut marks = [0u8; 2048];
     marks::mark_sought(
         &mut marks,
         first,
@@ -109,22 +72,12 @@ fn many_forwards(
 ) -> Found
     ensures { λ r. ⌜ seekOf r ≡ seek (soughtIn axis (now (entries .entry)) (now (store .entry)) (now (edges .entry)) (now (areas .entry)) (now (areastore .entry)) (now (stem .entry)) edge) (20000 - first) first over ⌝ }
 {
-    let end = near_end(first);
-    match near_forwards(
-        axis,
-        entries,
-        store,
-        edges,
-        areas,
-        areastore,
-        stem,
-        edge,
-        first,
-        end,
-        over,
-    ) {
-        Found::At(line) => Found::At(line),
-        Found::Left(m) => far_forwards(
+    let end = distance::lower(highest::highest_line(axis, entries, edges), 20000);
+    let mut low = first;
+    let mut m = over;
+    while low < end {
+        let past = window_end(low, end);
+        match window_forwards(
             axis,
             entries,
             store,
@@ -133,10 +86,16 @@ fn many_forwards(
             areastore,
             stem,
             edge,
-            end,
+            low,
+            past,
             m,
-        ),
+        ) {
+            Found::At(line) => return Found::At(line),
+            Found::Left(n) => m = n,
+        }
+        low = past;
     }
+    Found::Left(m)
 }
 
 // The line of the name after `over` lines of it that are not before `first`, as far as line 20,000.

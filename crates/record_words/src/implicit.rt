@@ -13,7 +13,7 @@ use crate::part::write_part;
 const AUTO: u64 = 0x3_0000_0000;
 
 // Writes `count` tracks from `track` on with the gutters after them: the spare sizes from `offset` on, auto where there are none.
-pub fn write_spares(
+pub(crate) fn write_spares(
     spare_minimums: &[u64],
     spare_maximums: &[u64],
     items: &[u8],

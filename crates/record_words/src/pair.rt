@@ -65,7 +65,7 @@ fn is_shut(closed: bool, opened: u64, track: usize) -> bool
 }
 
 // Writes a track, its sizes at a place of the tables, and the gutter after it.
-pub fn put_pair(
+pub(crate) fn put_pair(
     minimums: &[u64],
     maximums: &[u64],
     items: &[u8],

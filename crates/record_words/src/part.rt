@@ -31,7 +31,7 @@ fn next_of(inner: u64, length: u64) -> u64
 }
 
 // Writes `count` tracks from `track` on with the gutters after them: the sizes of tracks that repeat, from `offset` on.
-pub fn write_part(
+pub(crate) fn write_part(
     minimums: &[u64],
     maximums: &[u64],
     items: &[u8],

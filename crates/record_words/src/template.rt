@@ -28,7 +28,7 @@ pub fn repeated_of(word: u64) -> Repeated
 }
 
 // Writes `count` tracks from `track` on with the gutters after them: those of the template from its track `offset` on.
-pub fn write_template(
+pub(crate) fn write_template(
     components: &[u64],
     minimums: &[u64],
     maximums: &[u64],

@@ -1,49 +1,79 @@
-use mathlib.Core.Path.{_≡_}
-use Prim.Native.Nat.{_-_, _≤_}
+-- The loop's invariant: the search before past comes to what the whole search comes to.
+use mathlib.Core.Path.{_≡_, _∙_}
+use Prim.Native.Nat.{_-_, _≤_, min}
 use native.Mathlib.Omega.{arith}
 use Rattle.line_search.specs.Areas.{soughtIn}
 use Rattle.line_search.specs.Marks.{back, seekOf}
 use Rattle.line_search.specs.declared.Found.the-variants.{At, Left}
-use Rattle.line_search.proofs.Windows.{near-down, far-down}
+use Rattle.line_search.proofs.HighestLine.{sought-past}
+use Rattle.line_search.proofs.Windows.{cut-down, found-down, left-down}
 use borrow.Author.Needs.{needs}
 use Rattle.nth_line.proofs.backwards.many_backwards.Statement.{statement}
 use Rattle.nth_line.proofs.backwards.many_backwards.Tie as tie
 
-lower-requires : tie.Need-lower-requires
+abbrev Inv-loop : tie.InvT-loop
+Inv-loop axis entries store edges areas areastore stem edge end over highest past₀ m₀ past m = back (soughtIn axis entries store edges areas areastore stem edge) 0 past m ≡ back (soughtIn axis entries store edges areas areastore stem edge) 0 (min end 20000) over
+
+abbrev μ-loop : tie.MeasureT-loop
+μ-loop axis entries store edges areas areastore stem edge end over highest past₀ m₀ past m = past
+
+highest-line-requires : tie.Need-highest-line-requires Inv-loop μ-loop
+highest-line-requires c κs = search needs
+
+lower-requires : tie.Need-lower-requires Inv-loop μ-loop
 lower-requires c κs = search needs
 
-near-start-requires : tie.Need-near-start-requires
-near-start-requires c κs = search needs
+lower-requires-2 : tie.Need-lower-requires-2 Inv-loop μ-loop
+lower-requires-2 c κs = search needs
 
-near-backwards-requires : tie.Need-near-backwards-requires
-near-backwards-requires c κs = omega (arith, c .near-start .ensures)
+loop-holds : tie.Need-loop-holds Inv-loop μ-loop
+loop-holds c = let a = c .before .before .before .before .before .before .before .before .before .args in let e = c .lower2 .result in let z = c .before .lower .result in let l : e ≤ z = omega (arith, c .lower2 .ensures) in
+    rw (← (c .before .lower .ensures)) (cut-down (soughtIn (a .axis) (a .entries .now) (a .store .now) (a .edges .now) (a .areas .now) (a .areastore .now) (a .stem .now) (a .edge)) e z (a .over) (λ j g b. sought-past (a .axis) (a .entries .now) (a .store .now) (a .edges .now) (a .areas .now) (a .areastore .now) (a .stem .now) (a .edge) j (omega (arith, c .lower2 .ensures, c .before .before .highest-line .ensures))) l)
 
-enum-known-line : tie.Need-enum-known-line
+window-start-requires : tie.Need-window-start-requires Inv-loop μ-loop
+window-start-requires c κs = search needs
+
+window-backwards-requires : tie.Need-window-backwards-requires Inv-loop μ-loop
+window-backwards-requires c κs = omega (arith, c .window-start .ensures)
+
+enum-known-line : tie.Need-enum-known-line Inv-loop μ-loop
 enum-known-line c = search needs
 
-enum-known-m : tie.Need-enum-known-m
-enum-known-m c = search needs
+returns : tie.Need-returns Inv-loop μ-loop
+returns c = let a = c .before .before .before .before .before .before .before .before .before .before .before .before .before .before .before .before .args in let l = c .before .before .before .before .before .before .loop in let low = c .before .before .before .before .window-start .result in let g : low ≤ l .past = omega (arith, c .before .before .before .before .window-start .ensures) in
+    let found : seekOf (At (c .before .line .given .0 .0)) ≡ back (soughtIn (a .axis) (a .entries .now) (a .store .now) (a .edges .now) (a .areas .now) (a .areastore .now) (a .stem .now) (a .edge)) low (l .past - low) (l .m) = rw (c .before .line .given .1) at (c .before .before .before .window-backwards .ensures) in
+    found-down (soughtIn (a .axis) (a .entries .now) (a .store .now) (a .edges .now) (a .areas .now) (a .areastore .now) (a .stem .now) (a .edge)) low (l .past) (l .m) g (c .before .line .given .0 .0) found ∙ l .inv
 
-far-backwards-requires : tie.Need-far-backwards-requires
-far-backwards-requires c κs = let z : c .before .before .before .before .before .lower .result ≤ 20000 = omega (arith, c .before .before .before .before .before .lower .ensures) in omega (arith, c .before .before .before .before .near-start .ensures)
+enum-known-n : tie.Need-enum-known-n Inv-loop μ-loop
+enum-known-n c = search needs
 
-returns : tie.Need-returns
-returns c = let a = c .before .before .before .before .before .before .before .before .before .before .before .before .args in let z = c .before .before .before .before .before .lower .result in let low = c .before .before .before .before .near-start .result in let found : seekOf (At (c .before .line .given .0 .0)) ≡ back (soughtIn (a .axis) (a .entries .now) (a .store .now) (a .edges .now) (a .areas .now) (a .areastore .now) (a .stem .now) (a .edge)) low (z - low) (a .over) = rw (c .before .line .given .1) at (c .before .before .before .near-backwards .ensures) in
-    rw (← (c .before .before .before .before .before .lower .ensures)) (near-down (soughtIn (a .axis) (a .entries .now) (a .store .now) (a .edges .now) (a .areas .now) (a .areastore .now) (a .stem .now) (a .edge)) low z (a .over) (c .before .before .before .before .near-start .ensures) (c .before .line .given .0 .0) found)
+loop-less : tie.Need-loop-less Inv-loop μ-loop
+loop-less c = omega (arith, c .before .before .before .before .window-start .ensures, c .before .before .before .before .before .loop-test .taken)
 
-returns-2 : tie.Need-returns-2
-returns-2 c = let a = c .before .before .before .before .before .before .before .before .before .before .before .before .before .args in let z = c .before .before .before .before .before .before .lower .result in let low = c .before .before .before .before .before .near-start .result in let found : seekOf (Left (c .before .before .m .given .0 .0)) ≡ back (soughtIn (a .axis) (a .entries .now) (a .store .now) (a .edges .now) (a .areas .now) (a .areastore .now) (a .stem .now) (a .edge)) low (z - low) (a .over) = rw (c .before .before .m .given .1) at (c .before .before .before .before .near-backwards .ensures) in
-    rw (← (c .before .before .before .before .before .before .lower .ensures)) (far-down (soughtIn (a .axis) (a .entries .now) (a .store .now) (a .edges .now) (a .areas .now) (a .areastore .now) (a .stem .now) (a .edge)) low z (a .over) (c .before .before .before .before .before .near-start .ensures) (c .before .before .m .given .0 .0) (seekOf (c .far-backwards .result)) found (c .far-backwards .ensures))
+loop-again : tie.Need-loop-again Inv-loop μ-loop
+loop-again c = let a = c .before .before .before .before .before .before .before .before .before .before .before .before .before .before .before .before .args in let l = c .before .before .before .before .before .before .loop in let low = c .before .before .before .before .window-start .result in let g : low ≤ l .past = omega (arith, c .before .before .before .before .window-start .ensures) in
+    let found : seekOf (Left (c .before .n .given .0 .0)) ≡ back (soughtIn (a .axis) (a .entries .now) (a .store .now) (a .edges .now) (a .areas .now) (a .areastore .now) (a .stem .now) (a .edge)) low (l .past - low) (l .m) = rw (c .before .n .given .1) at (c .before .before .before .window-backwards .ensures) in
+    left-down (soughtIn (a .axis) (a .entries .now) (a .store .now) (a .edges .now) (a .areas .now) (a .areastore .now) (a .stem .now) (a .edge)) low (l .past) (l .m) g (c .before .n .given .0 .0) found ∙ l .inv
+
+returns-2 : tie.Need-returns-2 Inv-loop μ-loop
+unfolding back
+returns-2 c = let l = c .before .loop in let z : l .past ≡ 0 = omega (arith, c .loop-test .left) in rw z at (l .inv)
 
 pub many-backwards-spec : {M : Type 1} → statement M
 many-backwards-spec =
     tie.close
     (tie.spec
+    Inv-loop
+    μ-loop
+    highest-line-requires
     lower-requires
-    near-start-requires
-    near-backwards-requires
+    lower-requires-2
+    loop-holds
+    window-start-requires
+    window-backwards-requires
     enum-known-line
-    enum-known-m
-    far-backwards-requires
     returns
+    enum-known-n
+    loop-less
+    loop-again
     returns-2)
