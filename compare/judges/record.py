@@ -21,6 +21,9 @@ DEFAULT_CASES = os.path.join(build.REPOSITORY, "..", "shared", "cases")
 # Sheets of each family in accepted.txt, and the longest block that is kept.
 ACCEPTED = {"general": 1300, "tie": 200, "full": 40, "writing_out": 60, "spoiled": 40}
 LONGEST_BLOCK = 3500
+# Sheets of the family `grouped` in large.txt, and the longest block that is kept.
+GROUPED = 40
+LONGEST_GROUPED = 15000
 CUT = {"large": 60, "far": 40, "over": 12, "writing_out": 20, "full": 4}
 # Refused sheets for each number, record and kind of field.
 REFUSED_FOR_EACH = {1: 9, 3: 4, 4: 6}
@@ -166,9 +169,11 @@ def write_accepted(rust):
 
 
 def write_cut(rust):
-    """Grids of some 10,000 tracks, their records left out."""
+    """Grids of some 10,000 tracks, and many placements beside many names: the records left out."""
     large = lambda case: len(case.lines) > 3000 or case.refused
     cases = [case for family, count in CUT.items() for case in taken(made_cases(family, rust), count, large)]
+    short = lambda case: not case.refused and len(case.block(cut=True)) <= LONGEST_GROUPED
+    cases += taken(made_cases("grouped", rust), GROUPED, short)
     write("large.txt", [case.block(cut=True) for case in cases])
 
 
