@@ -1,2 +1,3 @@
 -- What the contracts of the line lists cite.
 pub mod Lists
+pub mod Ascending

@@ -3,10 +3,13 @@ ghost use Prim.Native.Nat.{_≤_};
 ghost use lib.ListN.{length};
 ghost use Rattle.line_lists.specs.Lists.{lists, Written};
 
+mod ascending;
 mod chained;
 mod line;
 mod passes;
 
+use ascending::are_ascending;
+use ascending::write_ascending;
 use chained::write_by_chains;
 use passes::write_by_passes;
 
@@ -20,6 +23,9 @@ pub fn detailed_line_names(entries: &[u64], store: &[u8], explicit: u32, words: 
     requires { ⌜ length (now entries) ≤ length (now words) ⌝ }
     ensures { λ r. ⌜ Written (now (words .entry)) 0 (lists explicit (now (entries .entry)) (now (store .entry))) (now (words .exit)) r ⌝ }
 {
+    if are_ascending(entries) {
+        return write_ascending(entries, store, explicit, words);
+    }
     if entries.len() <= FEW / (explicit as usize + 1) {
         return write_by_passes(entries, store, explicit, words);
     }
