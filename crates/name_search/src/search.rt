@@ -1,4 +1,5 @@
 // The lines that bear a name, sought on from a line or back from one. `grouped` and `groups` hold the entries by the keys of their names; with no groups all entries are looked at.
+// `entries` are what they hold: the contracts are about these, the code reads the groups.
 ghost use Prim.Native.Nat.{_-_, min, suc};
 ghost use Rattle.line_placement.specs.Css.{suffix};
 ghost use Rattle.line_placement.specs.Rule.{seek};

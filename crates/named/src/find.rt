@@ -1,4 +1,4 @@
-// Lines found by name.
+// Lines found by name. `grouped` and `groups` hold `entries` by the keys of their names.
 ghost use Prim.Native.Nat.{_<_, _≤_};
 ghost use Rattle.coordinates.specs.Lines.{Within, held};
 ghost use Rattle.coordinates.specs.Signed.{Small, integerOf};
