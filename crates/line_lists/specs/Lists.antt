@@ -2,9 +2,9 @@
 -- out", one list after the other. A name is a word: its line, and the part of the store that it is.
 use Prim.Native.Nat.{ℕ, zero, suc, _+_, _-_, _≤_, _<_, min}
 use mathlib.Core.Path.{_≡_}
-use mathlib.Core.Bool.{cond}
+use mathlib.Core.Bool.{Bool, cond, _&&_}
 use mathlib.Core.List.{List, [], _∷_, _++_, map}
-use lib.Dec.{eqb}
+use lib.Dec.{eqb, leb}
 use lib.ListN.{length, getD, take}
 use lib.Seq.{sets}
 use Rattle.name_store.specs.declared.NameEntry.{NameEntry}
@@ -29,6 +29,14 @@ listsFrom words store line (suc n) = lineWords words store line ++ listsFrom wor
 -- the lists of the explicit lines
 unfoldable pub lists : ℕ → List ℕ → List ℕ → List ℕ
 lists explicit words store = listsFrom words store 1 (explicit + 1)
+
+-- at most 10,000 tracks and 4,096 entries (document 01, panel ranges), and a word for each entry
+abbrev pub listsFit : ℕ → ℕ → ℕ → Bool
+listsFit explicit entries room = (leb explicit 10000 && leb entries 4096) && leb entries room
+
+-- the lists where that holds, else none
+unfoldable pub fittingLists : ℕ → List ℕ → List ℕ → ℕ → List ℕ
+fittingLists explicit words store room = cond (listsFit explicit (length words) room) (lists explicit words store) []
 
 -- the words that are on a line: of the lists, its own
 unfoldable pub onLine : ℕ → List ℕ → List ℕ

@@ -1,7 +1,8 @@
 // Layer 4, all line names of an axis in one run: one list for each explicit line.
+ghost use mathlib.Core.Path.{_≡_};
 ghost use Prim.Native.Nat.{_≤_};
 ghost use lib.ListN.{length};
-ghost use Rattle.line_lists.specs.Lists.{lists, Written};
+ghost use Rattle.line_lists.specs.Lists.{fittingLists, lists, listsFit, Written};
 
 mod ascending;
 mod chained;
@@ -16,8 +17,13 @@ use passes::write_by_passes;
 // Up to so many entries times lines, passes over the entries take less time than chains.
 const FEW: usize = 2048;
 
-// Writes the lists of the explicit lines one after the other, a word for each name; answers how many there are.
-pub fn detailed_line_names(entries: &[u64], store: &[u8], explicit: u32, words: &mut [u64]) -> usize
+// The most entries of an axis, and the most explicit tracks.
+const MOST_ENTRIES: usize = 4096;
+
+const MOST_TRACKS: u32 = 10000;
+
+// Writes the lists of the explicit lines one after the other: the quickest way for these entries.
+fn write_lists(entries: &[u64], store: &[u8], explicit: u32, words: &mut [u64]) -> usize
     requires { ⌜ explicit ≤ 10000 ⌝ }
     requires { ⌜ length (now entries) ≤ 4096 ⌝ }
     requires { ⌜ length (now entries) ≤ length (now words) ⌝ }
@@ -30,4 +36,21 @@ pub fn detailed_line_names(entries: &[u64], store: &[u8], explicit: u32, words: 
         return write_by_passes(entries, store, explicit, words);
     }
     write_by_chains(entries, store, explicit, words)
+}
+
+// Whether the numbers are within their ranges, and there is a word for each entry.
+fn lists_fit(explicit: u32, entries: usize, room: usize) -> bool
+    ensures { λ r. ⌜ r ≡ listsFit explicit entries room ⌝ }
+{
+    (explicit <= MOST_TRACKS) & (entries <= MOST_ENTRIES) & (entries <= room)
+}
+
+// Writes the lists of the explicit lines one after the other, a word for each name; answers how many there are. Nothing is written where a number is out of range or the words are fewer than the entries.
+pub fn detailed_line_names(entries: &[u64], store: &[u8], explicit: u32, words: &mut [u64]) -> usize
+    ensures { λ r. ⌜ Written (now (words .entry)) 0 (fittingLists explicit (now (entries .entry)) (now (store .entry)) (length (now (words .entry)))) (now (words .exit)) r ⌝ }
+{
+    if !lists_fit(explicit, entries.len(), words.len()) {
+        return 0;
+    }
+    write_lists(entries, store, explicit, words)
 }

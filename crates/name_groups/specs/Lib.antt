@@ -1,5 +1,4 @@
 -- What the contracts of grouped name entries cite.
 pub mod Keys
 pub mod Listed
-pub mod Ascending
 pub mod Groups

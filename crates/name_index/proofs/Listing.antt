@@ -14,7 +14,7 @@ use Rattle.name_store.specs.declared.NameEntry.{NameEntry}
 use Rattle.name_store.specs.Entries.{entryOf, nameIn}
 use Rattle.name_store.proofs.Same.{same-refl}
 use Rattle.name_groups.specs.Listed.{listedFrom}
-use Rattle.name_index.specs.Listing.{listsNext}
+use Rattle.name_groups.specs.Listed.{listsNext}
 
 -- entries of the same part of the store have the same name
 pub same-part : (store : List ℕ) (a b : ℕ) → a / 65536 ≡ b / 65536 → eqBytes (nameIn store (entryOf a)) (nameIn store (entryOf b)) ≡ true

@@ -1,4 +1,3 @@
 -- What the contracts of grouped entries and of chains cite.
 pub mod Chains
-pub mod Listing
 pub mod Grouping

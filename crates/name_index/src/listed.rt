@@ -3,7 +3,7 @@ ghost use mathlib.Core.Path.{_≡_};
 ghost use Rattle.line_placement.specs.Rule.{eqBytes};
 ghost use Rattle.name_store.specs.Entries.{entryOf, nameIn};
 ghost use Rattle.name_groups.specs.Listed.{listed};
-ghost use Rattle.name_index.specs.Listing.{listsNext};
+ghost use Rattle.name_groups.specs.Listed.{listsNext};
 use name_store::bytes::same_bytes;
 use name_store::entry::entry_of;
 use name_store::entry::name_in;

@@ -23,7 +23,7 @@ use Rattle.line_search.proofs.Walk.{seek-alike, back-alike}
 use Rattle.name_groups.specs.Groups.{partFor, listedAt, Grouped}
 use Rattle.name_groups.specs.Keys.{joinedKey, keyOf}
 use Rattle.name_groups.specs.Listed.{listed}
-use Rattle.name_groups.proofs.Listing.{unmarked}
+use Rattle.name_search.proofs.Listing.{unmarked}
 use Rattle.name_search.specs.Parts.{firstNamed, namedPart}
 use Rattle.name_search.specs.Drawn.{drawnIn, edgesDrawn}
 

@@ -4,8 +4,8 @@ ghost use mathlib.Core.Bool.{not, _&&_};
 ghost use mathlib.Core.List.{_++_};
 ghost use Rattle.line_search.specs.Suffixes.{tailOf};
 ghost use Rattle.name_search.specs.Parts.{firstNamed, namedPart};
+use crate::listed::first_has_name;
 use line_search::suffix::AreaEdge;
-use name_groups::listed::first_has_name;
 
 // Whether the entries are listed and have another name than the stem followed by the suffix of the edge.
 fn lists_other(part: &[u64], listed: bool, store: &[u8], stem: &[u8], edge: AreaEdge) -> bool

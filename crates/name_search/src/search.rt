@@ -11,6 +11,8 @@ ghost use Rattle.name_groups.specs.Keys.{joinedKey, keyOf};
 ghost use mathlib.Core.List.{_++_};
 ghost use mathlib.Core.Path.{_≡_};
 use crate::drawn::lists_alone;
+use crate::listed::listed_backwards;
+use crate::listed::listed_forwards;
 use crate::part::named_part;
 use coordinates::Axis;
 use line_search::Found;
@@ -20,8 +22,6 @@ use line_search::suffix::AreaEdge;
 use name_groups::group::is_listed;
 use name_groups::group::part_for;
 use name_groups::key::joined_key;
-use name_groups::listed::listed_backwards;
-use name_groups::listed::listed_forwards;
 use nth_line::backwards::backwards;
 use nth_line::forwards::forwards;
 

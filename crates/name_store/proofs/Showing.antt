@@ -7,7 +7,7 @@ use native.Mathlib.Numerals.{add-one}
 use native.Mathlib.Omega.{arith}
 use lib.Dec.{leb}
 use lib.ListN.{length, getD, take, drop, drop-of-length-le, List·getD-map}
-use lib.Seq.{drop-cons, take-suc, getD-take, length-take-le}
+use lib.Seq.{drop-cons, take-suc, take-all, getD-take, length-take-le}
 use Rattle.line_placement.specs.Css.{Bytes, Entry}
 use Rattle.line_placement.specs.Rule.{any}
 use Rattle.name_store.specs.declared.NameEntry.{NameEntry}
@@ -98,3 +98,7 @@ module _ (line : ℕ) (store : List ℕ) where
   entry-name explicit place words =
       sym (List·getD-map (nameIn store) (explicitLineEntries explicit words store line) place noEntry)
       ∙ ap (λ (l : List Bytes). getD l place []) (explicit-if (leb 1 line && leb line (explicit + 1)) words)
+
+-- past the end all entries are before
+pub all-before : (words : List ℕ) (place : ℕ) → length words < place → take (length words) words ≡ take place words
+all-before words place h = take-all (length words) words (omega arith) ∙ sym (take-all place words (omega arith))

@@ -48,13 +48,15 @@ fn written_before(entries: &[u64], store: &[u8], end: usize, line: u32, name: &[
     false
 }
 
-// Whether the entry at a place shows its name on the line: it is there, and no entry before has the name there.
+// Whether the entry at a place shows its name on the line: it is there, and no entry before has the name there. Past the end all entries are before.
 pub fn is_shown(entries: &[u64], store: &[u8], place: usize, line: u32, entry: NameEntry) -> bool
-    requires { ⌜ place ≤ length (now entries) ⌝ }
     ensures { λ r. ⌜ r ≡ shows line (entriesOf (take place (now (entries .entry))) (now (store .entry))) (namedEntry (now (store .entry)) entry) ⌝ }
 {
     if entry.line != line {
         return false;
+    }
+    if entries.len() < place {
+        return !written_before(entries, store, entries.len(), line, name_in(store, entry));
     }
     !written_before(entries, store, place, line, name_in(store, entry))
 }

@@ -1,57 +1,26 @@
 use mathlib.Core.Path.{sym, _∙_}
+use borrow.Author.Tests.{not-true, not-false}
+use lib.ListN.{length}
+use Rattle.line_lists.proofs.Fitting.{fit-means, none-fitting, written-fitting}
 use borrow.Author.Needs.{needs}
 use Rattle.line_lists.proofs.detailed_line_names.Statement.{statement}
 use Rattle.line_lists.proofs.detailed_line_names.Tie as tie
 
-are-ascending-requires : tie.Need-are-ascending-requires
-are-ascending-requires c κs = search needs
+lists-fit-requires : tie.Need-lists-fit-requires
+lists-fit-requires c κs = search needs
 
-write-ascending-requires : tie.Need-write-ascending-requires
-write-ascending-requires c κs = (search needs, (sym (c .before .before .are-ascending .ensures) ∙ c .before .if1 .taken, search needs))
+returns : tie.Need-returns
+returns c = let a = c .before .before .before .before .before .args in none-fitting (a .explicit) (a .entries .now) (a .store .now) (a .words .now) (sym (c .before .lists-fit .ensures) ∙ not-true (c .before .lists-fit .result) (c .if1 .taken))
+
+write-lists-requires : tie.Need-write-lists-requires
+write-lists-requires c κs = let a = c .before .before .before .before .before .before .args in fit-means (a .explicit) (length (a .entries .now)) (length (a .words .now)) (sym (c .before .before .lists-fit .ensures) ∙ not-false (c .before .before .lists-fit .result) (c .before .if1 .left))
 
 same-length : tie.Need-same-length
 same-length c = search needs
 
-returns : tie.Need-returns
-returns c = search needs
-
-add-if2 : tie.Need-add-if2
-add-if2 c = search needs
-
-div-if2 : tie.Need-div-if2
-div-if2 c = search needs
-
-write-by-passes-requires : tie.Need-write-by-passes-requires
-write-by-passes-requires c κs = search needs
-
-same-length-2 : tie.Need-same-length-2
-same-length-2 c = search needs
-
 returns-2 : tie.Need-returns-2
-returns-2 c = search needs
-
-write-by-chains-requires : tie.Need-write-by-chains-requires
-write-by-chains-requires c κs = search needs
-
-same-length-3 : tie.Need-same-length-3
-same-length-3 c = search needs
-
-returns-3 : tie.Need-returns-3
-returns-3 c = search needs
+returns-2 c = let a = c .before .before .before .before .before .before .before .before .before .args in written-fitting (a .explicit) (a .entries .now) (a .store .now) (a .words .now) _ _ (sym (c .before .before .before .before .before .lists-fit .ensures) ∙ not-false (c .before .before .before .before .before .lists-fit .result) (c .before .before .before .before .if1 .left)) (c .before .before .write-lists .ensures)
 
 pub detailed-line-names-spec : {M : Type 1} → statement M
 detailed-line-names-spec =
-    tie.close
-    (tie.spec
-    are-ascending-requires
-    write-ascending-requires
-    same-length
-    returns
-    add-if2
-    div-if2
-    write-by-passes-requires
-    same-length-2
-    returns-2
-    write-by-chains-requires
-    same-length-3
-    returns-3)
+    tie.close (tie.spec lists-fit-requires returns write-lists-requires same-length returns-2)

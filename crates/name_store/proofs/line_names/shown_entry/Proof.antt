@@ -37,7 +37,7 @@ entry-of-requires : tie.Need-entry-of-requires Inv-loop μ-loop
 entry-of-requires c κs = search needs
 
 is-shown-requires : tie.Need-is-shown-requires Inv-loop μ-loop
-is-shown-requires c κs = omega arith
+is-shown-requires c κs = search needs
 
 returns : tie.Need-returns Inv-loop μ-loop
 returns c = let l = c .before .before .before .before .before .before .loop in let a = c .before .before .before .before .before .before .before .before .before .args in

@@ -5,7 +5,7 @@ use Prim.Native.Nat.{ℕ, zero, suc, _+_, _-_, _≤_, _<_}
 use native.Mathlib.Omega.{arith}
 use Rattle.line_placement.specs.Rule.{Seek, at, left, onward, seek}
 use Rattle.line_search.specs.Marks.{back}
-use Rattle.name_groups.proofs.Counting.{Ascends, Parted, Marking, passed, missed, all-below, none-below}
+use Rattle.name_search.proofs.Counting.{Ascends, Parted, Marking, passed, missed, all-below, none-below}
 
 -- what is answered forwards from place b on, where m lines are passed over
 pub record Ahead (line : ℕ → ℕ) (count b m : ℕ) (s : Seek) : Type 0 where

@@ -13,9 +13,11 @@ use Rattle.name_store.specs.Entries.{entryOf}
 use Rattle.name_store.specs.declared.NameEntry.{NameEntry}
 use Rattle.line_search.specs.Marks.{back}
 use Rattle.line_search.proofs.Walk.{seek-unmarked, back-unmarked}
-use Rattle.name_groups.specs.Listed.{listed, upTo}
-use Rattle.name_groups.proofs.Listing.{starts, bears, ascending, ascends, unmarked, listed-ahead, listed-behind}
-use Rattle.name_groups.proofs.Places.{count-parted}
+use Rattle.name_groups.specs.Listed.{listed}
+use Rattle.name_search.specs.Ascending.{upTo}
+use Rattle.name_search.specs.Parts.{firstNamed}
+use Rattle.name_search.proofs.Listing.{bears, ascending, ascends, unmarked, listed-ahead, listed-behind}
+use Rattle.name_search.proofs.Places.{count-parted}
 
 module _ (store ws : List ℕ) (h : listed store ws ≡ true) where
   -- no more lines are at most a number than there are
@@ -26,7 +28,7 @@ module _ (store ws : List ℕ) (h : listed store ws ≡ true) where
   pub line-first : (e : NameEntry) (i : ℕ) → e ≡ entryOf (getD ws i 0) → i < length ws → 1 ≤ e .line
   line-first e i q a = rw q (ascends store ws h .first i a)
 
-  module _ (nm : Bytes) (has : Bool) (s : has ≡ starts store ws nm) where
+  module _ (nm : Bytes) (has : Bool) (s : has ≡ firstNamed store ws nm) where
     -- nothing is found of another name, forwards
     pub other-ahead : not has ≡ true → (k f m : ℕ) → left m ≡ seek (bears store ws nm) k f m
     other-ahead e k f m = sym (seek-unmarked (bears store ws nm) k f m (λ j a b. unmarked store ws h nm (sym s ∙ not-true has e) j))

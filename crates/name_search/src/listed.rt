@@ -1,16 +1,16 @@
 // The n-th line of a name whose entries are listed, forwards or backwards.
 ghost use mathlib.Core.Path.{_≡_};
-ghost use mathlib.Core.Bool.{_&&_, true};
+ghost use mathlib.Core.Bool.{true};
 ghost use mathlib.Core.List.{_++_};
 ghost use Prim.Native.Nat.{_-_, min, suc};
-ghost use lib.Dec.{ltb};
-ghost use lib.ListN.{getD, length};
 ghost use Rattle.line_placement.specs.Rule.{any, eqBytes, seek, written?};
 ghost use Rattle.name_store.specs.Entries.{entriesOf, entryOf, nameIn};
 ghost use Rattle.line_search.specs.Marks.{back, seekOf};
 ghost use Rattle.line_search.specs.Suffixes.{tailOf};
-ghost use Rattle.name_groups.specs.Ascending.{Ascending};
-ghost use Rattle.name_groups.specs.Listed.{listed, upTo};
+ghost use Rattle.name_search.specs.Ascending.{Ascending};
+ghost use Rattle.name_groups.specs.Listed.{listed};
+ghost use Rattle.name_search.specs.Ascending.{upTo};
+ghost use Rattle.name_search.specs.Parts.{firstNamed};
 use line_search::Found;
 use line_search::suffix::AreaEdge;
 use line_search::suffix::is_joined;
@@ -30,8 +30,8 @@ fn has_name(store: &[u8], word: u64, stem: &[u8], edge: AreaEdge) -> bool
 }
 
 // Whether there are entries, and the first has the name.
-pub fn first_has_name(words: &[u64], store: &[u8], stem: &[u8], edge: AreaEdge) -> bool
-    ensures { λ r. ⌜ r ≡ (ltb 0 (length (now (words .entry))) && eqBytes (nameIn (now (store .entry)) (entryOf (getD (now (words .entry)) 0 0))) (now (stem .entry) ++ tailOf edge)) ⌝ }
+pub(crate) fn first_has_name(words: &[u64], store: &[u8], stem: &[u8], edge: AreaEdge) -> bool
+    ensures { λ r. ⌜ r ≡ firstNamed (now (store .entry)) (now (words .entry)) (now (stem .entry) ++ tailOf edge) ⌝ }
 {
     if words.len() == 0 {
         return false;
@@ -59,7 +59,7 @@ fn lines_up_to(words: &[u64], number: u32) -> usize
 }
 
 // The line of the name after `over` lines of it that are not before `first`, as far as line 20,000. The entries are listed.
-pub fn listed_forwards(
+pub(crate) fn listed_forwards(
     words: &[u64],
     store: &[u8],
     stem: &[u8],
@@ -84,7 +84,7 @@ pub fn listed_forwards(
 }
 
 // The line of the name before `end` after `over` lines of it, the last first. The entries are listed.
-pub fn listed_backwards(
+pub(crate) fn listed_backwards(
     words: &[u64],
     store: &[u8],
     stem: &[u8],

@@ -2,11 +2,11 @@ use mathlib.Core.List.{_++_}
 use Prim.Native.Nat.{min}
 use native.Mathlib.Omega.{arith}
 use Rattle.line_search.specs.Suffixes.{tailOf}
-use Rattle.name_groups.proofs.Answers.{count-within, line-first, other-behind, behind-at, behind-left}
-use Rattle.name_groups.proofs.Listing.{ascending}
+use Rattle.name_search.proofs.Answers.{count-within, line-first, other-behind, behind-at, behind-left}
+use Rattle.name_search.proofs.Listing.{ascending}
 use borrow.Author.Needs.{needs}
-use Rattle.name_groups.proofs.listed.listed_backwards.Statement.{statement}
-use Rattle.name_groups.proofs.listed.listed_backwards.Tie as tie
+use Rattle.name_search.proofs.listed.listed_backwards.Statement.{statement}
+use Rattle.name_search.proofs.listed.listed_backwards.Tie as tie
 
 first-has-name-requires : tie.Need-first-has-name-requires
 first-has-name-requires c κs = search needs

@@ -13,9 +13,9 @@ use Rattle.line_placement.specs.Css.{Entry}
 use Rattle.line_placement.specs.Rule.{any}
 use Rattle.name_store.specs.Entries.{entryOf, entriesOf, namedEntry}
 use Rattle.line_search.proofs.Suffixes.{never}
-use Rattle.name_groups.specs.Listed.{upTo}
-use Rattle.name_groups.specs.Ascending.{lineAt, Ascending}
-use Rattle.name_groups.proofs.Counting.{Parted}
+use Rattle.name_search.specs.Ascending.{upTo}
+use Rattle.name_search.specs.Ascending.{lineAt, Ascending}
+use Rattle.name_search.proofs.Counting.{Parted}
 
 module _ (store : List ℕ) (p : Entry → Bool) where
   -- an entry that passes has a place

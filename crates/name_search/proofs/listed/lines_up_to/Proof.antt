@@ -2,11 +2,11 @@
 use Prim.Native.Nat.{ℕ, _-_, _≤_, _<_}
 use native.Mathlib.Omega.{arith}
 use lib.ListN.{length}
-use Rattle.name_groups.specs.Ascending.{lineAt}
-use Rattle.name_groups.proofs.Places.{parted-count, below-through, above-from}
+use Rattle.name_search.specs.Ascending.{lineAt}
+use Rattle.name_search.proofs.Places.{parted-count, below-through, above-from}
 use borrow.Author.Needs.{needs}
-use Rattle.name_groups.proofs.listed.lines_up_to.Statement.{statement}
-use Rattle.name_groups.proofs.listed.lines_up_to.Tie as tie
+use Rattle.name_search.proofs.listed.lines_up_to.Statement.{statement}
+use Rattle.name_search.proofs.listed.lines_up_to.Tie as tie
 
 abbrev Inv-loop : tie.InvT-loop
 Inv-loop words number low₀ high₀ low high =

@@ -3,8 +3,8 @@ use lib.ListN.{length}
 use native.Mathlib.Omega.{arith}
 use borrow.Author.Tests.{lt-ltb, le-ltb}
 use borrow.Author.Needs.{needs}
-use Rattle.name_groups.proofs.listed.first_has_name.Statement.{statement}
-use Rattle.name_groups.proofs.listed.first_has_name.Tie as tie
+use Rattle.name_search.proofs.listed.first_has_name.Statement.{statement}
+use Rattle.name_search.proofs.listed.first_has_name.Tie as tie
 
 returns : tie.Need-returns
 returns c = let e : length (c .before .before .before .before .args .words .now) ≤ 0 = omega (arith, c .if1 .taken) in rw (le-ltb 0 _ e)

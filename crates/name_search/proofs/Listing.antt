@@ -14,11 +14,13 @@ use Rattle.line_placement.specs.Rule.{any, eqBytes, seek, written?}
 use Rattle.name_store.specs.Entries.{entryOf, entriesOf, nameIn, namedEntry}
 use Rattle.line_search.specs.Marks.{back}
 use Rattle.line_search.proofs.Suffixes.{never, both, eq-bytes}
-use Rattle.name_groups.specs.Listed.{listedFrom, listed, upTo}
-use Rattle.name_groups.specs.Ascending.{lineAt, Ascending}
-use Rattle.name_groups.proofs.Counting.{Ascends, Marking, all-below}
-use Rattle.name_groups.proofs.Ascending.{Ahead, Behind, forwards, backwards}
-use Rattle.name_groups.proofs.Places.{any-at, none-at, count-parted}
+use Rattle.name_groups.specs.Listed.{listedFrom, listed}
+use Rattle.name_search.specs.Ascending.{upTo}
+use Rattle.name_search.specs.Ascending.{lineAt, Ascending}
+use Rattle.name_search.specs.Parts.{firstNamed}
+use Rattle.name_search.proofs.Counting.{Ascends, Marking, all-below}
+use Rattle.name_search.proofs.Ascending.{Ahead, Behind, forwards, backwards}
+use Rattle.name_search.proofs.Places.{any-at, none-at, count-parted}
 
 -- a listed entry has the name, on a line above n
 pub record Lists (store : List ℕ) (nm : Bytes) (n w : ℕ) : Type 0 where
@@ -53,10 +55,6 @@ module _ (store : List ℕ) (nm : Bytes) where
   listed-rises n (w ∷ ws) h i zero a b = absurd (omega arith)
   listed-rises n (w ∷ ws) h zero (suc j) a b = listed-at (entryOf w .line) ws (first-listed n w ws h .1) j (omega arith) .above
   listed-rises n (w ∷ ws) h (suc i) (suc j) a b = listed-rises (entryOf w .line) ws (first-listed n w ws h .1) i j (omega arith) (omega arith)
-
--- there is a first entry, and it has the name
-abbrev pub starts : List ℕ → List ℕ → Bytes → Bool
-starts store ws nm = ltb 0 (length ws) && eqBytes (nameIn store (entryOf (getD ws 0 0))) nm
 
 -- a line, counted from 0, has the name
 abbrev pub bears : List ℕ → List ℕ → Bytes → ℕ → Bool
@@ -99,7 +97,7 @@ module _ (store ws : List ℕ) (h : listed store ws ≡ true) where
       rw e
 
   -- where the first entry has the name, the lines that have it are those of the entries
-  marking : (nm : Bytes) → starts store ws nm ≡ true → Marking (lineAt ws) (length ws) (bears store ws nm)
+  marking : (nm : Bytes) → firstNamed store ws nm ≡ true → Marking (lineAt ws) (length ws) (bears store ws nm)
   marking nm e = record { hit = hit; miss = miss }
     where
       hit : (l : ℕ) → bears store ws nm l ≡ true → (i : ℕ) × (i < length ws) × (lineAt ws i ≡ suc l)
@@ -114,7 +112,7 @@ module _ (store ws : List ℕ) (h : listed store ws ≡ true) where
           never (sym (none-at store (written? nm (suc l)) ws g i a) ∙ t)
 
   -- no line has a name that the first entry does not have
-  pub unmarked : (nm : Bytes) → starts store ws nm ≡ false → (l : ℕ) → bears store ws nm l ≡ false
+  pub unmarked : (nm : Bytes) → firstNamed store ws nm ≡ false → (l : ℕ) → bears store ws nm l ≡ false
   unmarked nm e l = go (bears store ws nm l) refl
     where
       go : (b : Bool) → bears store ws nm l ≡ b → b ≡ false
@@ -122,15 +120,15 @@ module _ (store ws : List ℕ) (h : listed store ws ≡ true) where
       go true g =
           let r = any-at store (written? nm (suc l)) ws g in
           let named : eqBytes firstName nm ≡ true = sym (same-name nm (r .0) (r .1)) ∙ both (eqb (lineAt ws (r .0)) (suc l)) _ (r .2) .1 in
-          let t : starts store ws nm ≡ true = rw (lt-ltb 0 (length ws) (omega (arith, r .1))) named in
+          let t : firstNamed store ws nm ≡ true = rw (lt-ltb 0 (length ws) (omega (arith, r .1))) named in
           never (sym e ∙ t)
 
   -- the n-th line of the name from a line on
-  pub listed-ahead : (nm : Bytes) → starts store ws nm ≡ true → (f m : ℕ) → Ahead (lineAt ws) (length ws) (upTo f ws) m (seek (bears store ws nm) (20000 - f) f m)
+  pub listed-ahead : (nm : Bytes) → firstNamed store ws nm ≡ true → (f m : ℕ) → Ahead (lineAt ws) (length ws) (upTo f ws) m (seek (bears store ws nm) (20000 - f) f m)
   listed-ahead nm e f m =
       forwards (lineAt ws) (length ws) ascends (bears store ws nm) (marking nm e) (λ n. upTo n ws) (count-parted ws ascending) (20000 - f) f m (omega arith)
 
   -- the n-th line of the name before a line, the last first
-  pub listed-behind : (nm : Bytes) → starts store ws nm ≡ true → (z m : ℕ) → Behind (lineAt ws) (upTo z ws) m (back (bears store ws nm) 0 (min z 20000) m)
+  pub listed-behind : (nm : Bytes) → firstNamed store ws nm ≡ true → (z m : ℕ) → Behind (lineAt ws) (upTo z ws) m (back (bears store ws nm) 0 (min z 20000) m)
   listed-behind nm e z m =
       rw (held-count z) at (backwards (lineAt ws) (length ws) ascends (bears store ws nm) (marking nm e) (λ j. upTo j ws) (count-parted ws ascending) (min z 20000) m)

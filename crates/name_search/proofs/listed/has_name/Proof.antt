@@ -1,6 +1,6 @@
 use borrow.Author.Needs.{needs}
-use Rattle.name_groups.proofs.listed.has_name.Statement.{statement}
-use Rattle.name_groups.proofs.listed.has_name.Tie as tie
+use Rattle.name_search.proofs.listed.has_name.Statement.{statement}
+use Rattle.name_search.proofs.listed.has_name.Tie as tie
 
 entry-of-requires : tie.Need-entry-of-requires
 entry-of-requires c κs = search needs
