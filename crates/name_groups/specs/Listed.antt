@@ -1,4 +1,4 @@
--- Entries that list the lines of one name: the n-th is found without a look at the others.
+-- Entries that list the lines of one name (document 01, layer 4): the n-th is found without a look at the others.
 use Prim.Native.Nat.{ℕ}
 use mathlib.Core.Bool.{Bool, true, _&&_}
 use mathlib.Core.List.{List, [], _∷_}
