@@ -1,25 +1,14 @@
 -- How the lines of a name are counted: from which line, which way, and past how many.
 use mathlib.Core.Path.{_≡_}
 use mathlib.Core.Bool.{Bool, true, false}
-use Prim.Native.Nat.{ℕ, zero, suc, pred, _<_}
+use Prim.Native.Nat.{ℕ, zero, suc, pred}
 use lib.IntN.{ℤ, pos, negsuc, _+ℤ_, _-ℤ_}
-use Rattle.coordinates.specs.Lines.{held}
-use Rattle.coordinates.specs.Signed.{integerOf, Small}
+use Rattle.coordinates.specs.Signed.{integerOf}
 use Rattle.coordinates.specs.declared.signed.Signed.the-variants.{NonNegative}
 use Rattle.line_placement.specs.Css.{Side, start, end}
-use Rattle.line_placement.specs.Rule.{Seek, at, left, forwards, backwards}
+use Rattle.line_placement.specs.Rule.{Seek, at, left}
 use Rattle.line_counts.specs.declared.count.Count.{Count}
 use Rattle.line_counts.specs.declared.count.Count.the-variants.{Forwards, Backwards}
-
--- a count that begins near the grid and passes over at most 65,535 lines
-abbrev pub CountFits : Count → Type 0
-CountFits (Forwards first over) = Small first × (over < 65536)
-CountFits (Backwards last over) = Small last × (over < 65536)
-
--- the line that it comes to among the lines that p marks, held
-abbrev pub countedLine : ℕ → (ℕ → Bool) → Count → ℤ
-countedLine explicit p (Forwards first over) = held (forwards explicit p (integerOf first) over)
-countedLine explicit p (Backwards last over) = held (backwards explicit p (integerOf last) over)
 
 -- 0, which is no line and no index
 abbrev pub isZero : ℤ → Bool

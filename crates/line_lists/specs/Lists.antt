@@ -11,7 +11,7 @@ use Rattle.name_store.specs.declared.NameEntry.{NameEntry}
 use Rattle.name_store.specs.Entries.{entryOf, wordOf, namedEntry, entriesOf}
 use Rattle.name_store.specs.LineNames.{shows}
 use Rattle.name_store.specs.LineEntries.{lineEntriesOf}
-use Rattle.name_index.specs.Chains.{placesOf, Chain, Chained}
+use Rattle.line_lists.specs.Chains.{placesOf, Chain, Chained}
 
 -- the line of an entry, and where its name lies: cut where the store ends
 abbrev pub partWord : List ℕ → NameEntry → ℕ

@@ -6,6 +6,7 @@ ghost use Rattle.line_lists.specs.Lists.{fittingLists, lists, listsFit, 
 
 mod ascending;
 mod chained;
+mod chains;
 mod line;
 mod passes;
 

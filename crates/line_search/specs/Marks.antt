@@ -2,12 +2,14 @@
 use mathlib.Core.Path.{_≡_}
 use mathlib.Core.Bool.{Bool, _&&_, _||_}
 use mathlib.Core.List.{List}
-use Prim.Native.Nat.{ℕ, zero, suc, _+_, _-_, _<_}
+use Prim.Native.Nat.{ℕ, zero, suc, _+_, _-_, _<_, min}
 use lib.Dec.{eqb, ltb}
 use lib.ListN.{length, getD}
-use Rattle.line_placement.specs.Rule.{Seek, at, left, onward}
+use Rattle.line_placement.specs.Rule.{Seek, at, left, onward, seek}
 use Rattle.line_search.specs.declared.Found.{Found}
 use Rattle.line_search.specs.declared.Found.the-variants.{At, Left}
+use Rattle.line_search.specs.declared.Way.{Way}
+use Rattle.line_search.specs.declared.Way.the-variants.{Up, Down}
 
 -- place k of the window is marked
 abbrev pub marked : List ℕ → ℕ → Bool
@@ -31,3 +33,13 @@ seekOf (Left m) = left m
 unfoldable pub back : (ℕ → Bool) → ℕ → ℕ → ℕ → Seek
 back p f zero m = left m
 back p f (suc k) m = onward (p (f + k)) (f + k) m (λ j. back p f k j)
+
+-- pass over m lines that p marks from line f on as far as line 20,000, or before line f, and answer the next
+abbrev pub walk : Way → (ℕ → Bool) → ℕ → ℕ → Seek
+walk Up p f m = seek p (20000 - f) f m
+walk Down p f m = back p 0 f m
+
+-- where a walk begins: one back begins at line 20,000 at the latest, since no line from there on has a name
+abbrev pub startOf : Way → ℕ → ℕ
+startOf Up f = f
+startOf Down f = min f 20000

@@ -7,6 +7,12 @@ pub enum Found {
     Left(u32),
 }
 
+// The side that a search looks at: the lines from one on, or those before it, the last first.
+pub enum Way {
+    Up,
+    Down,
+}
+
 // An edge of an area, and the end of a placement that is placed.
 pub enum GridAreaEnd {
     Start,

@@ -2,11 +2,13 @@
 ghost use Rattle.line_placement.specs.Rule.{eqBytes};
 ghost use Rattle.line_search.specs.Areas.{sideOf};
 ghost use Rattle.line_search.specs.Suffixes.{edgeOf, endsWith, sideEdge, stemOf, tailOf};
+ghost use Rattle.name_store.specs.Entries.{entryOf, nameIn};
 ghost use lib.ListN.{length};
 ghost use mathlib.Core.List.{_++_};
 ghost use mathlib.Core.Path.{_≡_};
 use crate::GridAreaEnd;
 use name_store::bytes;
+use name_store::entry;
 
 // The edge of an area that a name stands for.
 pub enum AreaEdge {
@@ -86,4 +88,16 @@ pub fn is_joined(name: &[u8], stem: &[u8], tail: &[u8]) -> bool
         return false;
     }
     bytes::same_bytes(&name[0..at], stem)
+}
+
+// Whether an entry has the name that is the stem followed by the suffix of the edge.
+pub fn has_name(store: &[u8], word: u64, stem: &[u8], edge: AreaEdge) -> bool
+    ensures { λ r. ⌜ r ≡ eqBytes (nameIn (now (store .entry)) (entryOf word)) (now (stem .entry) ++ tailOf edge) ⌝ }
+{
+    let name = entry::name_in(store, entry::entry_of(word));
+    match edge {
+        AreaEdge::Start => is_joined(name, stem, b"-start"),
+        AreaEdge::End => is_joined(name, stem, b"-end"),
+        AreaEdge::Neither => is_joined(name, stem, b""),
+    }
 }

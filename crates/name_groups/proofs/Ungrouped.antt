@@ -1,25 +1,23 @@
--- With no groups all entries are looked at. Assumes nothing.
-use mathlib.Core.Path.{_≡_, sym, _∙_}
-use mathlib.Core.Bool.{false}
-use mathlib.Core.List.{List, []}
-use Prim.Native.Nat.{ℕ}
+-- Entries that are kept together are all looked at. Assumes nothing.
+use mathlib.Core.Path.{_≡_}
+use mathlib.Core.List.{List}
+use Prim.Native.Nat.{ℕ, _-_}
 use native.Mathlib.Omega.{arith}
 use borrow.Author.Tests.{le-ltb}
-use lib.Dec.{ltb}
+use lib.ListN.{length}
+use lib.Seq.{take-all}
 use Rattle.line_search.proofs.Suffixes.{never}
-use Rattle.name_groups.specs.Groups.{partFor, listedAt, Grouped}
+use Rattle.name_groups.specs.declared.key.Grouping.the-variants.{Whole}
+use Rattle.name_groups.specs.Groups.{groupAt, groupPart, Grouped}
 
-none-below : (key : ℕ) → ltb key 0 ≡ false
-none-below key = le-ltb key 0 (omega arith)
+-- their group is all of them
+pub whole-part : (entries : List ℕ) (key : ℕ) → groupPart entries (groupAt Whole entries key) ≡ entries
+unfolding groupAt groupPart
+whole-part entries key =
+    rw (le-ltb (length entries) 0 (omega arith), le-ltb (length entries) (length entries) (omega arith))
+    (take-all (length entries - 0) entries (omega arith))
 
-all-looked-at : (entries : List ℕ) (key : ℕ) → partFor entries [] key ≡ entries
-unfolding partFor
-all-looked-at entries key = rw (none-below key)
-
-none-listed : (key : ℕ) → listedAt [] key ≡ false
-unfolding listedAt
-none-listed key = rw (none-below key)
-
-pub ungrouped : (entries store groups : List ℕ) → groups ≡ [] → Grouped entries store entries groups
-ungrouped entries store groups e =
-    rw e (record { whole = λ nm number. rw (all-looked-at entries); lists = λ key h. never (sym (none-listed key) ∙ h) })
+pub whole-grouped : (entries store : List ℕ) → Grouped Whole entries store entries
+unfolding groupAt
+whole-grouped entries store =
+    record { whole = λ nm number. rw (whole-part entries _); lists = λ stem edge h. never h }

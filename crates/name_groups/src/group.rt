@@ -1,42 +1,65 @@
 // The group of a key: the entries that can have a name of that key, and whether they are listed.
 ghost use mathlib.Core.Path.{_≡_};
-ghost use Rattle.name_groups.specs.Groups.{groupPart, partFor, listedAt};
+ghost use Prim.Native.Nat.{_≤_};
+ghost use Rattle.name_groups.specs.Groups.{groupAt, groupPart, keyGroup};
+ghost use Rattle.name_groups.specs.Keys.{joinedKey};
+use crate::key::FEW_KEYS;
+use crate::key::Grouping;
+use crate::key::MANY_KEYS;
+use crate::key::joined_key;
+use line_search::suffix::AreaEdge;
+
+// Where the entries of a group lie, and whether they list the lines of one name.
+pub struct Group {
+    pub first: usize,
+    pub end: usize,
+    pub listed: bool,
+}
+
+// The group of a key, by its word.
+fn group_at(index: &[u64], keys: usize, key: usize) -> Group
+    requires { ⌜ keys ≤ 1024 ⌝ }
+    ensures { λ r. ⌜ r ≡ keyGroup keys (now (index .entry)) key ⌝ }
+{
+    if index.len() <= key {
+        return Group {
+            first: 0,
+            end: 0,
+            listed: false,
+        };
+    }
+    let word = index[key];
+    Group {
+        first: keys + (word % 0x1_0000) as usize,
+        end: keys + (word / 0x1_0000 % 0x1_0000) as usize,
+        listed: word / 0x1_0000_0000 == 0,
+    }
+}
+
+// The group in which the entries of a name in two parts are kept: all entries where they are kept together.
+pub fn group_of(index: &[u64], grouping: Grouping, stem: &[u8], edge: AreaEdge) -> Group
+    ensures { λ r. ⌜ r ≡ groupAt grouping (now (index .entry)) (joinedKey grouping (now (stem .entry)) edge) ⌝ }
+{
+    match grouping {
+        Grouping::Whole => Group {
+            first: 0,
+            end: index.len(),
+            listed: false,
+        },
+        Grouping::Few => group_at(index, FEW_KEYS, joined_key(grouping, stem, edge)),
+        Grouping::Many => group_at(index, MANY_KEYS, joined_key(grouping, stem, edge)),
+    }
+}
 
 // The entries of a group, cut where they end.
-fn group_part(grouped: &[u64], word: u64) -> &[u64]
-    ensures { λ r. ⌜ now r ≡ groupPart (now (grouped .entry)) word ⌝ }
+pub fn group_part(index: &[u64], group: Group) -> &[u64]
+    ensures { λ r. ⌜ now r ≡ groupPart (now (index .entry)) group ⌝ }
 {
-    let first = (word % 0x1_0000) as usize;
-    let count = (word / 0x1_0000 % 0x1_0000) as usize;
-    let end = grouped.len();
-    if end <= first {
-        return &grouped[end..end];
+    let first = group.first;
+    let end = group.end;
+    let last = index.len();
+    if (end < first) | (last < end) {
+        return &index[last..last];
     }
-    if end - first < count {
-        return &grouped[first..end];
-    }
-    let last = first + count;
-    &grouped[first..last]
-}
-
-// The entries that can have a name of the key: its group, all of them where there is no such group.
-pub fn part_for<'a>(grouped: &'a [u64], groups: &[u64], key: u32) -> &'a [u64]
-    ensures { λ r. ⌜ now r ≡ partFor (now (grouped .entry)) (now (groups .entry)) key ⌝ }
-{
-    let at = key as usize;
-    if at < groups.len() {
-        return group_part(grouped, groups[at]);
-    }
-    grouped
-}
-
-// Whether the key has a group whose entries are listed.
-pub fn is_listed(groups: &[u64], key: u32) -> bool
-    ensures { λ r. ⌜ r ≡ listedAt (now (groups .entry)) key ⌝ }
-{
-    let at = key as usize;
-    if groups.len() <= at {
-        return false;
-    }
-    groups[at] / 0x1_0000_0000 == 1
+    &index[first..end]
 }

@@ -7,10 +7,9 @@ use native.Mathlib.Omega.{arith}
 use borrow.Author.Tests.{leb-true, leb-false, ltb-false}
 use lib.Dec.{leb, ltb}
 use lib.ListN.{length}
-use Rattle.coordinates.specs.Refusals.{refusalOf}
 use Rattle.line_placement.specs.Css.{Bytes}
 use Rattle.name_store.specs.Names.{isName}
-use Rattle.name_store.specs.Enter.{entryRefusal, upsertedBy}
+use Rattle.name_store.specs.Enter.{entryRefusal}
 use Rattle.name_store.proofs.Booleans.{both, neither}
 use Rattle.name_store.proofs.Graphic.{name-length}
 
@@ -52,10 +51,3 @@ accepted words bytes count used line name e =
       long = ltb-false words 4096 (s .0);
       wide = ltb-false bytes 32768 (s .1);
     }
-
--- a refused entry leaves everything as it came
-pub refused : (n : ℕ) (entries store : List ℕ) (count used line : ℕ) (name : Bytes) → (n ≡ 0 → ⊥)
-    → record { answer = record { refusal = refusalOf n; count = count; used = used }; entries = entries; store = store }
-    ≡ upsertedBy n entries store count used line name
-refused zero entries store count used line name out = absurd (out refl)
-refused (suc n) entries store count used line name out = refl

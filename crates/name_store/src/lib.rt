@@ -4,18 +4,9 @@ pub mod entry;
 pub mod line_names;
 pub mod name;
 
-use coordinates::Refusal;
-
 // An entry: its line, counted from 1, and where the bytes of its name lie in the store.
 pub struct NameEntry {
     pub line: u32,
     pub offset: u32,
     pub length: u32,
-}
-
-// The answer of an entry call: its refusal, the entries held and the bytes of the store used, as they came where it is refused.
-pub struct Entered {
-    pub refusal: Refusal,
-    pub count: u32,
-    pub used: u32,
 }

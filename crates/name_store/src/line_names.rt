@@ -1,17 +1,15 @@
 // The names of the explicit lines of an axis, each shown as a part of the axis's store.
 ghost use mathlib.Core.Path.{_≡_};
-ghost use mathlib.Core.List.{[]};
 ghost use Prim.Native.Nat.{_≤_};
 ghost use lib.ListN.{length, getD, take, drop};
 ghost use Rattle.line_placement.specs.Rule.{any, written?};
 ghost use Rattle.name_store.specs.Entries.{entryOf, namedEntry, entriesOf};
-ghost use Rattle.name_store.specs.LineNames.{shows, explicitLineNames, lineCount, ofAxis};
+ghost use Rattle.name_store.specs.LineNames.{shows, lineCount};
 ghost use Rattle.name_store.specs.LineEntries.{noEntry, lineEntriesOf, explicitLineEntries};
 use crate::NameEntry;
 use crate::bytes::same_bytes;
 use crate::entry::entry_of;
 use crate::entry::name_in;
-use coordinates::Axis;
 
 // How many lists of line names an axis has, by its entries and its explicit tracks.
 pub fn line_count(count: u32, explicit: u32) -> u64
@@ -102,36 +100,4 @@ pub fn line_entry(entries: &[u64], store: &[u8], explicit: u32, line: u32, place
         return no_entry();
     }
     shown_entry(entries, store, line, place)
-}
-
-// A name of a line, by its place from 0: a part of the store, empty where that line and place hold none.
-pub fn line_name<'a>(
-    entries: &[u64],
-    store: &'a [u8],
-    explicit: u32,
-    line: u32,
-    place: u32,
-) -> &'a [u8]
-    ensures { λ r. ⌜ now r ≡ getD (explicitLineNames explicit (entriesOf (now (entries .entry)) (now (store .entry))) line) place [] ⌝ }
-{
-    name_in(store, line_entry(entries, store, explicit, line, place))
-}
-
-// A name of a line of an axis: a part of the column store or of the row store.
-pub fn line_name_in<'a>(
-    columns: &[u64],
-    rows: &[u64],
-    columnstore: &'a [u8],
-    rowstore: &'a [u8],
-    axis: Axis,
-    explicit: u32,
-    line: u32,
-    place: u32,
-) -> &'a [u8]
-    ensures { λ r. ⌜ now r ≡ getD (explicitLineNames explicit (entriesOf (ofAxis axis (now (columns .entry)) (now (rows .entry))) (ofAxis axis (now (columnstore .entry)) (now (rowstore .entry)))) line) place [] ⌝ }
-{
-    match axis {
-        Axis::Column => line_name(columns, columnstore, explicit, line, place),
-        Axis::Row => line_name(rows, rowstore, explicit, line, place),
-    }
 }

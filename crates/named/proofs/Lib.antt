@@ -1,6 +1,7 @@
 -- Laws of the resolver.
 pub mod Integers
+pub mod Steps
 pub mod Finding
-pub mod Resolving
+pub mod Questions
 pub mod Theorems
 pub mod Cases

@@ -1,2 +1,4 @@
 -- What the contracts of the resolver cite.
 pub mod Placements
+pub mod Steps
+pub mod Questions

@@ -1,18 +1,14 @@
 -- Placements as written and as resolved (document 01, "Panel sheet": kinds `auto line named span nspan`, each with its number).
 use Prim.Native.Nat.{ℕ}
-use mathlib.Core.Path.{_≡_}
-use mathlib.Core.Bool.{Bool, cond}
-use mathlib.Core.List.{List, []}
+use mathlib.Core.Bool.{cond}
+use mathlib.Core.List.{List}
 use lib.Dec.{leb}
 use lib.IntN.{ℤ, pos}
 use lib.ListN.{take, drop}
-use Rattle.coordinates.specs.declared.axis.Axis.{Axis}
-use Rattle.coordinates.specs.declared.refusal.Refusal.{Refusal}
 use Rattle.coordinates.specs.Refusals.{noRefusal, refusalOf, count}
 use Rattle.line_placement.specs.Css as Css
 use Rattle.line_placement.specs.Css.{Bytes, AxisNames}
-use Rattle.line_placement.specs.Rule.{named?, numbered, lineAt, resolved, resolve}
-use Rattle.line_search.specs.Areas.{axisNames}
+use Rattle.line_placement.specs.Rule.{named?, resolve}
 use Rattle.grid_lines.specs.declared.line.GridLine.{GridLine}
 use Rattle.named.specs.declared.Name.{Name}
 use Rattle.named.specs.declared.GridPlacement.{GridPlacement}
@@ -31,22 +27,6 @@ gridLineOf g = record { 0 = g }
 abbrev pub nameOf : List ℕ → Name → Bytes
 nameOf bytes n = take (n .length) (drop (n .offset) bytes)
 
--- the kinds `auto line named span nspan` are 0 to 4
-abbrev pub kindOf : GridPlacement → ℕ
-kindOf Written.Auto = 0
-kindOf (Written.Line g) = 1
-kindOf (Written.NamedLine n i) = 2
-kindOf (Written.Span k) = 3
-kindOf (Written.NamedSpan n k) = 4
-
--- the number beside a kind, 0 where it is unused
-abbrev pub numberOf : GridPlacement → ℤ
-numberOf Written.Auto = pos 0
-numberOf (Written.Line g) = g .0
-numberOf (Written.NamedLine n i) = i
-numberOf (Written.Span k) = pos k
-numberOf (Written.NamedSpan n k) = pos k
-
 -- what an end says, in the words of CSS
 abbrev pub placementOf : List ℕ → GridPlacement → Css.Placement
 placementOf bytes Written.Auto = Css.auto
@@ -55,7 +35,7 @@ placementOf bytes (Written.NamedLine n i) = Css.named (nameOf bytes n) i
 placementOf bytes (Written.Span k) = Css.span k
 placementOf bytes (Written.NamedSpan n k) = Css.nspan (nameOf bytes n) k
 
--- the kinds and numbers of a resolved end
+-- the kinds `auto line span` of a resolved end are 0, 1 and 3, and its number is 0 where it has none
 abbrev pub resolvedKindOf : NonNamedGridPlacement → ℕ
 resolvedKindOf Plain.Auto = 0
 resolvedKindOf (Plain.Line g) = 1
@@ -91,19 +71,6 @@ zeroLine = record { start = Plain.Auto; end = Plain.Auto }
 -- a placement beside the names of an axis, by the rule
 abbrev pub resolvedLine : AxisNames → List ℕ → Line → ResolvedLine
 resolvedLine x names l = endsOf (resolve (x .explicit) (named? x) (placementOf names (l .start)) (placementOf names (l .end)))
-
--- a placement whose named lines became lines
-pub record Numbered (explicit : ℕ) (names : Bytes → ℕ → Bool) (bytes : List ℕ) (l r : Line) : Type 0 where
-  pub first : placementOf bytes (r .start) ≡ numbered explicit names Css.start (placementOf bytes (l .start))
-  pub last : placementOf bytes (r .end) ≡ numbered explicit names Css.end (placementOf bytes (l .end))
-
--- both ends, each beside the line of the other
-abbrev pub resolvedEndsOf : ℕ → (Bytes → ℕ → Bool) → List ℕ → Line → ResolvedLine
-resolvedEndsOf explicit names bytes l =
-    record {
-      start = answerOf (resolved explicit names Css.start (lineAt (placementOf [] (l .end))) (placementOf bytes (l .start)));
-      end = answerOf (resolved explicit names Css.end (lineAt (placementOf [] (l .start))) (placementOf bytes (l .end)));
-    }
 
 -- a refused answer: number 4, line 0 and the zero value
 abbrev pub refusedResolution : Resolution

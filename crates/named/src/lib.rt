@@ -1,10 +1,13 @@
 // Layer 4, the resolver: which line a name stands for.
+pub mod ask;
 pub mod ends;
-mod find;
-pub mod resolve;
+pub mod found;
 
 use coordinates::Refusal;
 use grid_lines::GridLine;
+use line_search::GridAreaEnd;
+use line_search::Way;
+use line_search::suffix::AreaEdge;
 
 // Where a placement's name lies in the lent bytes of the placements' names.
 pub struct Name {
@@ -44,4 +47,26 @@ pub struct ResolvedLine {
 pub struct Resolution {
     pub refusal: Refusal,
     pub line: ResolvedLine,
+}
+
+// One end of a placement, and the grid line of the other, 0 where it has none.
+pub struct End {
+    pub placement: GridPlacement,
+    pub side: GridAreaEnd,
+    pub beside: GridLine,
+}
+
+// The line of a name that an end asks for: an edge of its area first, where no number is written; which way its lines are counted, from which line, and past how many.
+pub struct Question {
+    pub name: Name,
+    pub edge: AreaEdge,
+    pub from: u32,
+    pub way: Way,
+    pub over: u32,
+}
+
+// What an end says: it is resolved, or asks for a line.
+pub enum Asked {
+    Resolved(NonNamedGridPlacement),
+    Line(Question),
 }

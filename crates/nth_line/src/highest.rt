@@ -3,8 +3,8 @@ ghost use Prim.Native.Nat.{max};
 ghost use Rattle.line_search.specs.HighestLine.{higherEdge, highestEntry, highestLine};
 ghost use Rattle.name_store.specs.Entries.{entryOf};
 ghost use mathlib.Core.Path.{_≡_};
+use crate::areas;
 use coordinates::Axis;
-use line_marks::areas;
 use line_search::GridAreaEnd;
 use name_store::entry;
 
@@ -49,7 +49,7 @@ fn higher_edge(axis: Axis, number: u32, word: u64) -> u32
 }
 
 // The highest number of a line that an entry or an area's edge has in an axis, 0 where there is none.
-pub fn highest_line(axis: Axis, entries: &[u64], edges: &[u64]) -> u32
+pub(crate) fn highest_line(axis: Axis, entries: &[u64], edges: &[u64]) -> u32
     ensures { λ r. ⌜ r ≡ highestLine axis (now (entries .entry)) (now (edges .entry)) ⌝ }
 {
     let mut number = highest_entry(entries);

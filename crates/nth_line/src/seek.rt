@@ -1,45 +1,40 @@
 // Marked lines of a window, counted from either side.
-ghost use Prim.Native.Nat.{_-_, _≤_};
-ghost use Rattle.line_placement.specs.Rule.{seek};
-ghost use Rattle.line_search.specs.Marks.{back, marked, seekOf};
+ghost use Prim.Native.Nat.{_-_, _<_, _≤_};
+ghost use Rattle.line_search.specs.Marks.{marked, seekOf};
+ghost use Rattle.nth_line.specs.Scans.{placeAt, scan};
 ghost use lib.ListN.{length};
 ghost use mathlib.Core.Path.{_≡_};
+use crate::window::Window;
 use line_search::Found;
+use line_search::Way;
 
-// Pass over `over` marked lines from `low` on, and answer the next before `end`.
-pub(crate) fn seek_up(marks: &[u8], low: u32, end: u32, over: u32) -> Found
-    requires { ⌜ end - low ≤ length (now marks) ⌝ }
-    ensures { λ r. ⌜ seekOf r ≡ seek (λ l. marked (now (marks .entry)) (l - low)) (end - low) low over ⌝ }
+// The place of a window that is looked at after so many: from the first on, or from the last back.
+fn place_at(way: Way, window: Window, passed: u32) -> u32
+    requires { ⌜ passed < window .end - window .low ⌝ }
+    ensures { λ r. ⌜ r ≡ placeAt way (window .end - window .low) passed ⌝ }
 {
-    let mut line = low;
-    let mut m = over;
-    while line < end {
-        if marks[(line - low) as usize] == 1 {
-            if m == 0 {
-                return Found::At(line);
-            }
-            m -= 1;
-        }
-        line += 1;
+    match way {
+        Way::Up => passed,
+        Way::Down => window.end - window.low - 1 - passed,
     }
-    Found::Left(m)
 }
 
-// Pass over `over` marked lines before `end`, the last first, and answer the next that is not before `low`.
-pub(crate) fn seek_down(marks: &[u8], low: u32, end: u32, over: u32) -> Found
-    requires { ⌜ end - low ≤ length (now marks) ⌝ }
-    ensures { λ r. ⌜ seekOf r ≡ back (λ l. marked (now (marks .entry)) (l - low)) low (end - low) over ⌝ }
+// Pass over `over` marked lines of a window, and answer the next.
+pub(crate) fn seek_marked(marks: &[u8], way: Way, window: Window, over: u32) -> Found
+    requires { ⌜ (window .low ≤ window .end) × (window .end - window .low ≤ length (now marks)) ⌝ }
+    ensures { λ r. ⌜ seekOf r ≡ scan way (λ l. marked (now (marks .entry)) (l - window .low)) (window .low) (window .end - window .low) over ⌝ }
 {
-    let mut past = end;
     let mut m = over;
-    while low < past {
-        if marks[(past - 1 - low) as usize] == 1 {
+    let mut i: u32 = 0;
+    while i < window.end - window.low {
+        let place = place_at(way, window, i);
+        if marks[place as usize] == 1 {
             if m == 0 {
-                return Found::At(past - 1);
+                return Found::At(window.low + place);
             }
             m -= 1;
         }
-        past -= 1;
+        i += 1;
     }
     Found::Left(m)
 }

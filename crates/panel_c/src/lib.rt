@@ -8,7 +8,7 @@ ghost use Rattle.panel_numbers.specs.Answers.{PanelRead, panelRead, PanelEntere
 ghost use Rattle.panel_c.specs.Names.{ShowsName};
 ghost use Rattle.panel_numbers.specs.Records.{WrittenRun, recordsWritten};
 ghost use Rattle.line_name_run.specs.Lists.{listsWritten};
-ghost use Rattle.placement_run.specs.Placements.{WrittenNumbers, placementsWritten};
+ghost use Rattle.panel_resolving.specs.Placements.{WrittenNumbers, placementsWritten};
 use coordinates::refusal::COUNT;
 use panel_numbers::CountAnswer;
 use panel_numbers::NameAnswer;
@@ -200,7 +200,7 @@ pub extern "C" fn palgwern_resolve_placements(
 ) -> CountAnswer
     ensures { λ r. ⌜ record { answer = r; numbers = now (numbers .exit) } ≡ placementsWritten panel (record { columns = now (columns .entry); rows = now (rows .entry); columnStore = now (columnstore .entry); rowStore = now (rowstore .entry) }) (record { words = now (areas .entry); bytes = now (areabytes .entry) }) (record { words = now (placements .entry); bytes = now (placementbytes .entry) }) first (now (numbers .entry)) ⌝ }
 {
-    placement_run::write_placements(
+    panel_resolving::run::write_placements(
         panel,
         columns,
         rows,

@@ -1,10 +1,9 @@
 // The drawn areas: 64 words of edges, then 64 words of names; the bytes of the names one after the other.
 ghost use mathlib.Core.Path.{_≡_};
 ghost use Prim.Native.Nat.{_≤_, min};
-ghost use Rattle.panel_tables.specs.Areas.{edgesOf, wordOf, areaAt, edgesIn, areaName, hasAreaIn};
+ghost use Rattle.panel_tables.specs.Areas.{edgesOf, wordOf, areaAt, areaName, hasAreaIn};
 use crate::AreaEdges;
 use crate::AreaPlace;
-use crate::EdgePair;
 use coordinates::Axis;
 use tables::layout::name_place;
 use tables::layout::word_at;
@@ -49,22 +48,6 @@ pub fn area_at(words: &[u64; AREA_WORDS], index: u32) -> AreaPlace
         edges,
         offset: name.offset,
         length: name.length,
-    }
-}
-
-// The edges of an area in an axis.
-pub fn edges_in(edges: AreaEdges, axis: Axis) -> EdgePair
-    ensures { λ r. ⌜ r ≡ edgesIn edges axis ⌝ }
-{
-    match axis {
-        Axis::Column => EdgePair {
-            start: edges.columnstart,
-            end: edges.columnend,
-        },
-        Axis::Row => EdgePair {
-            start: edges.rowstart,
-            end: edges.rowend,
-        },
     }
 }
 

@@ -35,8 +35,8 @@ use Rattle.track_run.proofs.Filling.{state-record}
 use Rattle.tables.specs.declared.AxisState.{AxisState}
 use Rattle.panel_rules.specs.Calls.{axisTracks, templateIn, sparesIn}
 use Rattle.panel_grid.proofs.Carried.{carried-answer}
-use Rattle.record_words.specs.Pairs.{recordNumbers, joined, axisPair}
-use Rattle.record_words.proofs.Pairs.{joined-none, joined-one, three-runs}
+use Rattle.record_run.specs.Pairs.{recordNumbers, joined, axisPair}
+use Rattle.record_run.proofs.Pairs.{joined-none, joined-one, three-runs}
 use Rattle.panel_numbers.specs.Records.{kindNumber, kindWord, sizeWord, recordWords, runWords, runRefusal, runCount}
 
 -- ---- which records there are and fit

@@ -7,15 +7,15 @@ ghost use Rattle.explicit_grid.specs.Template.{templateOf};
 ghost use Rattle.grid_track.specs.Written.{sparesOf};
 ghost use Rattle.grid_track.specs.Records.{itemAt};
 ghost use Rattle.grid_track.specs.Steps.{planOf, recordOf};
-ghost use Rattle.record_words.specs.Pairs.{joined};
+ghost use Rattle.record_run.specs.Pairs.{joined};
 ghost use Rattle.panel_numbers.specs.Records.{recordWords};
+use crate::axis::write_pairs;
+use crate::plan::make_plan;
 use grid_track::AxisTracks;
 use grid_track::GridTrack;
 use grid_track::Plan;
 use panel_numbers::numbers::kind_word;
 use panel_numbers::numbers::size_word;
-use record_words::axis::write_pairs;
-use record_words::plan::make_plan;
 use track_rule::rule::cursor_at;
 use track_rule::rule::record_with;
 

@@ -25,9 +25,30 @@ use tables::layout::SPARE_MINIMUMS;
 use tables::layout::words_part;
 use written_tracks::plan::track_count;
 
+mod axis;
+mod count;
 mod edge;
+mod implicit;
+mod pair;
+mod part;
+mod plan;
+mod size;
+mod template;
 
 use edge::write_axis;
+
+// What all gutters share: the word of the gap, and one past the last open track.
+pub(crate) struct Gutters {
+    pub gap: u64,
+    pub opened: u64,
+}
+
+// Tracks that repeat: the place of the first in the tables of sizes, how many there are, and whether `fit` writes them.
+pub(crate) struct Repeated {
+    pub first: u64,
+    pub length: u64,
+    pub fit: bool,
+}
 
 // Writes so many records from one on.
 fn write_records(

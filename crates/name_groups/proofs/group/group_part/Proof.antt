@@ -1,6 +1,6 @@
-use Prim.Native.Nat.{_/_, _%_}
 use native.Mathlib.Omega.{arith}
-use Rattle.name_store.proofs.Parts.{past, cut, inside}
+use Rattle.name_groups.specs.Groups.{groupPart}
+use Rattle.name_groups.proofs.Parting.{no-part, in-part}
 use borrow.Author.Needs.{needs}
 use Rattle.name_groups.proofs.group.group_part.Statement.{statement}
 use Rattle.name_groups.proofs.group.group_part.Tie as tie
@@ -18,43 +18,24 @@ part-result-end : tie.Need-part-result-end
 part-result-end c = search needs
 
 returns : tie.Need-returns
-returns c = let a = c .before .before .args in past (a .grouped .now) (a .word % 65536) (a .word / 65536 % 65536) (c .before .if1 .taken)
-
-sub-if2 : tie.Need-sub-if2
-sub-if2 c = search needs
+unfolding groupPart
+returns c = rw (c .before .if1 .taken) (no-part (c .before .before .args .index .now))
 
 mul-result-2 : tie.Need-mul-result-2
-mul-result-2 c = search needs
+mul-result-2 c = let a = c .before .args in omega (arith, in-part (a .index .now) (a .group) (c .if1 .left))
 
 sub-result-2 : tie.Need-sub-result-2
-sub-result-2 c = search needs
+sub-result-2 c = let a = c .before .args in omega (arith, in-part (a .index .now) (a .group) (c .if1 .left))
 
 part-result-start-2 : tie.Need-part-result-start-2
-part-result-start-2 c = search needs
+part-result-start-2 c = let a = c .before .args in in-part (a .index .now) (a .group) (c .if1 .left) .0
 
 part-result-end-2 : tie.Need-part-result-end-2
-part-result-end-2 c = search needs
+part-result-end-2 c = let a = c .before .args in in-part (a .index .now) (a .group) (c .if1 .left) .1
 
 returns-2 : tie.Need-returns-2
-returns-2 c = let a = c .before .before .before .args in cut (a .grouped .now) (a .word % 65536) (a .word / 65536 % 65536) (omega arith)
-
-add-last : tie.Need-add-last
-add-last c = search needs
-
-mul-result-3 : tie.Need-mul-result-3
-mul-result-3 c = search needs
-
-sub-result-3 : tie.Need-sub-result-3
-sub-result-3 c = search needs
-
-part-result-start-3 : tie.Need-part-result-start-3
-part-result-start-3 c = search needs
-
-part-result-end-3 : tie.Need-part-result-end-3
-part-result-end-3 c = search needs
-
-returns-3 : tie.Need-returns-3
-returns-3 c = let a = c .before .before .before .args in inside (a .grouped .now) (a .word % 65536) (a .word / 65536 % 65536)
+unfolding groupPart
+returns-2 c = rw (c .before .if1 .left)
 
 pub group-part-spec : {M : Type 1} → statement M
 group-part-spec =
@@ -65,15 +46,8 @@ group-part-spec =
     part-result-start
     part-result-end
     returns
-    sub-if2
     mul-result-2
     sub-result-2
     part-result-start-2
     part-result-end-2
-    returns-2
-    add-last
-    mul-result-3
-    sub-result-3
-    part-result-start-3
-    part-result-end-3
-    returns-3)
+    returns-2)

@@ -1,49 +1,48 @@
-use Rattle.panel_resolving.proofs.Groups.{panel-ungrouped}
+use mathlib.Core.Path.{ap}
+use Prim.Native.Nat.{ℕ}
+use borrow.Author.Tests.{le-ltb}
+use lib.Dec.{ltb}
+use Rattle.panel_rules.specs.Placing.{resolvePlacement}
+use Rattle.panel_resolving.proofs.Placed.{placed}
 use borrow.Author.Needs.{needs}
 use Rattle.panel_resolving.proofs.placing.resolve_placement.Statement.{statement}
 use Rattle.panel_resolving.proofs.placing.resolve_placement.Tie as tie
 
-entries-of-requires : tie.Need-entries-of-requires
-entries-of-requires c κs = search needs
-
-entries-of-requires-2 : tie.Need-entries-of-requires-2
-entries-of-requires-2 c κs = search needs
-
-sub-resolve-beside : tie.Need-sub-resolve-beside
-sub-resolve-beside c = search needs
-
-part-resolve-beside-start : tie.Need-part-resolve-beside-start
-part-resolve-beside-start c = search needs
-
-part-resolve-beside-end : tie.Need-part-resolve-beside-end
-part-resolve-beside-end c = search needs
-
-sub-resolve-beside-2 : tie.Need-sub-resolve-beside-2
-sub-resolve-beside-2 c = search needs
-
-part-resolve-beside-start-2 : tie.Need-part-resolve-beside-start-2
-part-resolve-beside-start-2 c = search needs
-
-part-resolve-beside-end-2 : tie.Need-part-resolve-beside-end-2
-part-resolve-beside-end-2 c = search needs
-
-resolve-beside-requires : tie.Need-resolve-beside-requires
-resolve-beside-requires c κs = let a = c .before .before .before .before .before .before .before .before .args in panel-ungrouped (a .panel) (record { columns = a .columns .now; rows = a .rows .now; columnStore = a .columnstore .now; rowStore = a .rowstore .now }) _ _ (c .before .before .before .before .entries-of .ensures) (c .before .before .entries-of2 .ensures)
+refused-placement-requires : tie.Need-refused-placement-requires
+refused-placement-requires c κs = search needs
 
 returns : tie.Need-returns
-returns c = search needs
+unfolding resolvePlacement
+returns c = rw (c .refused-placement .ensures, le-ltb _ _ (c .before .if1 .taken))
+
+placement-at-requires : tie.Need-placement-at-requires
+placement-at-requires c κs = search needs
+
+line-placement-requires : tie.Need-line-placement-requires
+line-placement-requires c κs = search needs
+
+resolve-in-requires : tie.Need-resolve-in-requires
+resolve-in-requires c κs = search needs
+
+smaller-requires : tie.Need-smaller-requires
+smaller-requires c κs = search needs
+
+placed-by-requires : tie.Need-placed-by-requires
+placed-by-requires c κs = search needs
+
+returns-2 : tie.Need-returns-2
+returns-2 c = let a = c .before .before .before .before .before .before .before .before .before .args in
+    placed (a .panel) (record { columns = a .columns .now; rows = a .rows .now; columnStore = a .columnstore .now; rowStore = a .rowstore .now }) (record { words = a .areas .now; bytes = a .areabytes .now }) (record { words = a .placements .now; bytes = a .placementbytes .now }) (a .index) (c .before .before .before .before .before .if1 .left) (c .before .before .before .before .placement-at .result) (c .before .before .before .line-placement .result) (c .before .before .resolve-in .result) (ltb (c .before .smaller .result) 32768) (c .placed-by .result) (c .before .before .before .before .placement-at .ensures) (c .before .before .before .line-placement .ensures) (c .before .before .resolve-in .ensures) (ap (λ (n : ℕ). ltb n 32768) (c .before .smaller .ensures)) (c .placed-by .ensures)
 
 pub resolve-placement-spec : {M : Type 1} → statement M
 resolve-placement-spec =
     tie.close
     (tie.spec
-    entries-of-requires
-    entries-of-requires-2
-    sub-resolve-beside
-    part-resolve-beside-start
-    part-resolve-beside-end
-    sub-resolve-beside-2
-    part-resolve-beside-start-2
-    part-resolve-beside-end-2
-    resolve-beside-requires
-    returns)
+    refused-placement-requires
+    returns
+    placement-at-requires
+    line-placement-requires
+    resolve-in-requires
+    smaller-requires
+    placed-by-requires
+    returns-2)

@@ -3,7 +3,7 @@ use mathlib.Core.Path.{ap, _∙_}
 use lib.Seq.{sets}
 use Rattle.explicit_grid.specs.Template.{templateOf}
 use Rattle.grid_track.specs.Written.{sparesOf}
-use Rattle.record_words.proofs.Pairs.{put-none}
+use Rattle.record_run.proofs.Pairs.{put-none}
 use Rattle.record_run.proofs.Running.{wordsAt, edge-words}
 use borrow.Author.Needs.{needs}
 use Rattle.record_run.proofs.edge.write_edge.Statement.{statement}

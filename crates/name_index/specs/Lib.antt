@@ -1,3 +1,0 @@
--- What the contracts of grouped entries and of chains cite.
-pub mod Chains
-pub mod Grouping

@@ -1,4 +1,0 @@
--- Laws of the nearest line of a name.
-pub mod Distances
-pub mod Passes
-pub mod Walks

@@ -1,0 +1,44 @@
+-- The names of an axis as the index of a run keeps them (document 01, layer 4): a name's lines are those of its group's entries and of the drawn areas.
+use mathlib.Core.Path.{_≡_}
+use mathlib.Core.Bool.{Bool, cond}
+use mathlib.Core.List.{List}
+use Prim.Native.Nat.{ℕ}
+use lib.Dec.{leb}
+use Rattle.coordinates.specs.Refusals.{noRefusal}
+use Rattle.line_placement.specs.Css.{Bytes, Area}
+use Rattle.name_store.specs.Entries.{entriesOf}
+use Rattle.line_search.specs.Areas.{areasOf, bears}
+use Rattle.name_groups.specs.Keys.{joinedKey, keyOf}
+use Rattle.name_groups.specs.Groups.{groupAt, groupPart}
+use Rattle.nth_line.specs.Sought.{marksOf}
+use Rattle.nth_line.specs.declared.Sought.{Sought}
+use Rattle.named.specs.declared.Line.{Line}
+use Rattle.named.specs.declared.Resolution.{Resolution}
+use Rattle.named.specs.Placements.{refusedResolution}
+use Rattle.named.specs.Questions.{answeredLine}
+use Rattle.tables.specs.Runs.{partOf}
+use Rattle.panel_resolving.specs.declared.Around.{Around}
+
+-- the entries of a name's group
+abbrev pub partOfName : Around → List ℕ → Bytes → List ℕ
+partOfName x index nm = groupPart index (groupAt (x .grouping) index (keyOf (x .grouping) nm))
+
+-- the drawn areas as the axis sees them
+abbrev pub areasAround : Around → List ℕ → List ℕ → List Area
+areasAround x areas areabytes = areasOf (x .axis) (partOf areas 0 (x .areas)) (partOf areas 64 (x .areas)) areabytes
+
+-- whether a line bears a name
+unfoldable pub bearsBy : Around → List ℕ → List ℕ → List ℕ → List ℕ → Bytes → ℕ → Bool
+bearsBy x index store areas areabytes nm number = bears (entriesOf (partOfName x index nm) store) (areasAround x areas areabytes) nm number
+
+-- the lines that a search looks at: those of the name that is the stem followed by the suffix of the edge
+unfoldable pub soughtBy : Around → Sought → List ℕ → List ℕ → List ℕ → List ℕ → Bytes → ℕ → Bool
+soughtBy x s index store areas areabytes stem =
+    marksOf s (groupPart index (groupAt (x .grouping) index (joinedKey (x .grouping) stem (s .edge)))) store (partOf areas 0 (x .areas)) (partOf areas 64 (x .areas)) areabytes stem
+
+-- a placement beside these names; an explicit count above 10,000 is refused by 4
+unfoldable pub resolutionBy : ℕ → (Bytes → ℕ → Bool) → List ℕ → Line → Resolution
+resolutionBy explicit names bytes l =
+    cond (leb explicit 10000)
+    (record { refusal = noRefusal; line = answeredLine names bytes explicit l })
+    refusedResolution

@@ -1,0 +1,118 @@
+// The one look into the tables: the line that a question asks for.
+ghost use Rattle.line_search.specs.Marks.{seekOf};
+ghost use Rattle.line_search.specs.Suffixes.{stemOf};
+ghost use Rattle.name_groups.specs.Groups.{Lists};
+ghost use Rattle.named.specs.Placements.{nameOf};
+ghost use Rattle.named.specs.Questions.{foundBy};
+ghost use Rattle.panel_resolving.specs.Asking.{asksOwn, soughtFor};
+ghost use Rattle.panel_resolving.specs.Names.{bearsBy};
+ghost use mathlib.Core.Bool.{cond};
+ghost use mathlib.Core.Path.{_≡_};
+use crate::Around;
+use crate::search::find_line;
+use line_search::Found;
+use line_search::Way;
+use line_search::suffix::AreaEdge;
+use line_search::suffix::edge_of;
+use line_search::suffix::stem_of;
+use name_store::NameEntry;
+use name_store::entry;
+use named::Name;
+use named::Question;
+use nth_line::Sought;
+use panel_tables::area::AREA_BYTES;
+use panel_tables::area::AREA_WORDS;
+use panel_tables::placement::PLACEMENT_BYTES;
+
+// The bytes of a placement's name.
+fn name_of(names: &[u8], name: Name) -> &[u8]
+    ensures { λ r. ⌜ now r ≡ nameOf (now (names .entry)) name ⌝ }
+{
+    entry::name_in(
+        names,
+        NameEntry {
+            line: 0,
+            offset: name.offset,
+            length: name.length,
+        },
+    )
+}
+
+// Whether the lines of the name itself are asked for first, and not an edge of its area.
+fn asks_own(edge: AreaEdge) -> bool
+    ensures { λ r. ⌜ r ≡ asksOwn edge ⌝ }
+{
+    match edge {
+        AreaEdge::Start => false,
+        AreaEdge::End => false,
+        AreaEdge::Neither => true,
+    }
+}
+
+// What is sought for a question: the lines of the name itself, or the first edge of its area.
+fn sought_for(around: Around, question: Question, own: bool, name: &[u8]) -> Sought
+    ensures { λ r. ⌜ r ≡ soughtFor around question own (now (name .entry)) ⌝ }
+{
+    let axis = around.axis;
+    if own {
+        let edge = edge_of(name);
+        let way = question.way;
+        return Sought {
+            axis,
+            edge,
+            way,
+            from: question.from,
+            over: question.over,
+        };
+    }
+    let edge = question.edge;
+    Sought {
+        axis,
+        edge,
+        way: Way::Up,
+        from: 0,
+        over: 0,
+    }
+}
+
+// The part of a name before the suffix that is sought.
+fn stem_sought(name: &[u8], own: bool, edge: AreaEdge) -> &[u8]
+    ensures { λ r. ⌜ now r ≡ cond own (stemOf (now (name .entry)) edge) (now (name .entry)) ⌝ }
+{
+    if own {
+        return stem_of(name, edge);
+    }
+    name
+}
+
+// The line that a question asks for: an edge of the name's area first, where it asks for one, then the lines of the name.
+pub(crate) fn find_named_line(
+    around: Around,
+    question: Question,
+    index: &[u64],
+    store: &[u8],
+    areas: &[u64; AREA_WORDS],
+    areabytes: &[u8; AREA_BYTES],
+    names: &[u8; PLACEMENT_BYTES],
+) -> Found
+    requires { ⌜ Lists (around .grouping) (now index) (now store) ⌝ }
+    ensures { λ r. ⌜ seekOf r ≡ foundBy (bearsBy around (now (index .entry)) (now (store .entry)) (now (areas .entry)) (now (areabytes .entry))) (nameOf (now (names .entry)) (question .name)) question ⌝ }
+{
+    let name = name_of(names, question.name);
+    let first = question.edge;
+    let mut own = asks_own(first);
+    loop {
+        let sought = sought_for(around, question, own, name);
+        let edge = sought.edge;
+        let stem = stem_sought(name, own, edge);
+        match find_line(around, sought, index, store, areas, areabytes, stem) {
+            Found::At(line) => return Found::At(line),
+            Found::Left(m) => {
+                if own {
+                    return Found::Left(m);
+                }
+                own = true;
+            }
+        }
+    }
+}

@@ -1,0 +1,114 @@
+// A placement beside the names of an axis: each end asks for a line, or is resolved as written.
+ghost use Prim.Native.Nat.{_≤_};
+ghost use Rattle.name_groups.specs.Groups.{Lists};
+ghost use Rattle.named.specs.Placements.{refusedResolution, zeroLine};
+ghost use Rattle.named.specs.Questions.{answered};
+ghost use Rattle.named.specs.Steps.{firstEnd, questionOf, secondEnd};
+ghost use Rattle.panel_resolving.specs.Names.{bearsBy, resolutionBy};
+ghost use mathlib.Core.Bool.{cond};
+ghost use mathlib.Core.Path.{_≡_};
+use crate::Around;
+use crate::find::find_named_line;
+use coordinates::refusal;
+use named::Asked;
+use named::End;
+use named::Line;
+use named::NonNamedGridPlacement;
+use named::Resolution;
+use named::ResolvedLine;
+use named::ask::question_of;
+use named::ends::first_end;
+use named::ends::resolved_ends;
+use named::ends::second_end;
+use named::found::found_end;
+use panel_tables::area::AREA_BYTES;
+use panel_tables::area::AREA_WORDS;
+use panel_tables::placement::PLACEMENT_BYTES;
+
+// The most explicit tracks.
+const MOST_TRACKS: u32 = 10000;
+
+// No placement: both ends `auto`.
+pub(crate) fn zero_line() -> ResolvedLine
+    ensures { λ r. ⌜ r ≡ zeroLine ⌝ }
+{
+    ResolvedLine {
+        start: NonNamedGridPlacement::Auto,
+        end: NonNamedGridPlacement::Auto,
+    }
+}
+
+// The resolver's answer for an explicit count above 10,000.
+fn refused_resolution() -> Resolution
+    ensures { λ r. ⌜ r ≡ refusedResolution ⌝ }
+{
+    let refusal = refusal::refusal_of(refusal::COUNT);
+    let line = zero_line();
+    Resolution { refusal, line }
+}
+
+// One end.
+fn resolve_end(
+    around: Around,
+    end: End,
+    index: &[u64],
+    store: &[u8],
+    areas: &[u64; AREA_WORDS],
+    areabytes: &[u8; AREA_BYTES],
+    names: &[u8; PLACEMENT_BYTES],
+) -> NonNamedGridPlacement
+    requires { ⌜ around .explicit ≤ 10000 ⌝ }
+    requires { ⌜ Lists (around .grouping) (now index) (now store) ⌝ }
+    ensures { λ r. ⌜ r ≡ answered (bearsBy around (now (index .entry)) (now (store .entry)) (now (areas .entry)) (now (areabytes .entry))) (now (names .entry)) (around .explicit) (questionOf (around .explicit) end) ⌝ }
+{
+    let explicit = around.explicit as u16;
+    match question_of(explicit, end) {
+        Asked::Resolved(resolved) => resolved,
+        Asked::Line(question) => {
+            let found = find_named_line(around, question, index, store, areas, areabytes, names);
+            found_end(explicit, question, found)
+        }
+    }
+}
+
+// The end that is resolved next: the first, then the other beside its line.
+fn next_end(line: Line, last: bool, first: NonNamedGridPlacement) -> End
+    ensures { λ r. ⌜ r ≡ cond last (secondEnd line first) (firstEnd line) ⌝ }
+{
+    if last {
+        return second_end(line, first);
+    }
+    first_end(line)
+}
+
+// Both ends, by one look into the tables for each that asks. Refused by 4 where the explicit count is above 10,000.
+pub(crate) fn resolve_line_names(
+    around: Around,
+    index: &[u64],
+    store: &[u8],
+    areas: &[u64; AREA_WORDS],
+    areabytes: &[u8; AREA_BYTES],
+    names: &[u8; PLACEMENT_BYTES],
+    line: Line,
+) -> Resolution
+    requires { ⌜ Lists (around .grouping) (now index) (now store) ⌝ }
+    ensures { λ r. ⌜ r ≡ resolutionBy (around .explicit) (bearsBy around (now (index .entry)) (now (store .entry)) (now (areas .entry)) (now (areabytes .entry))) (now (names .entry)) line ⌝ }
+{
+    if MOST_TRACKS < around.explicit {
+        return refused_resolution();
+    }
+    let mut first = NonNamedGridPlacement::Auto;
+    let mut last = false;
+    loop {
+        let end = next_end(line, last, first);
+        let resolved = resolve_end(around, end, index, store, areas, areabytes, names);
+        if last {
+            return Resolution {
+                refusal: refusal::no_refusal(),
+                line: resolved_ends(line, first, resolved),
+            };
+        }
+        first = resolved;
+        last = true;
+    }
+}

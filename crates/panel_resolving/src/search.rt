@@ -1,0 +1,62 @@
+// The lines of a name, sought among the entries of its group and the drawn areas.
+ghost use mathlib.Core.Path.{_≡_};
+ghost use Rattle.line_search.specs.Marks.{seekOf};
+ghost use Rattle.name_groups.specs.Groups.{Lists};
+ghost use Rattle.nth_line.specs.Sought.{lineSought};
+ghost use Rattle.panel_resolving.specs.Listing.{namedPart};
+ghost use Rattle.panel_resolving.specs.Names.{soughtBy};
+use crate::Around;
+use crate::drawn::is_drawn;
+use crate::listed::first_has_name;
+use crate::listed::nth_listed;
+use line_search::Found;
+use name_groups::group::group_of;
+use name_groups::group::group_part;
+use nth_line::Sought;
+use nth_line::nth_line;
+use panel_tables::area::AREA_BYTES;
+use panel_tables::area::AREA_NAMES;
+use panel_tables::area::AREA_WORDS;
+use tables::layout::words_part;
+
+// The entries of a group that can have the name: none where they list another name.
+fn named_part(part: &[u64], listed: bool, named: bool) -> &[u64]
+    ensures { λ r. ⌜ now r ≡ namedPart (now (part .entry)) listed named ⌝ }
+{
+    if listed {
+        if !named {
+            return &part[0..0];
+        }
+    }
+    part
+}
+
+// The line that is sought, as far as the lists of lines go or by the search over all lines.
+pub(crate) fn find_line(
+    around: Around,
+    sought: Sought,
+    index: &[u64],
+    store: &[u8],
+    areas: &[u64; AREA_WORDS],
+    areabytes: &[u8; AREA_BYTES],
+    stem: &[u8],
+) -> Found
+    requires { ⌜ Lists (around .grouping) (now index) (now store) ⌝ }
+    ensures { λ r. ⌜ seekOf r ≡ lineSought sought (soughtBy around sought (now (index .entry)) (now (store .entry)) (now (areas .entry)) (now (areabytes .entry)) (now (stem .entry))) ⌝ }
+{
+    let edge = sought.edge;
+    let held = around.areas;
+    let grouping = around.grouping;
+    let group = group_of(index, grouping, stem, edge);
+    let part = group_part(index, group);
+    let edges = words_part(areas, 0, held);
+    let areanames = words_part(areas, AREA_NAMES, held);
+    let own = named_part(part, group.listed, first_has_name(part, store, stem, edge));
+    if group.listed {
+        if !is_drawn(edges, areanames, areabytes, stem, edge) {
+            let way = sought.way;
+            return nth_listed(own, way, sought.from, sought.over);
+        }
+    }
+    nth_line(sought, own, store, edges, areanames, areabytes, stem)
+}

@@ -1,0 +1,242 @@
+// The placements of one axis in a run, resolved and written as numbers.
+ghost use mathlib.Core.Path.{_≡_};
+ghost use Prim.Native.Nat.{_*_, _+_, _≤_};
+ghost use Rattle.line_search.specs.Areas.{axisNames};
+ghost use Rattle.name_groups.specs.Groups.{Lists};
+ghost use Rattle.named.specs.Placements.{resolutionOf};
+ghost use Rattle.panel_tables.specs.Placements.{axisNumber};
+ghost use Rattle.tables.specs.Runs.{partOf};
+ghost use Rattle.panel_resolving.specs.Chosen.{chosenSets, groupingFor, numbersBy, onAxis, runGrouped};
+ghost use Rattle.panel_resolving.specs.Names.{bearsBy, resolutionBy};
+ghost use lib.Dec.{eqb};
+ghost use lib.ListN.{length};
+use crate::Around;
+use crate::ends::line_placement;
+use crate::placing::placed_by;
+use crate::put::put_placement;
+use crate::resolve::resolve_line_names;
+use coordinates::Axis;
+use name_groups::index::group_entries;
+use name_groups::key::Grouping;
+use panel_tables::area::AREA_BYTES;
+use panel_tables::area::AREA_WORDS;
+use panel_tables::placement::PLACEMENT_BYTES;
+use panel_tables::placement::PLACEMENT_WORDS;
+use panel_tables::placement::placement_at;
+
+// The placements of an axis among `count` from `first` on, and what they are resolved beside.
+pub(crate) struct Run {
+    pub around: Around,
+    pub first: u32,
+    pub count: u32,
+}
+
+// Up to so many entries are kept in few groups, up to so many in many.
+const FEW_ENTRIES: usize = 128;
+
+const MANY_ENTRIES: usize = 4096;
+
+// So many entries that are passed over take as long as the making of groups.
+const PASSED_OVER: usize = 256;
+
+// The index of few entries and of many: a word for each key, and the entries.
+const FEW_WORDS: usize = 256;
+
+const MANY_WORDS: usize = 5120;
+
+// The number of an axis.
+fn axis_number(axis: Axis) -> u32
+    ensures { λ r. ⌜ r ≡ axisNumber axis ⌝ }
+{
+    match axis {
+        Axis::Column => 0,
+        Axis::Row => 1,
+    }
+}
+
+// Whether two axes are the same.
+fn same_axis(a: Axis, b: Axis) -> bool
+    ensures { λ r. ⌜ r ≡ eqb (axisNumber a) (axisNumber b) ⌝ }
+{
+    axis_number(a) == axis_number(b)
+}
+
+// Writes the placements of the axis beside an index of the names; the others' numbers stay as they are.
+fn write_beside(
+    run: Run,
+    index: &[u64],
+    store: &[u8],
+    areas: &[u64; AREA_WORDS],
+    areabytes: &[u8; AREA_BYTES],
+    placements: &[u64; PLACEMENT_WORDS],
+    names: &[u8; PLACEMENT_BYTES],
+    numbers: &mut [i32],
+)
+    requires { ⌜ (run .first + run .count ≤ 4294967295) × (6 * run .count ≤ length (now numbers)) ⌝ }
+    requires { ⌜ Lists (run .around .grouping) (now index) (now store) ⌝ }
+    ensures { λ _. ⌜ now (numbers .exit) ≡ chosenSets (onAxis (run .around .axis) (now (placements .entry))) (numbersBy (resolutionBy (run .around .explicit) (bearsBy (run .around) (now (index .entry)) (now (store .entry)) (now (areas .entry)) (now (areabytes .entry))) (now (names .entry))) (now (placements .entry))) 0 (run .first) (run .count) (now (numbers .entry)) ⌝ }
+{
+    let around = run.around;
+    let mut i: u32 = 0;
+    while i < run.count {
+        let place = placement_at(placements, run.first + i);
+        let axis = place.axis;
+        let own = around.axis;
+        if !same_axis(axis, own) {
+            i += 1;
+            continue;
+        }
+        let line = line_placement(place);
+        let resolved = resolve_line_names(around, index, store, areas, areabytes, names, line);
+        put_placement(numbers, 6 * i as usize, placed_by(resolved, axis, false));
+        i += 1;
+    }
+}
+
+// The same run beside entries in groups.
+fn run_grouped(run: Run, grouping: Grouping) -> Run
+    ensures { λ r. ⌜ r ≡ runGrouped run grouping ⌝ }
+{
+    let beside = run.around;
+    let axis = beside.axis;
+    let around = Around {
+        axis,
+        explicit: beside.explicit,
+        areas: beside.areas,
+        grouping,
+    };
+    Run {
+        around,
+        first: run.first,
+        count: run.count,
+    }
+}
+
+// Writes the placements of the axis beside at most 128 entries, which are grouped first.
+fn write_few(
+    run: Run,
+    entries: &[u64],
+    store: &[u8],
+    areas: &[u64; AREA_WORDS],
+    areabytes: &[u8; AREA_BYTES],
+    placements: &[u64; PLACEMENT_WORDS],
+    names: &[u8; PLACEMENT_BYTES],
+    numbers: &mut [i32],
+)
+    requires { ⌜ (run .first + run .count ≤ 4294967295) × (6 * run .count ≤ length (now numbers)) ⌝ }
+    requires { ⌜ length (now entries) ≤ 128 ⌝ }
+    ensures { λ _. ⌜ now (numbers .exit) ≡ chosenSets (onAxis (run .around .axis) (now (placements .entry))) (numbersBy (resolutionOf (axisNames (run .around .explicit) (run .around .axis) (now (entries .entry)) (now (store .entry)) (partOf (now (areas .entry)) 0 (run .around .areas)) (partOf (now (areas .entry)) 64 (run .around .areas)) (now (areabytes .entry))) (now (names .entry))) (now (placements .entry))) 0 (run .first) (run .count) (now (numbers .entry)) ⌝ }
+{
+    let mut index = [0u64; FEW_WORDS];
+    let mut keys = [0u16; FEW_ENTRIES];
+    group_entries(Grouping::Few, entries, store, &mut keys, &mut index);
+    let grouped = run_grouped(run, Grouping::Few);
+    write_beside(
+        grouped,
+        &index,
+        store,
+        areas,
+        areabytes,
+        placements,
+        names,
+        numbers,
+    );
+}
+
+// Writes the placements of the axis beside at most 4,096 entries, which are grouped first.
+fn write_many(
+    run: Run,
+    entries: &[u64],
+    store: &[u8],
+    areas: &[u64; AREA_WORDS],
+    areabytes: &[u8; AREA_BYTES],
+    placements: &[u64; PLACEMENT_WORDS],
+    names: &[u8; PLACEMENT_BYTES],
+    numbers: &mut [i32],
+)
+    requires { ⌜ (run .first + run .count ≤ 4294967295) × (6 * run .count ≤ length (now numbers)) ⌝ }
+    requires { ⌜ length (now entries) ≤ 4096 ⌝ }
+    ensures { λ _. ⌜ now (numbers .exit) ≡ chosenSets (onAxis (run .around .axis) (now (placements .entry))) (numbersBy (resolutionOf (axisNames (run .around .explicit) (run .around .axis) (now (entries .entry)) (now (store .entry)) (partOf (now (areas .entry)) 0 (run .around .areas)) (partOf (now (areas .entry)) 64 (run .around .areas)) (now (areabytes .entry))) (now (names .entry))) (now (placements .entry))) 0 (run .first) (run .count) (now (numbers .entry)) ⌝ }
+{
+    let mut index = [0u64; MANY_WORDS];
+    let mut keys = [0u16; MANY_ENTRIES];
+    group_entries(Grouping::Many, entries, store, &mut keys, &mut index);
+    let grouped = run_grouped(run, Grouping::Many);
+    write_beside(
+        grouped,
+        &index,
+        store,
+        areas,
+        areabytes,
+        placements,
+        names,
+        numbers,
+    );
+}
+
+// How the entries are kept for a run of so many placements: together where they are few, or more than an axis has.
+fn grouping_for(entries: usize, count: u32) -> Grouping
+    ensures { λ r. ⌜ r ≡ groupingFor entries count ⌝ }
+{
+    if entries <= PASSED_OVER / (count as usize + 1) {
+        return Grouping::Whole;
+    }
+    if entries <= FEW_ENTRIES {
+        return Grouping::Few;
+    }
+    if entries <= MANY_ENTRIES {
+        return Grouping::Many;
+    }
+    Grouping::Whole
+}
+
+// Writes the placements of the axis; the others' numbers stay as they are.
+pub(crate) fn write_axis(
+    run: Run,
+    entries: &[u64],
+    store: &[u8],
+    areas: &[u64; AREA_WORDS],
+    areabytes: &[u8; AREA_BYTES],
+    placements: &[u64; PLACEMENT_WORDS],
+    names: &[u8; PLACEMENT_BYTES],
+    numbers: &mut [i32],
+)
+    requires { ⌜ (run .first + run .count ≤ 4294967295) × (6 * run .count ≤ length (now numbers)) ⌝ }
+    ensures { λ _. ⌜ now (numbers .exit) ≡ chosenSets (onAxis (run .around .axis) (now (placements .entry))) (numbersBy (resolutionOf (axisNames (run .around .explicit) (run .around .axis) (now (entries .entry)) (now (store .entry)) (partOf (now (areas .entry)) 0 (run .around .areas)) (partOf (now (areas .entry)) 64 (run .around .areas)) (now (areabytes .entry))) (now (names .entry))) (now (placements .entry))) 0 (run .first) (run .count) (now (numbers .entry)) ⌝ }
+{
+    match grouping_for(entries.len(), run.count) {
+        Grouping::Whole => {
+            let together = run_grouped(run, Grouping::Whole);
+            write_beside(
+                together,
+                entries,
+                store,
+                areas,
+                areabytes,
+                placements,
+                names,
+                numbers,
+            )
+        }
+        Grouping::Few => write_few(
+            run,
+            entries,
+            store,
+            areas,
+            areabytes,
+            placements,
+            names,
+            numbers,
+        ),
+        Grouping::Many => write_many(
+            run,
+            entries,
+            store,
+            areas,
+            areabytes,
+            placements,
+            names,
+            numbers,
+        ),
+    }
+}

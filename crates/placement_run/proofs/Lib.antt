@@ -1,3 +1,0 @@
--- Laws of a run of placements.
-pub mod PlacementRuns
-pub mod Entries

@@ -1,2 +1,0 @@
--- What the contract of a run of placements cites.
-pub mod Placements

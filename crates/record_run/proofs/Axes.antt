@@ -1,0 +1,150 @@
+-- The tracks of an axis in three runs. Assumes nothing.
+use Prim.Native.Nat.{ℕ, _+_, _*_, _-_, _%_, _≤_, _<_, min}
+use native.Mathlib.Omega.{arith}
+use mathlib.Core.Path.{_≡_, refl, sym, ap, _∙_}
+use mathlib.Core.List.{List}
+use mathlib.Core.Bool.{false}
+use lib.ListN.{length, getD}
+use lib.Seq.{sets}
+use Rattle.sizing.specs.declared.MinMax.{MinMax}
+use Rattle.sizing.specs.Words.{sizingOfKind, sizingOf, minMaxOf}
+use Rattle.explicit_grid.specs.Template.{templateOf}
+use Rattle.grid_track.specs.declared.WrittenTrack.{WrittenTrack}
+use Rattle.grid_track.specs.declared.AxisTracks.{AxisTracks}
+use Rattle.grid_track.specs.declared.Cursor.{Cursor}
+use Rattle.grid_track.specs.declared.Plan.{Plan}
+use Rattle.grid_track.specs.Tracks.{autoSize}
+use Rattle.grid_track.specs.Written.{sparesOf}
+use Rattle.grid_track.specs.Records.{negativeOf, itemAt, spareAt}
+use Rattle.grid_track.specs.Steps.{wordTotals, writtenCount, cursorOf, cursorAt, writtenAt, trackAt}
+use Rattle.grid_track.proofs.Words.{totals-words, spares-length, spares-none, spares-get}
+use Rattle.grid_track.proofs.AllTracks.{countIn, track-negative, track-explicit, track-past}
+use Rattle.record_run.specs.declared.Gutters.{Gutters}
+use Rattle.record_run.specs.Pairs.{wordOf, pairWords, joined, partPair, sparePair, templatePair, guttersOf, axisPair}
+use Rattle.record_run.proofs.Pairs.{three-runs, joined-same}
+
+module _ (a : AxisTracks) (p : Plan) (ws mi ma : List ℕ) (sp : List MinMax) (items : List ℕ) where
+  abbrev pair-of : ℕ → WrittenTrack → List ℕ
+  pair-of u x = pairWords (guttersOf a p) (itemAt items) u (x .size) (x .fit)
+
+  -- before the grid
+  pub pair-before : (t first j : ℕ) → first ≡ length sp - negativeOf a % length sp → t + j < negativeOf a →
+      sparePair sp items (first + t) t (guttersOf a p) (t + j) ≡ axisPair a p (templateOf ws mi ma) sp items (t + j)
+  pair-before t first j e h =
+      let z : first + t + (t + j - t) ≡ first + (t + j) = omega arith in
+      ap (λ (n : ℕ). pairWords (guttersOf a p) (itemAt items) (t + j) (spareAt sp n) false) (z ∙ ap (λ (n : ℕ). n + (t + j)) e)
+      ∙ sym (ap (pair-of (t + j)) (track-negative a (templateOf ws mi ma) sp (itemAt items) (t + j) h))
+
+  count-words : p .written ≡ writtenCount a (wordTotals (a .repetitions) ws) → p .written ≡ countIn a (templateOf ws mi ma)
+  count-words e = e ∙ ap (writtenCount a) (sym (totals-words (a .repetitions) ws mi ma))
+
+  -- of the template
+  pub pair-within : (t offset j : ℕ) → p .written ≡ writtenCount a (wordTotals (a .repetitions) ws) → offset ≡ t - negativeOf a → negativeOf a ≤ t → t + j < negativeOf a + p .written →
+      templatePair (wordTotals (a .repetitions) ws) (templateOf ws mi ma) items offset t (guttersOf a p) (t + j) ≡ axisPair a p (templateOf ws mi ma) sp items (t + j)
+  pair-within t offset j e f h k =
+      let c = count-words e in
+      let z : offset + (t + j - t) ≡ t + j - negativeOf a = omega arith in
+      ap (λ (u : Cursor). pair-of (t + j) (writtenAt (templateOf ws mi ma) u))
+      (ap (cursorOf (wordTotals (a .repetitions) ws)) z ∙ ap (λ (ns : List ℕ). cursorAt a ns (t + j)) (sym (totals-words (a .repetitions) ws mi ma)))
+      ∙ sym (ap (pair-of (t + j)) (track-explicit a (templateOf ws mi ma) sp (itemAt items) (t + j) (omega arith) (omega arith)))
+
+  -- after it
+  pub pair-after : (t offset j : ℕ) → p .written ≡ writtenCount a (wordTotals (a .repetitions) ws) → offset ≡ t - (negativeOf a + p .written) → negativeOf a + p .written ≤ t →
+      sparePair sp items offset t (guttersOf a p) (t + j) ≡ axisPair a p (templateOf ws mi ma) sp items (t + j)
+  pair-after t offset j e f h =
+      let c = count-words e in
+      let z : offset + (t + j - t) ≡ t + j - (negativeOf a + countIn a (templateOf ws mi ma)) = omega arith in
+      ap (λ (n : ℕ). pairWords (guttersOf a p) (itemAt items) (t + j) (spareAt sp n) false) z
+      ∙ sym (ap (pair-of (t + j)) (track-past a (templateOf ws mi ma) sp (itemAt items) (t + j) (omega arith)))
+
+-- ---- n of c tracks from a on come before an end e
+pub taken-fits : (n e a c : ℕ) → n ≡ min (e - a) c → n ≤ c
+taken-fits n e a c h = omega arith
+
+taken-within : (n e a c j : ℕ) → n ≡ min (e - a) c → j < n → a + j < e
+taken-within n e a c j h k = omega arith
+
+taken-past : (n e a c j : ℕ) → n ≡ min (e - a) c → j < c - n → e ≤ a + n
+taken-past n e a c j h k = omega arith
+
+some-left : (n m c j : ℕ) → n ≤ c - m → j < n → 0 < c - m
+some-left n m c j h k = omega arith
+
+-- the template has the tracks that are taken of it
+within-room : (negative w first written c middle explicit sum : ℕ) → w ≡ min explicit sum → written ≡ min (negative + w - first) c → middle ≡ first - negative → negative ≤ first →
+    0 < written → middle + written ≤ sum
+within-room negative w first written c middle explicit sum a b e h k = omega arith
+
+pub template-room : (negative w track count before written middle explicit sum : ℕ) → w ≡ min explicit sum → before ≡ min (negative - track) count →
+    written ≡ min (negative + w - (track + before)) (count - before) → middle ≡ track + before - negative → 0 < written → middle + written ≤ sum
+template-room negative w track count before written middle explicit sum a b f e k =
+    within-room negative w (track + before) written (count - before) middle explicit sum a f e
+    (taken-past before negative track count 0 b (some-left written before count 0 (taken-fits written (negative + w) (track + before) (count - before) f) k)) k
+
+-- so many words are there
+pub place-room : (place room count before written : ℕ) → before ≤ count → written ≤ count - before → place + 6 * count ≤ room → place + 6 * before + 6 * written ≤ room
+place-room place room count before written h k l = omega arith
+
+pub rest-room : (place room count before written : ℕ) → before ≤ count → written ≤ count - before → place + 6 * count ≤ room → place + 6 * (before + written) + 6 * (count - before - written) ≤ room
+rest-room place room count before written h k l = omega arith
+
+pub track-room : (track count before written : ℕ) → before ≤ count → written ≤ count - before → track + count < 4294967296 → track + before + written < 4294967296
+track-room track count before written h k l = omega arith
+
+pub rest-tracks : (track count before written : ℕ) → before ≤ count → written ≤ count - before → track + count < 4294967296 → track + before + written + (count - before - written) < 4294967296
+rest-tracks track count before written h k l = omega arith
+
+-- the three runs of an axis
+module _ (a : AxisTracks) (p : Plan) (ws mi ma smi sma items : List ℕ) where
+  abbrev with-gap : ℕ → Gutters
+  with-gap gap = record { gap = gap; opened = p .opened }
+
+  pub axis-runs : (gap before written first middle last track count place : ℕ) (lent once twice thrice : List ℕ) →
+      gap ≡ wordOf (a .gap) → p .written ≡ writtenCount a (wordTotals (a .repetitions) ws) →
+      before ≡ min (negativeOf a - track) count → written ≡ min (negativeOf a + p .written - (track + before)) (count - before) →
+      first ≡ length smi - negativeOf a % length smi → middle ≡ track + before - negativeOf a → last ≡ track + before + written - (negativeOf a + p .written) →
+      once ≡ sets lent place (joined (sparePair (sparesOf smi sma) items (first + track) track (with-gap gap)) track before) →
+      twice ≡ sets once (place + 6 * before) (joined (templatePair (wordTotals (a .repetitions) ws) (templateOf ws mi ma) items middle (track + before) (with-gap gap)) (track + before) written) →
+      thrice ≡ sets twice (place + 6 * (before + written)) (joined (sparePair (sparesOf smi sma) items last (track + before + written) (with-gap gap)) (track + before + written) (count - before - written)) →
+      thrice ≡ sets lent place (joined (axisPair a p (templateOf ws mi ma) (sparesOf smi sma) items) track count)
+  axis-runs gap before written first middle last track count place lent once twice thrice eg ew eb et ef em el x y z =
+      let sp = sparesOf smi sma in
+      let pair = axisPair a p (templateOf ws mi ma) sp items in
+      let g = guttersOf a p in
+      let ns = wordTotals (a .repetitions) ws in
+      let es : first ≡ length sp - negativeOf a % length sp = ef ∙ ap (λ (n : ℕ). n - negativeOf a % n) (sym (spares-length smi sma)) in
+      let fits = taken-fits written (negativeOf a + p .written) (track + before) (count - before) et in
+      three-runs pair 6 (λ u. refl) lent once twice thrice place track count before written (taken-fits before (negativeOf a) track count eb) fits
+      (x ∙ ap (λ (n : ℕ). sets lent place (joined (sparePair sp items (first + track) track (with-gap n)) track before)) eg
+      ∙ ap (sets lent place) (joined-same (sparePair sp items (first + track) track g) pair track before (λ j h. pair-before a p ws mi ma sp items track first j es (taken-within before (negativeOf a) track count j eb h))))
+      (y ∙ ap (λ (n : ℕ). sets once (place + 6 * before) (joined (templatePair ns (templateOf ws mi ma) items middle (track + before) (with-gap n)) (track + before) written)) eg
+      ∙ ap (sets once (place + 6 * before))
+      (joined-same (templatePair ns (templateOf ws mi ma) items middle (track + before) g) pair (track + before) written
+      (λ j h. pair-within a p ws mi ma sp items (track + before) middle j ew em (taken-past before (negativeOf a) track count 0 eb (some-left written before count j fits h)) (taken-within written (negativeOf a + p .written) (track + before) (count - before) j et h))))
+      (z ∙ ap (λ (n : ℕ). sets twice (place + 6 * (before + written)) (joined (sparePair sp items last (track + before + written) (with-gap n)) (track + before + written) (count - before - written))) eg
+      ∙ ap (sets twice (place + 6 * (before + written)))
+      (joined-same (sparePair sp items last (track + before + written) g) pair (track + before + written) (count - before - written)
+      (λ j h. pair-after a p ws mi ma sp items (track + before + written) last j ew el (taken-past written (negativeOf a + p .written) (track + before) (count - before) j et h))))
+
+-- the word of an auto size
+auto-word : minMaxOf 12884901888 12884901888 ≡ autoSize
+unfolding sizingOf sizingOfKind
+auto-word = refl
+
+module _ (mi ma items : List ℕ) (offset t : ℕ) (g : Gutters) where
+  -- where there are no spare sizes, a table of one auto size
+  pub pair-auto : (auto : List ℕ) → getD auto 0 0 ≡ 12884901888 → length mi ≡ 0 → (j : ℕ) →
+      partPair auto auto items (record { first = 0; length = 1; fit = false }) 0 t g (t + j) ≡ sparePair (sparesOf mi ma) items offset t g (t + j)
+  pair-auto auto e h j =
+      let z : 0 + (0 + (t + j - t)) % 1 ≡ 0 = omega arith in
+      ap (λ (n : ℕ). pairWords g (itemAt items) (t + j) (minMaxOf (getD auto n 0) (getD auto n 0)) false) z
+      ∙ ap (λ (w : ℕ). pairWords g (itemAt items) (t + j) (minMaxOf w w) false) e
+      ∙ ap (λ (s : MinMax). pairWords g (itemAt items) (t + j) s false) (auto-word ∙ sym (spares-none mi ma (offset + (t + j - t)) h))
+
+  pub pair-spare : (length mi ≡ 0 → ⊥) → (j : ℕ) →
+      partPair mi ma items (record { first = 0; length = length mi; fit = false }) offset t g (t + j) ≡ sparePair (sparesOf mi ma) items offset t g (t + j)
+  pair-spare h j =
+      let n = (offset + (t + j - t)) % length mi in
+      let z : 0 + n ≡ n = omega arith in
+      ap (λ (k : ℕ). pairWords g (itemAt items) (t + j) (minMaxOf (getD mi k 0) (getD ma k 0)) false) z
+      ∙ sym (ap (λ (s : MinMax). pairWords g (itemAt items) (t + j) s false) (spares-get mi ma (offset + (t + j - t)) h))

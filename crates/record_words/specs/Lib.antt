@@ -1,3 +1,0 @@
--- Definitions that the contracts of `record_words` cite.
-pub mod Pairs
-pub mod Plans
