@@ -1,11 +1,11 @@
 -- The answer of the call against CSS: its repetitions, and its counts, for valid and invalid templates. Assumes nothing.
 use mathlib.Core.Path.{_≡_, refl, sym, ap, _∙_}
-use Prim.Native.Nat.{ℕ, _+_, _<_, max}
+use Prim.Native.Nat.{ℕ, _+_, _≤_, _<_, max}
 use native.Mathlib.Omega.{arith}
 use mathlib.Core.Bool.{Bool, true, false, cond}
 use mathlib.Core.List.{List, [], _∷_}
 use lib.Dec.{leb}
-use borrow.Author.Tests.{eq-eqb, ne-eqb}
+use borrow.Author.Tests.{leb-true, eq-eqb, ne-eqb}
 use lib.ListN.{length}
 use Rattle.coordinates.specs.Refusals.{noRefusal, count, crowded}
 use Rattle.sizing.specs.declared.Sizing.{Sizing}
@@ -66,6 +66,21 @@ chosen t areas false b r e z = absurd (never (sym z ∙ ap (λ (x : ExplicitSize
     never : _≡_ {A = ℕ} 0 8 → ⊥
     never h = omega arith
 
+-- and it has at most 10,000 tracks
+few-tracks : (size : ExplicitSize) (n areas : ℕ) (a b : Bool) (r : ExplicitSize) → leb (max n areas) 10000 ≡ b → r ≡ cond a (cond b size (refusedSize count)) (refusedSize crowded) → r .refusal .number ≡ 0 → n ≤ 10000
+few-tracks size n areas true true r t e z = both n areas (leb-true (max n areas) 10000 t)
+  where
+    both : (n m : ℕ) → max n m ≤ 10000 → n ≤ 10000
+    both n m h = omega arith
+few-tracks size n areas true false r t e z = absurd (never (sym z ∙ ap (λ (x : ExplicitSize). x .refusal .number) e))
+  where
+    never : _≡_ {A = ℕ} 0 4 → ⊥
+    never h = omega arith
+few-tracks size n areas false b r t e z = absurd (never (sym z ∙ ap (λ (x : ExplicitSize). x .refusal .number) e))
+  where
+    never : _≡_ {A = ℕ} 0 8 → ⊥
+    never h = omega arith
+
 module _ (inner : InnerSize) (strategy : AutoRepeatStrategy) (gap : Sizing) (areas : ℕ) (cs : List Component) where
   abbrev pub size : TemplateSize
   size = templateSizeOf inner strategy gap (meaningOf (innerValue inner) cs)
@@ -76,6 +91,12 @@ module _ (inner : InnerSize) (strategy : AutoRepeatStrategy) (gap : Sizing) (are
   pub accepted : answer .refusal .number ≡ 0 → (answer .repetitions ≡ size .repetitions) × (answer .template ≡ size .tracks) × (answer .explicit ≡ max (size .tracks) areas)
   unfolding explicitSizeOf withAreas
   accepted z = chosen size areas (leb (length cs) 64) (leb (max (size .tracks) areas) 10000) answer refl z
+
+  pub accepted-few : answer .refusal .number ≡ 0 → size .tracks ≤ 10000
+  unfolding explicitSizeOf withAreas
+  accepted-few z =
+      few-tracks (record { refusal = noRefusal; repetitions = size .repetitions; template = size .tracks; explicit = max (size .tracks) areas }) (size .tracks) areas (leb (length cs) 64) (leb (max (size .tracks) areas) 10000)
+      answer refl refl z
 
   -- a template that is not valid in CSS's words gives nothing
   pub size-invalid : (Valid cs → ⊥) → size ≡ sizeOf 0 0

@@ -8,11 +8,11 @@ use native.Mathlib.Omega.{arith}
 use lib.Dec.{T, eqb}
 use lib.ListN.{length}
 use lib.IntN.{pos}
-use lib.Ieee.{Float, binary32, mul, inFloat}
+use lib.Ieee.{Float, binary32, inFloat}
 use mir.Val.{Fits}
 use mir.Syntax.{w64}
 use Rattle.explicit_grid.specs.Template.{componentOf, tracksFrom}
-use Rattle.explicit_grid.specs.Space.{whole32}
+use Rattle.explicit_grid.specs.Space.{countedSpace}
 use Rattle.explicit_grid.specs.Summary.{noComponents, outsideStep, automaticStep, stepBy}
 use Rattle.explicit_grid.specs.Bounds.{CountOfWord, OfWord, Gathered}
 use Rattle.explicit_grid.specs.declared.RepetitionCount.{RepetitionCount}
@@ -108,7 +108,7 @@ automatic-gathered n s k t g h =
 
 pub step-gathered : (n : ℕ) (s : TemplateSummary) (k : RepetitionCount) (l : ℕ) (t : TrackTotals) → Gathered n s → CountOfWord k l → l ≤ 65535 → Gathered (n + 1) (stepBy s k l t)
 step-gathered n s Single l t g h m = outside-gathered n s false (t .fixed) 1 (t .space) g (omega arith)
-step-gathered n s (Count times) l t g h m = outside-gathered n s (eqb l 0) (t .fixed) (times * l) (mul binary32 (t .space) (whole32 times)) g (product-small times l h m)
+step-gathered n s (Count times) l t g h m = outside-gathered n s (eqb l 0) (t .fixed) (times * l) (countedSpace (t .space) times) g (product-small times l h m)
 step-gathered n s AutoFill l t g h m = automatic-gathered n s l t g m
 step-gathered n s AutoFit l t g h m = automatic-gathered n s l t g m
 

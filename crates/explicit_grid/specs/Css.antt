@@ -1,5 +1,5 @@
 -- CSS Grid Level 2, 7.2, automatic repeats: which templates are valid, and how often the repeat is written out, as predicates.
--- Sums, leftover and the quotient are document 01's f32 operations (layer 3).
+-- Sums, leftover and the quotient are document 01's f32 operations (layer 3); CssWhole.antt does without them, in whole numbers.
 use mathlib.Core.Path.{_≡_}
 use mathlib.Core.Logic.{_⊎_}
 use Prim.Native.Nat.{ℕ, _+_, _-_, _*_, _≤_, _<_}

@@ -8,5 +8,6 @@ pub mod Summary
 pub mod Repetitions
 pub mod Explicit
 pub mod Css
+pub mod CssWhole
 pub mod Bounds
 pub mod Cases

@@ -13,9 +13,13 @@ use Rattle.explicit_grid.specs.declared.AutoRepeatStrategy.{AutoRepeatSt
 use Rattle.explicit_grid.specs.declared.AutoRepeatStrategy.the-variants.{MaxRepetitionsThatDoNotOverflow, MinRepetitionsThatDoOverflow}
 use Rattle.explicit_grid.specs.declared.TemplateSummary.{TemplateSummary}
 
--- "the tracks outside the repeat held to 10,000 for the gaps": the tracks outside, one repetition, and the gaps between them
+-- "the tracks outside the repeat held to 10,000 for the gaps": how many gaps lie between these and one repetition
+abbrev pub gapsOf : TemplateSummary → ℕ
+gapsOf s = min (s .outside) 10000 + s .repeated - 1
+
+-- the tracks outside, one repetition, and the gaps between them
 abbrev pub firstSpace : TemplateSummary → Float → Float
-firstSpace s gap = add binary32 (add binary32 (s .used) (s .once)) (mul binary32 (whole32 (min (s .outside) 10000 + s .repeated - 1)) gap)
+firstSpace s gap = add binary32 (add binary32 (s .used) (s .once)) (mul binary32 (whole32 (gapsOf s)) gap)
 
 -- "one repetition with its gaps"
 abbrev pub furtherSpace : TemplateSummary → Float → Float

@@ -37,10 +37,14 @@ abbrev pub singleSpace : Float → List MinMax → Float
 singleSpace inner [] = zero32
 singleSpace inner (t ∷ ts) = trackSpace inner t
 
--- "a counted repeat is the sum of its tracks times its count"; an automatic one uses nothing outside itself
+-- "a counted repeat is the sum of its tracks times its count"
+abbrev pub countedSpace : Float → ℕ → Float
+countedSpace space times = mul binary32 space (whole32 times)
+
+-- a component; an automatic repeat uses nothing outside itself
 abbrev pub spaceOf : Float → RepetitionCount → List MinMax → Float
 spaceOf inner Single ts = singleSpace inner ts
-spaceOf inner (Count n) ts = mul binary32 (sumFrom zero32 (map (trackSpace inner) ts)) (whole32 n)
+spaceOf inner (Count n) ts = countedSpace (sumFrom zero32 (map (trackSpace inner) ts)) n
 spaceOf inner AutoFill ts = zero32
 spaceOf inner AutoFit ts = zero32
 

@@ -4,13 +4,13 @@ use mathlib.Core.Bool.{Bool, true, false, cond, _&&_, _||_}
 use mathlib.Core.List.{List, foldl}
 use lib.Dec.{eqb}
 use lib.ListN.{length}
-use lib.Ieee.{Float, binary32, add, mul}
+use lib.Ieee.{Float, binary32, add}
 use Rattle.sizing.specs.Words.{zero32}
 use Rattle.sizing.specs.Definite.{fixedTrack}
 use Rattle.sizing.specs.declared.MinMax.{MinMax}
 use Rattle.explicit_grid.specs.Template.{Component}
 use Rattle.explicit_grid.specs.Counts.{outsideCount, automaticCount, beforeCount, automaticTracks, anyEmpty, allFixed, everyFixed}
-use Rattle.explicit_grid.specs.Space.{whole32, spaceIn, singleSpace, outsideSpace, repetitionSpace}
+use Rattle.explicit_grid.specs.Space.{spaceIn, singleSpace, countedSpace, outsideSpace, repetitionSpace}
 use Rattle.explicit_grid.specs.declared.RepetitionCount.{RepetitionCount}
 use Rattle.explicit_grid.specs.declared.RepetitionCount.the-variants.{Single, Count, AutoFill, AutoFit}
 use Rattle.explicit_grid.specs.declared.TrackTotals.{TrackTotals}
@@ -79,7 +79,7 @@ automaticStep s n t =
 -- one more component of n tracks
 abbrev pub stepBy : TemplateSummary → RepetitionCount → ℕ → TrackTotals → TemplateSummary
 stepBy s Single n t = outsideStep s false (t .fixed) 1 (t .space)
-stepBy s (Count times) n t = outsideStep s (eqb n 0) (t .fixed) (times * n) (mul binary32 (t .space) (whole32 times))
+stepBy s (Count times) n t = outsideStep s (eqb n 0) (t .fixed) (times * n) (countedSpace (t .space) times)
 stepBy s AutoFill n t = automaticStep s n t
 stepBy s AutoFit n t = automaticStep s n t
 
