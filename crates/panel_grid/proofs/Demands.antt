@@ -33,6 +33,7 @@ use Rattle.sheet_rules.specs.Sheet.{Outcome, sheetOf, entriesOf}
 use Rattle.sheet_rules.specs.Rows.{Row, numberOf, HoldsAt, FirstAt, Nowhere}
 use Rattle.sheet_rules.specs.Panels.{Tables, entryWords}
 use Rattle.sheet_rules.specs.Read.{shortStores, readBy, readSheet}
+use Rattle.sheet_rules.proofs.Contents.{view-says}
 use Rattle.sheet_rules.proofs.Theorem.{Found, nowhere, found, sheet-found}
 use Rattle.sheet_rules.proofs.Only.{some-number}
 use Rattle.panel_rules.specs.Calls.{NameTables, NamedWords, namesIn, axisTracks, shortNames, enterRefusal, enterName, trackRecord}
@@ -138,6 +139,7 @@ unfolding sizeAfter
 second-demand s t calls ok =
     let z = accepted-sheet s t ok .0 in
     record {
+      view = view-says s z;
       sizes = run-sizes s t calls ok;
       repeats = λ a c valid m auto. rw (run-sizes s t calls ok a) (Book.found-repetitions (sheetAxis s a) valid c m auto);
       entries = run-entries s t calls ok;

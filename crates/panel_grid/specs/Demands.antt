@@ -30,6 +30,7 @@ use Rattle.panel_tables.specs.Axes.{stateIn, viewIn}
 use Rattle.panel_tables.specs.Placements.{placementAt as placeAt}
 use Rattle.sheet_rules.specs.Sheet.{innerOf, strategyOf, sheetOf}
 use Rattle.sheet_rules.specs.Rows.{Row, numberOf, HoldsAt, FirstAt, Nowhere}
+use Rattle.sheet_rules.specs.Contents.{linesOf, PanelSays}
 use Rattle.sheet_rules.specs.Panels.{Tables}
 use Rattle.sheet_rules.specs.Read.{shortStores, refusedSheet, readSheet}
 use Rattle.panel_rules.specs.Calls.{NameTables, NamedWords, bookIn, namesIn, wordsIn, templateIn, sparesIn, axisTracks, shortNames, enterRefusal, EnteredName, enterName, trackRecord}
@@ -93,6 +94,8 @@ pub record FirstDemand : Type 0 where
 -- sheet's view and the entries that the table accepts; repeats and placements are CSS's
 
 pub record SecondDemand (s : List ℕ) (t : Tables) (calls : List Call) : Type 0 where
+  -- the view, which the name book of demand 3 is fed too, is what the lines of the sheet say
+  pub view : PanelSays (linesOf s) (sheetOf s .view)
   -- layer 3 on the sheet's view; no entry call changes it
   pub sizes : (a : Axis) → sizeOf (runOf s t calls) a ≡ sizeAfter (sheetAxis s a)
   -- the repetitions of a valid template are CSS's

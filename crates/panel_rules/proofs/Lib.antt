@@ -25,7 +25,7 @@ pub mod Order
 pub mod Tracks
 pub mod Runs
 pub mod RegularTest
-pub mod Example
+pub mod Worked
 --   columns alone: `columns-alone`
 pub mod AloneExamples
 pub mod ColumnView

@@ -8,3 +8,4 @@ pub mod Added
 pub mod Order
 pub mod Ranges
 pub mod Alone
+pub mod Worked

@@ -1,5 +1,9 @@
 -- Laws of a sheet.
+pub mod LineFields
 pub mod Says
+pub mod AxisContents
+pub mod TemplateContents
+pub mod Contents
 pub mod Only
 pub mod LineRows
 pub mod LineTheorem

@@ -2,6 +2,7 @@
 pub mod Lines
 pub mod Sheet
 pub mod Rows
+pub mod Contents
 pub mod Steps
 pub mod Panels
 pub mod Read

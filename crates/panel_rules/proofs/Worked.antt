@@ -1,0 +1,327 @@
+-- Worked runs, from the bytes of the sheet to the answers after the run: they answer as specs/Worked.antt has it. The conditions of the third demand
+-- are met by runs with an automatic repeat, and two different runs differ in nothing but row names and row template. Assumes nothing.
+use Prim.Native.Nat.{ℕ, zero, suc}
+use mathlib.Core.Path.{_≡_, refl, sym, ap, ap₂, _∙_}
+use mathlib.Core.Bool.{Bool, true, false, _&&_}
+use native.Mathlib.Omega.{arith}
+use mathlib.Core.List.{List, [], _∷_, _++_, map, List·Memᴰ, List·Memᴰ·head, List·Memᴰ·tail}
+use lib.Ieee.{ofBits, add, sub, mul, div, lt, ofInt}
+use lib.ListN.{length, getD}
+use borrow.Author.Tests.{eq-eqb}
+use Rattle.coordinates.specs.declared.axis.Axis.{Axis}
+use Rattle.coordinates.specs.declared.axis.Axis.the-variants.{Column, Row}
+use Rattle.coordinates.specs.Refusals.{count}
+use Rattle.line_placement.specs.Css.{Bytes, Entry}
+use Rattle.line_placement.specs.Rule.{seek, named?}
+use Rattle.line_placement.specs.Template.{repeated, passed, ruleFrom}
+use Rattle.text.specs.Split.{split, onto, same, index}
+use Rattle.numeral.specs.Whole.{digitsOf, naturalOf, nonNegative, negative, wholeOf, countIn, indexIn}
+use Rattle.numeral.specs.Hexadecimal.{bitsFrom, bitsOf}
+use Rattle.sizing.specs.Ranges.{upTo, minimumKind, largestOf, valueInRange, lengthInRange}
+use Rattle.sizing.specs.Words.{floatUpTo, sizingOfKind, sizingOf}
+use Rattle.explicit_grid.specs.Css.{Automatic, noComponent}
+use Rattle.explicit_grid.specs.Explicit.{templateSizeOf}
+use Rattle.explicit_grid.specs.Counts.{outsideCount, automaticCount, beforeCount, automaticTracks, anyEmpty, allFixed, everyFixed}
+use Rattle.explicit_grid.specs.Space.{outsideSpace, repetitionSpace}
+use Rattle.explicit_grid.specs.Repetitions.{fittingOf, heldOf, repetitionsOf}
+use Rattle.explicit_grid.specs.Whole.{floorOf, ceilingOf}
+use Rattle.records.specs.Faults.{rankOf, firstOf}
+use Rattle.records.specs.Fields.{axisOf, ruleOf, countOf, repetitionOf, codes, nameFault}
+use Rattle.records.specs.Sizes.{kindOf, sizeOf as sizeRead, innerOf}
+use Rattle.records.specs.Ends.{endKind, endName, endNumber, endOf}
+use Rattle.records.specs.Records.{axisLine, areaLine, nameLine, sizesLine, repeatLine, endLine, extraLine, itemLine, placeLine, byKind, recordOf as recordRead}
+use Rattle.name_store.specs.Names.{isName}
+use Rattle.name_store.proofs.Booleans.{both}
+use Rattle.name_store.specs.LineNames.{shownAfter, explicitLineNames}
+use Rattle.grid_track.specs.declared.RecordAnswer.{RecordAnswer}
+use Rattle.grid_track.specs.Tracks.{refusedRecord}
+use Rattle.grid_track.specs.Written.{writtenOut}
+use Rattle.grid_track.specs.Records.{listed, openTo, allTracks, recordsOf, recordAnswerOf}
+use Rattle.tables.specs.View.{AxisView, componentsOf, emptyAxis, trackStep, repeatStep, endStep, nameStep, spareStep, itemStep, extraStep, axisStep}
+use Rattle.panel_tables.specs.View.{PanelView, emptyView, areaStep, placeStep}
+use Rattle.panel_tables.specs.Axes.{viewIn}
+use Rattle.sheet_rules.specs.Lines.{recordStep, recordFault, lineStep}
+use Rattle.sheet_rules.specs.Sheet.{sizeOf as templateSize, entriesOf, endFault, ended, run, sheetOf}
+use Rattle.sheet_rules.specs.Panels.{Tables}
+use Rattle.sheet_rules.specs.Read.{shortStores, readBy, readSheet}
+use Rattle.panel_rules.specs.declared.PlacementAnswer.{PlacementAnswer}
+use Rattle.panel_rules.specs.declared.AxisSize.{AxisSize}
+use Rattle.panel_rules.specs.Placing.{refusedPlacement}
+use Rattle.panel_rules.specs.Runs.{Held, Call, Accepted, runOf, marksOf, sizeOf, nameOf, recordOf}
+use Rattle.panel_rules.specs.Views.{sizeAfter, listsAfter, nameAfter, recordAfter, placementAfter}
+use Rattle.panel_rules.specs.Added.{sheetAxis, added}
+use Rattle.panel_rules.specs.Book.{sheetBook, sheetTracks, tableRefusal, addedFrom, book, RegularAxis, Regular}
+use Rattle.panel_rules.specs.Order.{SamePanel, SameEntries}
+use Rattle.panel_rules.specs.Alone.{rowTemplateLine, withoutRows, keptLines, columnCalls, heldBy, DifferInRows}
+use Rattle.panel_rules.specs.Worked.{AxisWorked, Worked, accepted, AxisAnswers, Answers, viewOf, found, Met, runFrom, lent, sampleSheet, sample, rowSheet, rowRun, otherSheet, otherRun, calledSheet, firstOrder, secondOrder, namedSheet, namedRun}
+use Rattle.panel_rules.proofs.RegularTest.{regularTest, regular-by-test, nonZeroTest, non-zero-by-test, allAmong, all-among}
+use Rattle.panel_rules.proofs.Run.{addedTo}
+use Rattle.panel_rules.proofs.Runs.{added-to, run-sizes, run-lists, run-names, run-records, run-placements, run-marks}
+
+-- ---- from the view of a sheet to the answers after a run
+
+listed-same : {A : Type 0} (f g : ℕ → A) → ((i : ℕ) → f i ≡ g i) → (n : ℕ) → listed f n ≡ listed g n
+listed-same f g e zero = refl
+listed-same f g e (suc n) = ap₂ (λ l x. l ++ (x ∷ [])) (listed-same f g e n) (e n)
+
+-- what is computed for an axis from the view, the conditions of the third demand included, and what comes out
+record AxisComputation : Type 0 where
+  size : AxisSize
+  lists : ℕ
+  names : List (List Bytes)
+  records : List RecordAnswer
+  regular : Bool
+
+abbrev axisComputed : PanelView → List Call → Axis → AxisWorked → AxisComputation
+axisComputed v calls a w =
+    record {
+      size = sizeAfter (viewIn v a);
+      lists = listsAfter (viewIn v a) (addedTo v calls a);
+      names = listed (λ i. listed (nameAfter (viewIn v a) (addedTo v calls a) (suc i)) 2) (length (w .names));
+      records = listed (recordAfter (viewIn v a) (viewIn v a .marks)) (suc (length (w .records)));
+      regular = regularTest v a calls;
+    }
+
+abbrev axisExpected : AxisWorked → AxisComputation
+axisExpected w = record { size = w .size; lists = length (w .names); names = w .names; records = map accepted (w .records) ++ (refusedRecord count ∷ []); regular = true }
+
+-- and for a run
+record Computation : Type 0 where
+  fault : ℕ
+  columns : AxisComputation
+  rows : AxisComputation
+  placements : List PlacementAnswer
+  nonZero : Bool
+
+abbrev computed : Worked → Computation
+computed w =
+    record {
+      fault = sheetOf (w .sheet) .fault;
+      columns = axisComputed (viewOf w) (w .calls) Column (w .columns);
+      rows = axisComputed (viewOf w) (w .calls) Row (w .rows);
+      placements = listed (placementAfter (viewOf w) (addedTo (viewOf w) (w .calls))) (suc (length (w .placements)));
+      nonZero = nonZeroTest (viewOf w .placements);
+    }
+
+abbrev expected : Worked → Computation
+expected w = record { fault = 0; columns = axisExpected (w .columns); rows = axisExpected (w .rows); placements = w .placements ++ (refusedPlacement count ∷ []); nonZero = true }
+
+read-accepted : (s : List ℕ) (t : Tables) → sheetOf s .fault ≡ 0 → shortStores t ≡ false → Accepted s t
+unfolding readSheet readBy
+read-accepted s t z long = rw (eq-eqb (sheetOf s .fault) 0 z, long)
+
+module _ (w : Worked) (c : computed w ≡ expected w) (t : Tables) (long : shortStores t ≡ false) where
+  abbrev s : List ℕ
+  s = w .sheet
+
+  abbrev calls : List Call
+  calls = w .calls
+
+  abbrev h : Held
+  h = runOf s t calls
+
+  good : sheetOf s .fault ≡ 0
+  good = ap (λ (x : Computation). x .fault) c
+
+  ok : Accepted s t
+  ok = read-accepted s t good long
+
+  axis-answers : (a : Axis) (e : AxisWorked) → axisComputed (viewOf w) calls a e ≡ axisExpected e → AxisAnswers h a e
+  axis-answers a e x =
+      record {
+        sizes = run-sizes s t calls ok a ∙ ap (λ (y : AxisComputation). y .size) x;
+        lists = run-lists s t calls ok a ∙ ap (listsAfter (sheetAxis s a)) (added-to s good calls a) ∙ ap (λ (y : AxisComputation). y .lists) x;
+        names = listed-same _ _ (λ i. listed-same _ _ (λ p. name (suc i) p) 2) (length (e .names)) ∙ ap (λ (y : AxisComputation). y .names) x;
+        records = listed-same _ _ track (suc (length (e .records))) ∙ ap (λ (y : AxisComputation). y .records) x;
+      }
+    where
+      name : (line place : ℕ) → nameOf h a line place ≡ nameAfter (sheetAxis s a) (addedTo (viewOf w) calls a) line place
+      name line place = run-names s t calls ok a line place ∙ ap (λ (es : List Entry). nameAfter (sheetAxis s a) es line place) (added-to s good calls a)
+
+      track : (i : ℕ) → recordOf h a i ≡ recordAfter (sheetAxis s a) (sheetAxis s a .marks) i
+      track i = run-records s t calls ok a (marksOf (h .tables) a) i ∙ ap (λ (items : List ℕ). recordAfter (sheetAxis s a) items i) (run-marks s t calls ok a)
+
+  same-added : (i : ℕ) → placementAfter (viewOf w) (λ a. added s a calls) i ≡ placementAfter (viewOf w) (addedTo (viewOf w) calls) i
+  same-added i = ap (λ (es : Axis → List Entry). placementAfter (viewOf w) es i) (λ j a. added-to s good calls a j)
+
+  answers : Answers w t
+  answers =
+      record {
+        isAccepted = ok;
+        columns = axis-answers Column (w .columns) (ap (λ (x : Computation). x .columns) c);
+        rows = axis-answers Row (w .rows) (ap (λ (x : Computation). x .rows) c);
+        placements = listed-same _ _ (λ i. run-placements s t calls ok i ∙ same-added i) (suc (length (w .placements))) ∙ ap (λ (x : Computation). x .placements) c;
+      }
+
+regular : (w : Worked) → computed w ≡ expected w → Regular (found w) (viewOf w) (w .calls)
+regular w c = record { axes = axes; nonzero = non-zero-by-test (viewOf w .placements) (ap (λ (x : Computation). x .nonZero) c) }
+  where
+    axes : (a : Axis) → RegularAxis (found w a) (viewOf w) a (w .calls)
+    axes Column = regular-by-test (viewOf w) Column (w .calls) (ap (λ (x : Computation). x .columns .regular) c)
+    axes Row = regular-by-test (viewOf w) Row (w .calls) (ap (λ (x : Computation). x .rows .regular) c)
+
+-- ---- computed
+
+-- component i of an axis is an automatic repeat
+record AutomaticAt (w : Worked) (a : Axis) (i : ℕ) : Type 0 where
+  written : List·Memᴰ (getD (componentsOf (viewIn (viewOf w) a .template)) i noComponent) (componentsOf (viewIn (viewOf w) a .template))
+  automatic : Automatic (getD (componentsOf (viewIn (viewOf w) a .template)) i noComponent)
+
+abbrev entriesIn : Worked → Axis → List Entry
+entriesIn w a = book (found w a) (viewOf w) a (w .calls)
+
+abbrev sameEntries : Worked → Worked → Axis → Bool
+sameEntries w z a = allAmong (entriesIn w a) (entriesIn z a) && allAmong (entriesIn z a) (entriesIn w a)
+
+record All : Type 0 where
+  ofSample : computed sample ≡ expected sample
+  ofRows : computed rowRun ≡ expected rowRun
+  ofOther : computed otherRun ≡ expected otherRun
+  ofFirst : computed firstOrder ≡ expected firstOrder
+  ofSecond : computed secondOrder ≡ expected secondOrder
+  ofNamed : computed namedRun ≡ expected namedRun
+  -- which component is an automatic repeat
+  sampleRepeat : AutomaticAt sample Column 0
+  rowRepeat : AutomaticAt rowRun Row 1
+  firstRepeat : AutomaticAt firstOrder Column 0
+  secondRepeat : AutomaticAt secondOrder Column 0
+  namedRepeat : AutomaticAt namedRun Column 0
+  -- the entries of two orders are among each other
+  columnEntries : sameEntries firstOrder secondOrder Column ≡ true
+  rowEntries : sameEntries firstOrder secondOrder Row ≡ true
+  namedColumns : sameEntries firstOrder namedRun Column ≡ true
+  namedRows : sameEntries firstOrder namedRun Row ≡ true
+  -- a name does not change the tracks and repeats
+  namedPanel : (viewOf firstOrder .columns .line ≡ viewOf namedRun .columns .line)
+      × (componentsOf (viewOf firstOrder .columns .template) ≡ componentsOf (viewOf namedRun .columns .template))
+      × (viewOf firstOrder .rows ≡ viewOf namedRun .rows)
+      × (viewOf firstOrder .areas ≡ viewOf namedRun .areas)
+      × (viewOf firstOrder .placements ≡ viewOf namedRun .placements)
+
+all : All
+unfolding sampleSheet sample rowSheet rowRun otherSheet otherRun calledSheet firstOrder secondOrder namedSheet namedRun
+    split onto same index digitsOf naturalOf nonNegative negative wholeOf countIn indexIn bitsFrom bitsOf
+    upTo minimumKind largestOf valueInRange lengthInRange floatUpTo sizingOfKind sizingOf rankOf firstOf axisOf ruleOf countOf repetitionOf codes nameFault
+    kindOf sizeRead innerOf endKind endName endNumber endOf axisLine areaLine nameLine sizesLine repeatLine endLine extraLine itemLine placeLine byKind recordRead
+    emptyAxis trackStep repeatStep endStep nameStep spareStep itemStep extraStep axisStep emptyView areaStep placeStep
+    templateSizeOf outsideCount automaticCount beforeCount automaticTracks anyEmpty allFixed everyFixed outsideSpace repetitionSpace fittingOf heldOf repetitionsOf floorOf ceilingOf
+    repeated passed ruleFrom recordStep recordFault lineStep templateSize entriesOf endFault ended run sheetOf ofBits add sub mul div lt ofInt
+    sheetBook sheetTracks tableRefusal addedFrom book isName
+    sizeAfter listsAfter nameAfter recordAfter placementAfter shownAfter explicitLineNames writtenOut openTo allTracks recordsOf recordAnswerOf seek named?
+all = record {
+  ofSample = refl;
+  ofRows = refl;
+  ofOther = refl;
+  ofFirst = refl;
+  ofSecond = refl;
+  ofNamed = refl;
+  sampleRepeat = record { written = List·Memᴰ·head refl; automatic = refl };
+  rowRepeat = record { written = List·Memᴰ·tail (List·Memᴰ·head refl); automatic = refl };
+  firstRepeat = record { written = List·Memᴰ·head refl; automatic = refl };
+  secondRepeat = record { written = List·Memᴰ·head refl; automatic = refl };
+  namedRepeat = record { written = List·Memᴰ·head refl; automatic = refl };
+  columnEntries = refl;
+  rowEntries = refl;
+  namedColumns = refl;
+  namedRows = refl;
+  namedPanel = (refl, refl, refl, refl, refl);
+}
+
+-- ---- the answers, from any tables with stores long enough
+
+pub sample-answers : (t : Tables) → shortStores t ≡ false → Answers sample t
+sample-answers = answers sample (all .ofSample)
+
+pub row-answers : (t : Tables) → shortStores t ≡ false → Answers rowRun t
+row-answers = answers rowRun (all .ofRows)
+
+pub other-answers : (t : Tables) → shortStores t ≡ false → Answers otherRun t
+other-answers = answers otherRun (all .ofOther)
+
+pub first-answers : (t : Tables) → shortStores t ≡ false → Answers firstOrder t
+first-answers = answers firstOrder (all .ofFirst)
+
+pub second-answers : (t : Tables) → shortStores t ≡ false → Answers secondOrder t
+second-answers = answers secondOrder (all .ofSecond)
+
+pub named-answers : (t : Tables) → shortStores t ≡ false → Answers namedRun t
+named-answers = answers namedRun (all .ofNamed)
+
+-- there are such tables
+pub lent-long : shortStores lent ≡ false
+unfolding lent
+lent-long = refl
+
+-- ---- the conditions of the third demand are met by runs with an automatic repeat
+
+met : (w : Worked) (a : Axis) (i : ℕ) → computed w ≡ expected w → AutomaticAt w a i → Met w a
+met w a i c m = record { regular = regular w c; component = getD (componentsOf (viewIn (viewOf w) a .template)) i noComponent; written = m .written; automatic = m .automatic }
+
+pub sample-met : Met sample Column
+sample-met = met sample Column 0 (all .ofSample) (all .sampleRepeat)
+
+pub row-met : Met rowRun Row
+row-met = met rowRun Row 1 (all .ofRows) (all .rowRepeat)
+
+pub first-met : Met firstOrder Column
+first-met = met firstOrder Column 0 (all .ofFirst) (all .firstRepeat)
+
+pub second-met : Met secondOrder Column
+second-met = met secondOrder Column 0 (all .ofSecond) (all .secondRepeat)
+
+pub named-met : Met namedRun Column
+named-met = met namedRun Column 0 (all .ofNamed) (all .namedRepeat)
+
+-- the orders are over the same panel, with the same entries
+
+pub orders-panel : SamePanel (viewOf firstOrder) (viewOf secondOrder)
+unfolding firstOrder secondOrder
+orders-panel = record { lines = λ a. refl; components = λ a. refl; areas = refl; placements = refl }
+
+pub named-panel : SamePanel (viewOf firstOrder) (viewOf namedRun)
+named-panel = record { lines = lines; components = components; areas = all .namedPanel .3; placements = all .namedPanel .4 }
+  where
+    lines : (a : Axis) → viewIn (viewOf firstOrder) a .line ≡ viewIn (viewOf namedRun) a .line
+    lines Column = all .namedPanel .0
+    lines Row = ap (λ (x : AxisView). x .line) (all .namedPanel .2)
+
+    components : (a : Axis) → componentsOf (viewIn (viewOf firstOrder) a .template) ≡ componentsOf (viewIn (viewOf namedRun) a .template)
+    components Column = all .namedPanel .1
+    components Row = ap (λ (x : AxisView). componentsOf (x .template)) (all .namedPanel .2)
+
+same-runs : (w z : Worked) → sameEntries w z Column ≡ true → sameEntries w z Row ≡ true → SameEntries (found w) (viewOf w) (w .calls) (found z) (viewOf z) (z .calls)
+same-runs w z c r a e =
+    let b = both (allAmong (entriesIn w a) (entriesIn z a)) (allAmong (entriesIn z a) (entriesIn w a)) (tested a) in
+    (all-among (entriesIn w a) (entriesIn z a) (b .0) e, all-among (entriesIn z a) (entriesIn w a) (b .1) e)
+  where
+    tested : (a : Axis) → sameEntries w z a ≡ true
+    tested Column = c
+    tested Row = r
+
+pub orders-entries : SameEntries (found firstOrder) (viewOf firstOrder) (firstOrder .calls) (found secondOrder) (viewOf secondOrder) (secondOrder .calls)
+orders-entries = same-runs firstOrder secondOrder (all .columnEntries) (all .rowEntries)
+
+pub named-entries : SameEntries (found firstOrder) (viewOf firstOrder) (firstOrder .calls) (found namedRun) (viewOf namedRun) (namedRun .calls)
+named-entries = same-runs firstOrder namedRun (all .namedColumns) (all .namedRows)
+
+-- ---- two runs that differ in nothing but row names and row template, and do differ
+
+kept-lines : keptLines (rowRun .sheet) ≡ keptLines (otherRun .sheet)
+unfolding rowRun otherRun rowSheet otherSheet withoutRows rowTemplateLine split onto same
+kept-lines = refl
+
+column-calls : columnCalls (rowRun .calls) ≡ columnCalls (otherRun .calls)
+unfolding rowRun otherRun columnCalls
+column-calls = refl
+
+module _ (t u : Tables) (long : shortStores t ≡ false) (further : shortStores u ≡ false) where
+  pub rows-differ : DifferInRows (runFrom rowRun t) (runFrom otherRun u)
+  rows-differ = record { first = row-answers t long .isAccepted; second = other-answers u further .isAccepted; lines = kept-lines; calls = column-calls }
+
+  -- four rows are not two
+  pub not-same : heldBy (runFrom rowRun t) ≡ heldBy (runFrom otherRun u) → ⊥
+  unfolding rowRun otherRun
+  not-same e =
+      let four : sizeOf (heldBy (runFrom rowRun t)) Row .explicit ≡ 4 = ap (λ (x : AxisSize). x .explicit) (row-answers t long .rows .sizes) in
+      let two : sizeOf (heldBy (runFrom otherRun u)) Row .explicit ≡ 2 = ap (λ (x : AxisSize). x .explicit) (other-answers u further .rows .sizes) in
+      omega (arith, sym four ∙ ap (λ (h : Held). sizeOf h Row .explicit) e ∙ two)
