@@ -2,6 +2,7 @@
 import os
 import re
 
+import browser_sheets
 import build
 
 RECORDED = os.path.join(build.COMPARE, "recorded")
@@ -75,13 +76,19 @@ def write_replayed():
             file.write(data)
 
 
-# docs/DIFFERENCES.md names cases as `LIST/CASE`; a case of `lines` is its count and its grid line.
+# docs/DIFFERENCES.md names cases as `LIST/CASE`; a case of `lines` is its count and its grid line, one of `browser` a
+# sheet that `compare/browser --own` has drawn.
+
+NAMED = REPLAYED + ("browser",)
+
 
 def names_in(text):
-    return re.findall("`(" + "|".join(REPLAYED) + ")/([^`]+)`", text)
+    return re.findall("`(" + "|".join(NAMED) + ")/([^`]+)`", text)
 
 
 def cases_of(name):
+    if name == "browser":
+        return set(browser_sheets.SHEETS)
     if name == "lines":
         return {" ".join(row.split("\t")[:2]) for row in read_list(name).decode().splitlines()}
     return {case for case, _, _ in blocks(read_list(name))}
@@ -99,9 +106,10 @@ def unnamed_rows(text):
 def faults():
     """What is wrong between the lists, docs/DIFFERENCES.md and the files of `vectors`, a line each."""
     text = build.read_bytes(DIFFERENCES).decode()
-    held = {name: cases_of(name) for name in REPLAYED}
+    held = {name: cases_of(name) for name in NAMED}
     found = [f"docs/DIFFERENCES.md names {name}/{case}, which is not recorded"
              for name, case in names_in(text) if case not in held[name]]
+    found += [f"docs/DIFFERENCES.md doesn't name browser/{case}" for case in held["browser"] if ("browser", case) not in names_in(text)]
     found += [f"docs/DIFFERENCES.md has a difference without a recorded case: {row}" for row in unnamed_rows(text)]
     for name, data in (("stdin", replayed()), ("stdout", totals())):
         if build.read_bytes(os.path.join(VECTORS, name)) != data:

@@ -1,0 +1,46 @@
+"""Which panels CSS can write, so that a browser's answer is one to the same question."""
+import rules
+
+# A track of an automatic repeat is no thinner: CSS lets a browser take it to be one pixel wide.
+LEAST_REPEATED = 1
+
+
+def overlap(one, other):
+    """Whether two areas share a cell."""
+    return all(one.edges(letter)[0] < other.edges(letter)[1] and other.edges(letter)[0] < one.edges(letter)[1] for letter in "cr")
+
+
+def is_picture(areas):
+    """Areas as a picture of cells, which bear one name each."""
+    drawn = list(areas.values())
+    return not any(overlap(one, other) for place, one in enumerate(drawn) for other in drawn[:place])
+
+
+def is_track(axis, track):
+    """A minimum beside fit-content is not in CSS's grammar; a percentage is one of a definite size."""
+    definite = axis.inner is not None and axis.rule == "max"
+    fits = track.maximum.kind in ("fitl", "fitp")
+    percentages = [size for size in (track.minimum, track.maximum) if size.kind in ("pct", "fitp")]
+    return (not fits or track.minimum.kind == "auto") and (definite or not percentages)
+
+
+def is_thick(axis, track):
+    return axis.inner is None or rules.measure(track, axis.inner) >= LEAST_REPEATED
+
+
+def is_axis(axis):
+    tracks = [track for component in axis.components for track in component.tracks]
+    repeated = [track for component in axis.components if component.automatic() for track in component.tracks]
+    definite = axis.inner is not None and axis.rule == "max"
+    return (all(is_track(axis, track) for track in tracks + axis.spares) and all(is_thick(axis, track) for track in repeated)
+            and (definite or axis.gap.kind == "len"))
+
+
+def is_end(end):
+    """CSS has no line 0 and no plain span of 0."""
+    return end.kind not in ("line", "span") or end.number != 0
+
+
+def drawable(panel):
+    return is_picture(panel.areas) and all(map(is_axis, panel.axes.values())) \
+        and all(is_end(end) for placement in panel.placements for end in (placement.start, placement.end))
