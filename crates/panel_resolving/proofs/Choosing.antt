@@ -29,6 +29,10 @@ use Rattle.panel_resolving.proofs.Numbers.{put-on}
 
 -- ---- one more in the loop
 
+-- the first placement of a run
+pub first-of : (first i : ℕ) → i + 1 ≡ 1 → first + i ≡ first
+first-of first i e = omega (arith, e)
+
 -- the first placement, chosen or not
 one-more : (chosen : ℕ → Bool) (numbers : ℕ → List ℤ) (p f n : ℕ) (xs : List ℤ) (b : Bool) → chosen f ≡ b
     → chosenSets chosen numbers p f (suc n) xs ≡ chosenSets chosen numbers (p + 6) (f + 1) n (cond b (sets xs p (numbers f)) xs)

@@ -1,6 +1,7 @@
 -- A run of placements, written axis by axis: six numbers for each placement of the axis, the others' numbers as they are.
+use mathlib.Core.Path.{_≡_}
 use Prim.Native.Nat.{ℕ, zero, suc, _+_, _/_}
-use mathlib.Core.Bool.{Bool, false, cond}
+use mathlib.Core.Bool.{Bool, true, false, cond}
 use mathlib.Core.List.{List}
 use lib.Dec.{eqb, leb}
 use lib.IntN.{ℤ}
@@ -51,3 +52,8 @@ groupingFor entries count =
 -- the placements of an axis in a run, its entries kept together
 abbrev pub runOf : Axis → ℕ → ℕ → ℕ → ℕ → Run
 runOf axis explicit areas first count = record { around = wholeAround axis explicit areas; first = first; count = count }
+
+-- a run of one placement of the axis answers it
+abbrev pub OnlyOne : Run → List ℕ → (Line → Resolution) → Resolution → Type 0
+OnlyOne run placements resolve r =
+    run .count ≡ 1 → onAxis (run .around .axis) placements (run .first) ≡ true → r ≡ resolve (linePlacement (placementAt placements (run .first)))

@@ -2,16 +2,22 @@
 ghost use mathlib.Core.Path.{_≡_};
 ghost use Rattle.named.specs.Placements.{resolutionOf};
 ghost use Rattle.panel_rules.specs.Calls.{NameTables, NamedWords, namesIn};
-ghost use Rattle.panel_rules.specs.Placing.{placedBy, refusedPlacement, resolvePlacement};
+ghost use Prim.Native.Nat.{_<_};
+ghost use mathlib.Core.Bool.{true};
+ghost use Rattle.name_groups.specs.declared.key.Grouping.the-variants.{Whole};
+ghost use Rattle.panel_tables.specs.Placements.{placementAt};
+ghost use Rattle.panel_rules.specs.Placing.{linePlacement, placedBy, refusedPlacement, resolvePlacement};
+ghost use Rattle.panel_resolving.specs.Chosen.{onAxis};
+ghost use Rattle.panel_resolving.specs.Names.{bearsBy, resolutionBy};
 ghost use Rattle.panel_resolving.specs.Whole.{wholeAround};
 use crate::Around;
-use crate::ends::line_placement;
-use crate::resolve::resolve_line_names;
+use crate::put::PLACEMENT_NUMBERS;
 use crate::resolve::zero_line;
+use crate::write::Run;
+use crate::write::write_beside;
 use coordinates::Axis;
 use coordinates::refusal;
 use name_groups::key::Grouping;
-use named::Line;
 use named::Resolution;
 use panel_rules::PlacementAnswer;
 use panel_stores::store::entries_of;
@@ -69,7 +75,40 @@ pub(crate) fn whole_around(axis: Axis, explicit: u32, areas: u32) -> Around
     }
 }
 
-// A placement beside the names of an axis of a panel.
+// A placement beside all name entries of its axis: a run of one.
+fn resolve_one(
+    around: Around,
+    entries: &[u64],
+    store: &[u8],
+    areas: &[u64; AREA_WORDS],
+    areabytes: &[u8; AREA_BYTES],
+    placements: &[u64; PLACEMENT_WORDS],
+    names: &[u8; PLACEMENT_BYTES],
+    index: u32,
+) -> Resolution
+    requires { ⌜ (around .grouping ≡ Whole) × (index < 4294967295) ⌝ }
+    requires { ⌜ onAxis (around .axis) (now placements) index ≡ true ⌝ }
+    ensures { λ r. ⌜ r ≡ resolutionBy (around .explicit) (bearsBy around (now (entries .entry)) (now (store .entry)) (now (areas .entry)) (now (areabytes .entry))) (now (names .entry)) (linePlacement (placementAt (now (placements .entry)) index)) ⌝ }
+{
+    let mut numbers = [0i32; PLACEMENT_NUMBERS];
+    let run = Run {
+        around,
+        first: index,
+        count: 1,
+    };
+    write_beside(
+        run,
+        entries,
+        store,
+        areas,
+        areabytes,
+        placements,
+        names,
+        &mut numbers,
+    )
+}
+
+// A placement beside the names of its axis.
 fn resolve_in(
     panel: Panel,
     columns: &[u64; AXIS_WORDS],
@@ -78,24 +117,46 @@ fn resolve_in(
     rowstore: &[u8],
     areas: &[u64; AREA_WORDS],
     areabytes: &[u8; AREA_BYTES],
+    placements: &[u64; PLACEMENT_WORDS],
     names: &[u8; PLACEMENT_BYTES],
-    axis: Axis,
-    line: Line,
+    index: u32,
 ) -> Resolution
-    ensures { λ r. ⌜ r ≡ resolutionOf (namesIn panel (record { columns = now (columns .entry); rows = now (rows .entry); columnStore = now (columnstore .entry); rowStore = now (rowstore .entry) }) (record { words = now (areas .entry); bytes = now (areabytes .entry) }) axis) (now (names .entry)) line ⌝ }
+    requires { ⌜ index < 4294967295 ⌝ }
+    ensures { λ r. ⌜ r ≡ resolutionOf (namesIn panel (record { columns = now (columns .entry); rows = now (rows .entry); columnStore = now (columnstore .entry); rowStore = now (rowstore .entry) }) (record { words = now (areas .entry); bytes = now (areabytes .entry) }) (placementAt (now (placements .entry)) index .axis)) (now (names .entry)) (linePlacement (placementAt (now (placements .entry)) index)) ⌝ }
 {
+    let held = panel.areas;
+    let place = placement_at(placements, index);
+    let axis = place.axis;
     match axis {
         Axis::Column => {
             let state = panel.columns;
-            let around = whole_around(axis, state.explicit, panel.areas);
+            let around = whole_around(axis, state.explicit, held);
             let entries = entries_of(state, columns);
-            resolve_line_names(around, entries, columnstore, areas, areabytes, names, line)
+            resolve_one(
+                around,
+                entries,
+                columnstore,
+                areas,
+                areabytes,
+                placements,
+                names,
+                index,
+            )
         }
         Axis::Row => {
             let state = panel.rows;
-            let around = whole_around(axis, state.explicit, panel.areas);
+            let around = whole_around(axis, state.explicit, held);
             let entries = entries_of(state, rows);
-            resolve_line_names(around, entries, rowstore, areas, areabytes, names, line)
+            resolve_one(
+                around,
+                entries,
+                rowstore,
+                areas,
+                areabytes,
+                placements,
+                names,
+                index,
+            )
         }
     }
 }
@@ -120,7 +181,6 @@ pub fn resolve_placement(
     }
     let place = placement_at(placements, index);
     let axis = place.axis;
-    let line = line_placement(place);
     let resolved = resolve_in(
         panel,
         columns,
@@ -129,9 +189,9 @@ pub fn resolve_placement(
         rowstore,
         areas,
         areabytes,
+        placements,
         placementbytes,
-        axis,
-        line,
+        index,
     );
     let shorter = smaller(columnstore.len(), rowstore.len());
     placed_by(resolved, axis, shorter < AXIS_BYTES)

@@ -10,6 +10,9 @@ use panel_numbers::PlacementNumbers;
 use panel_numbers::numbers::placement_numbers;
 use panel_rules::PlacementAnswer;
 
+// How many numbers a placement takes.
+pub(crate) const PLACEMENT_NUMBERS: usize = 6;
+
 // Writes a number without a sign at a place.
 fn put_whole(numbers: &mut [i32], place: usize, number: u32)
     requires { ⌜ (place < length (now numbers)) × (number < 2147483648) ⌝ }

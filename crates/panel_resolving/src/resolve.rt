@@ -39,7 +39,7 @@ pub(crate) fn zero_line() -> ResolvedLine
 }
 
 // The resolver's answer for an explicit count above 10,000.
-fn refused_resolution() -> Resolution
+pub(crate) fn refused_resolution() -> Resolution
     ensures { λ r. ⌜ r ≡ refusedResolution ⌝ }
 {
     let refusal = refusal::refusal_of(refusal::COUNT);

@@ -7,6 +7,7 @@ ghost use Rattle.panel_rules.specs.Calls.{NameTables, NamedWords, shorterStore}
 ghost use Rattle.panel_resolving.specs.Chosen.{runOf};
 ghost use Rattle.panel_resolving.specs.Placements.{WrittenNumbers, numbersCount, numbersRefusal, placementsWritten, runNumbers};
 use crate::placing::whole_around;
+use crate::put::PLACEMENT_NUMBERS;
 use crate::write::Run;
 use crate::write::write_axis;
 use coordinates::Axis;
@@ -24,9 +25,6 @@ use panel_tables::placement::PLACEMENT_BYTES;
 use panel_tables::placement::PLACEMENT_WORDS;
 use tables::layout::AXIS_BYTES;
 use tables::layout::AXIS_WORDS;
-
-// How many numbers a placement takes.
-const PLACEMENT_NUMBERS: usize = 6;
 
 // What a run is refused by: `held` placements, the bytes of the shorter store, the numbers lent.
 fn numbers_refusal(held: u32, shorter: usize, lent: usize, first: u32) -> u32

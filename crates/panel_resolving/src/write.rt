@@ -6,7 +6,7 @@ ghost use Rattle.name_groups.specs.Groups.{Lists};
 ghost use Rattle.named.specs.Placements.{resolutionOf};
 ghost use Rattle.panel_tables.specs.Placements.{axisNumber};
 ghost use Rattle.tables.specs.Runs.{partOf};
-ghost use Rattle.panel_resolving.specs.Chosen.{chosenSets, groupingFor, numbersBy, onAxis, runGrouped};
+ghost use Rattle.panel_resolving.specs.Chosen.{OnlyOne, chosenSets, groupingFor, numbersBy, onAxis, runGrouped};
 ghost use Rattle.panel_resolving.specs.Names.{bearsBy, resolutionBy};
 ghost use lib.Dec.{eqb};
 ghost use lib.ListN.{length};
@@ -14,10 +14,12 @@ use crate::Around;
 use crate::ends::line_placement;
 use crate::placing::placed_by;
 use crate::put::put_placement;
+use crate::resolve::refused_resolution;
 use crate::resolve::resolve_line_names;
 use coordinates::Axis;
 use name_groups::index::group_entries;
 use name_groups::key::Grouping;
+use named::Resolution;
 use panel_tables::area::AREA_BYTES;
 use panel_tables::area::AREA_WORDS;
 use panel_tables::placement::PLACEMENT_BYTES;
@@ -61,8 +63,9 @@ fn same_axis(a: Axis, b: Axis) -> bool
     axis_number(a) == axis_number(b)
 }
 
-// Writes the placements of the axis beside an index of the names; the others' numbers stay as they are.
-fn write_beside(
+// Writes the placements of the axis beside an index of the names; the others' numbers stay as they are. Answers the last that it resolved, so that one
+// placement is a run of one.
+pub(crate) fn write_beside(
     run: Run,
     index: &[u64],
     store: &[u8],
@@ -71,12 +74,13 @@ fn write_beside(
     placements: &[u64; PLACEMENT_WORDS],
     names: &[u8; PLACEMENT_BYTES],
     numbers: &mut [i32],
-)
+) -> Resolution
     requires { ⌜ (run .first + run .count ≤ 4294967295) × (6 * run .count ≤ length (now numbers)) ⌝ }
     requires { ⌜ Lists (run .around .grouping) (now index) (now store) ⌝ }
-    ensures { λ _. ⌜ now (numbers .exit) ≡ chosenSets (onAxis (run .around .axis) (now (placements .entry))) (numbersBy (resolutionBy (run .around .explicit) (bearsBy (run .around) (now (index .entry)) (now (store .entry)) (now (areas .entry)) (now (areabytes .entry))) (now (names .entry))) (now (placements .entry))) 0 (run .first) (run .count) (now (numbers .entry)) ⌝ }
+    ensures { λ r. ⌜ (now (numbers .exit) ≡ chosenSets (onAxis (run .around .axis) (now (placements .entry))) (numbersBy (resolutionBy (run .around .explicit) (bearsBy (run .around) (now (index .entry)) (now (store .entry)) (now (areas .entry)) (now (areabytes .entry))) (now (names .entry))) (now (placements .entry))) 0 (run .first) (run .count) (now (numbers .entry))) × OnlyOne run (now (placements .entry)) (resolutionBy (run .around .explicit) (bearsBy (run .around) (now (index .entry)) (now (store .entry)) (now (areas .entry)) (now (areabytes .entry))) (now (names .entry))) r ⌝ }
 {
     let around = run.around;
+    let mut last = refused_resolution();
     let mut i: u32 = 0;
     while i < run.count {
         let place = placement_at(placements, run.first + i);
@@ -89,8 +93,10 @@ fn write_beside(
         let line = line_placement(place);
         let resolved = resolve_line_names(around, index, store, areas, areabytes, names, line);
         put_placement(numbers, 6 * i as usize, placed_by(resolved, axis, false));
+        last = resolved;
         i += 1;
     }
+    last
 }
 
 // The same run beside entries in groups.
@@ -131,7 +137,7 @@ fn write_few(
     let mut keys = [0u16; FEW_ENTRIES];
     group_entries(Grouping::Few, entries, store, &mut keys, &mut index);
     let grouped = run_grouped(run, Grouping::Few);
-    write_beside(
+    let _last = write_beside(
         grouped,
         &index,
         store,
@@ -162,7 +168,7 @@ fn write_many(
     let mut keys = [0u16; MANY_ENTRIES];
     group_entries(Grouping::Many, entries, store, &mut keys, &mut index);
     let grouped = run_grouped(run, Grouping::Many);
-    write_beside(
+    let _last = write_beside(
         grouped,
         &index,
         store,
@@ -207,7 +213,7 @@ pub(crate) fn write_axis(
     match grouping_for(entries.len(), run.count) {
         Grouping::Whole => {
             let together = run_grouped(run, Grouping::Whole);
-            write_beside(
+            let _last = write_beside(
                 together,
                 entries,
                 store,
@@ -216,7 +222,7 @@ pub(crate) fn write_axis(
                 placements,
                 names,
                 numbers,
-            )
+            );
         }
         Grouping::Few => write_few(
             run,

@@ -1,8 +1,8 @@
-use mathlib.Core.Path.{ap}
+use mathlib.Core.Path.{refl, ap}
 use Prim.Native.Nat.{ℕ}
 use borrow.Author.Tests.{le-ltb}
 use lib.Dec.{ltb}
-use Rattle.panel_rules.specs.Placing.{resolvePlacement}
+use Rattle.panel_rules.specs.Placing.{linePlacement, resolvePlacement}
 use Rattle.panel_resolving.proofs.Placed.{placed}
 use borrow.Author.Needs.{needs}
 use Rattle.panel_resolving.proofs.placing.resolve_placement.Statement.{statement}
@@ -18,9 +18,6 @@ returns c = rw (c .refused-placement .ensures, le-ltb _ _ (c .before .if1 .taken
 placement-at-requires : tie.Need-placement-at-requires
 placement-at-requires c κs = search needs
 
-line-placement-requires : tie.Need-line-placement-requires
-line-placement-requires c κs = search needs
-
 resolve-in-requires : tie.Need-resolve-in-requires
 resolve-in-requires c κs = search needs
 
@@ -31,8 +28,8 @@ placed-by-requires : tie.Need-placed-by-requires
 placed-by-requires c κs = search needs
 
 returns-2 : tie.Need-returns-2
-returns-2 c = let a = c .before .before .before .before .before .before .before .before .before .args in
-    placed (a .panel) (record { columns = a .columns .now; rows = a .rows .now; columnStore = a .columnstore .now; rowStore = a .rowstore .now }) (record { words = a .areas .now; bytes = a .areabytes .now }) (record { words = a .placements .now; bytes = a .placementbytes .now }) (a .index) (c .before .before .before .before .before .if1 .left) (c .before .before .before .before .placement-at .result) (c .before .before .before .line-placement .result) (c .before .before .resolve-in .result) (ltb (c .before .smaller .result) 32768) (c .placed-by .result) (c .before .before .before .before .placement-at .ensures) (c .before .before .before .line-placement .ensures) (c .before .before .resolve-in .ensures) (ap (λ (n : ℕ). ltb n 32768) (c .before .smaller .ensures)) (c .placed-by .ensures)
+returns-2 c = let a = c .before .before .before .before .before .before .before .before .args in let place = c .before .before .before .placement-at in
+    placed (a .panel) (record { columns = a .columns .now; rows = a .rows .now; columnStore = a .columnstore .now; rowStore = a .rowstore .now }) (record { words = a .areas .now; bytes = a .areabytes .now }) (record { words = a .placements .now; bytes = a .placementbytes .now }) (a .index) (c .before .before .before .before .if1 .left) (place .result) (linePlacement (place .result)) (c .before .before .resolve-in .result) (ltb (c .before .smaller .result) 32768) (c .placed-by .result) (place .ensures) refl (rw (← place .ensures) at (c .before .before .resolve-in .ensures)) (ap (λ (n : ℕ). ltb n 32768) (c .before .smaller .ensures)) (c .placed-by .ensures)
 
 pub resolve-placement-spec : {M : Type 1} → statement M
 resolve-placement-spec =
@@ -41,7 +38,6 @@ resolve-placement-spec =
     refused-placement-requires
     returns
     placement-at-requires
-    line-placement-requires
     resolve-in-requires
     smaller-requires
     placed-by-requires

@@ -35,7 +35,7 @@ same-length c = search needs
 
 returns : tie.Need-returns
 returns c = let a = c .before .before .before .before .before .before .before .before .before .args in
-    grouped-run (a .run) (c .before .before .before .run-grouped .result) Whole (c .before .before .before .run-grouped .ensures) (a .entries .now) (a .entries .now) (a .store .now) (a .areas .now) (a .areabytes .now) (a .placements .now) (a .names .now) (whole-grouped (a .entries .now) (a .store .now)) (a .numbers .now) _ (c .before .write-beside .ensures)
+    grouped-run (a .run) (c .before .before .before .run-grouped .result) Whole (c .before .before .before .run-grouped .ensures) (a .entries .now) (a .entries .now) (a .store .now) (a .areas .now) (a .areabytes .now) (a .placements .now) (a .names .now) (whole-grouped (a .entries .now) (a .store .now)) (a .numbers .now) _ (c .before .write-beside .ensures .0)
 
 same-length-2 : tie.Need-same-length-2
 same-length-2 c = search needs
