@@ -1,6 +1,6 @@
 -- The lines of a name in its group, by the entries that can have it. Assumes nothing.
 use mathlib.Core.Path.{_≡_, refl, sym, _∙_, ap, fun-ext}
-use mathlib.Core.Bool.{Bool, true, false, _||_}
+use mathlib.Core.Bool.{Bool, true, false, _&&_, _||_}
 use mathlib.Core.List.{List, [], _++_}
 use Prim.Native.Nat.{ℕ, suc}
 use Rattle.coordinates.specs.declared.axis.Axis.{Axis}
@@ -11,6 +11,7 @@ use Rattle.line_search.specs.Areas.{areasOf, edgedBy, bearsJoined, soughtIn}
 use Rattle.line_search.specs.Suffixes.{tailOf}
 use Rattle.line_search.specs.declared.suffix.AreaEdge.{AreaEdge}
 use Rattle.line_search.proofs.Marking.{or-false}
+use Rattle.line_search.proofs.Suffixes.{never}
 use Rattle.name_groups.specs.Listed.{listed, listedFrom}
 use Rattle.name_groups.specs.Keys.{joinedKey}
 use Rattle.name_groups.specs.Groups.{groupAt, groupPart, Lists}
@@ -21,8 +22,13 @@ use Rattle.panel_resolving.specs.Drawn.{edgesDrawn}
 use Rattle.panel_resolving.proofs.Listing.{ascends, all-named, none-named}
 use Rattle.panel_resolving.proofs.DrawnAreas.{none-edged-by}
 
+-- what is asked of listed entries only
+pub has-when : (flag x has : Bool) → has ≡ (flag && x) → flag ≡ true → has ≡ x
+has-when true x has e p = e
+has-when false x has e p = never p
+
 module _ (axis : Axis) (store edges areas areastore : List ℕ) (stem : Bytes) (edge : AreaEdge) (part own : List ℕ) (flag has : Bool)
-    (l : flag ≡ true → listed store part ≡ true) (f : has ≡ firstNamed store part (stem ++ tailOf edge)) (o : own ≡ namedPart part flag has) where
+    (l : flag ≡ true → listed store part ≡ true) (f : flag ≡ true → has ≡ firstNamed store part (stem ++ tailOf edge)) (o : own ≡ namedPart part flag has) where
   -- where the entries list another name, none of them has this one
   own-entries : (k : ℕ) → any (written? (stem ++ tailOf edge) (suc k)) (entriesOf own store) ≡ any (written? (stem ++ tailOf edge) (suc k)) (entriesOf part store)
   unfolding namedPart entriesOf
@@ -31,7 +37,7 @@ module _ (axis : Axis) (store edges areas areastore : List ℕ) (stem : Bytes) (
       go : (a b : Bool) → flag ≡ a → has ≡ b
           → any (written? (stem ++ tailOf edge) (suc k)) (entriesOf (namedPart part a b) store) ≡ any (written? (stem ++ tailOf edge) (suc k)) (entriesOf part store)
       go true true p q = refl
-      go true false p q = sym (none-named store part (l p) (stem ++ tailOf edge) (sym f ∙ q) k)
+      go true false p q = sym (none-named store part (l p) (stem ++ tailOf edge) (sym (f p) ∙ q) k)
       go false b p q = refl
 
   -- a name is on the same lines by the entries that can have it
@@ -56,8 +62,8 @@ module _ (axis : Axis) (store edges areas areastore : List ℕ) (stem : Bytes) (
     own-lines k = rw o (go has refl)
       where
         go : (b : Bool) → has ≡ b → onLine (namedPart part flag b) k ≡ any (written? (stem ++ tailOf edge) (suc k)) (entriesOf part store)
-        go true q = rw p (sym (all-named store part (l p) (stem ++ tailOf edge) (sym f ∙ q) k))
-        go false q = rw p (sym (none-named store part (l p) (stem ++ tailOf edge) (sym f ∙ q) k))
+        go true q = rw p (sym (all-named store part (l p) (stem ++ tailOf edge) (sym (f p) ∙ q) k))
+        go false q = rw p (sym (none-named store part (l p) (stem ++ tailOf edge) (sym (f p) ∙ q) k))
 
     -- where no area is drawn, they are all
     pub alone-sought : edgesDrawn edges areas areastore stem edge ≡ false → onLine own ≡ soughtIn axis part store edges areas areastore stem edge

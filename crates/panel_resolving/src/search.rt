@@ -1,15 +1,19 @@
 // The lines of a name, sought among the entries of its group and the drawn areas.
+ghost use mathlib.Core.Bool.{_&&_};
+ghost use mathlib.Core.List.{_++_};
 ghost use mathlib.Core.Path.{_≡_};
 ghost use Rattle.line_search.specs.Marks.{seekOf};
+ghost use Rattle.line_search.specs.Suffixes.{tailOf};
 ghost use Rattle.name_groups.specs.Groups.{Lists};
 ghost use Rattle.nth_line.specs.Sought.{lineSought};
-ghost use Rattle.panel_resolving.specs.Listing.{namedPart};
+ghost use Rattle.panel_resolving.specs.Listing.{firstNamed, namedPart};
 ghost use Rattle.panel_resolving.specs.Names.{soughtBy};
 use crate::Around;
 use crate::drawn::is_drawn;
 use crate::listed::first_has_name;
 use crate::listed::nth_listed;
 use line_search::Found;
+use line_search::suffix::AreaEdge;
 use name_groups::group::group_of;
 use name_groups::group::group_part;
 use nth_line::Sought;
@@ -18,6 +22,16 @@ use panel_tables::area::AREA_BYTES;
 use panel_tables::area::AREA_NAMES;
 use panel_tables::area::AREA_WORDS;
 use tables::layout::words_part;
+
+// Whether the entries are listed and have the name. Entries that are not listed are not looked at.
+fn list_name(part: &[u64], listed: bool, store: &[u8], stem: &[u8], edge: AreaEdge) -> bool
+    ensures { λ r. ⌜ r ≡ (listed && firstNamed (now (store .entry)) (now (part .entry)) (now (stem .entry) ++ tailOf edge)) ⌝ }
+{
+    if !listed {
+        return false;
+    }
+    first_has_name(part, store, stem, edge)
+}
 
 // The entries of a group that can have the name: none where they list another name.
 fn named_part(part: &[u64], listed: bool, named: bool) -> &[u64]
@@ -51,8 +65,10 @@ pub(crate) fn find_line(
     let part = group_part(index, group);
     let edges = words_part(areas, 0, held);
     let areanames = words_part(areas, AREA_NAMES, held);
-    let own = named_part(part, group.listed, first_has_name(part, store, stem, edge));
-    if group.listed {
+    let listed = group.listed;
+    let named = list_name(part, listed, store, stem, edge);
+    let own = named_part(part, listed, named);
+    if listed {
         if !is_drawn(edges, areanames, areabytes, stem, edge) {
             let way = sought.way;
             return nth_listed(own, way, sought.from, sought.over);

@@ -2,7 +2,7 @@ use mathlib.Core.Path.{sym, _∙_}
 use borrow.Author.Tests.{not-true}
 use Rattle.nth_line.specs.Sought.{lineSought}
 use Rattle.panel_resolving.specs.Names.{soughtBy}
-use Rattle.panel_resolving.proofs.Sought.{part-listed, own-sought, own-ascend, alone-sought}
+use Rattle.panel_resolving.proofs.Sought.{part-listed, has-when, own-sought, own-ascend, alone-sought}
 use borrow.Author.Needs.{needs}
 use Rattle.panel_resolving.proofs.search.find_line.Statement.{statement}
 use Rattle.panel_resolving.proofs.search.find_line.Tie as tie
@@ -19,8 +19,8 @@ words-part-requires c κs = search needs
 words-part-requires-2 : tie.Need-words-part-requires-2
 words-part-requires-2 c κs = search needs
 
-first-has-name-requires : tie.Need-first-has-name-requires
-first-has-name-requires c κs = search needs
+list-name-requires : tie.Need-list-name-requires
+list-name-requires c κs = search needs
 
 named-part-requires : tie.Need-named-part-requires
 named-part-requires c κs = search needs
@@ -29,12 +29,12 @@ is-drawn-requires : tie.Need-is-drawn-requires
 is-drawn-requires c κs = search needs
 
 nth-listed-requires : tie.Need-nth-listed-requires
-nth-listed-requires c κs = let s = c .before .before .before .before .before .before .before .before .before .before .before .before .before .before .before in own-ascend (s .args .sought .axis) (s .args .store .now) (c .before .before .before .before .before .before .before .before .words-part .result .now) (c .before .before .before .before .before .before .words-part2 .result .now) (s .args .areabytes .now) (s .args .stem .now) (s .args .sought .edge) (c .before .before .before .before .before .before .before .before .before .before .group-part .result .now) (c .before .before .before .before .named-part .result .now) (c .before .before .before .before .before .before .before .before .before .before .before .group-of .result .listed) (c .before .before .before .before .before .first-has-name .result) (part-listed (s .args .around .grouping) (s .args .index .now) (s .args .store .now) (s .args .stem .now) (s .args .sought .edge) (s .pre) (c .before .before .before .before .before .before .before .before .before .before .before .group-of .result) (c .before .before .before .before .before .before .before .before .before .before .group-part .result .now) (c .before .before .before .before .before .before .before .before .before .before .before .group-of .ensures) (c .before .before .before .before .before .before .before .before .before .before .group-part .ensures)) (c .before .before .before .before .before .first-has-name .ensures) (c .before .before .before .before .named-part .ensures) (c .before .before .before .if1 .taken)
+nth-listed-requires c κs = let s = c .before .before .before .before .before .before .before .before .before .before .before .before .before .before .before in own-ascend (s .args .sought .axis) (s .args .store .now) (c .before .before .before .before .before .before .before .before .words-part .result .now) (c .before .before .before .before .before .before .words-part2 .result .now) (s .args .areabytes .now) (s .args .stem .now) (s .args .sought .edge) (c .before .before .before .before .before .before .before .before .before .before .group-part .result .now) (c .before .before .before .before .named-part .result .now) (c .before .before .before .before .before .before .before .before .before .before .before .group-of .result .listed) (c .before .before .before .before .before .list-name .result) (part-listed (s .args .around .grouping) (s .args .index .now) (s .args .store .now) (s .args .stem .now) (s .args .sought .edge) (s .pre) (c .before .before .before .before .before .before .before .before .before .before .before .group-of .result) (c .before .before .before .before .before .before .before .before .before .before .group-part .result .now) (c .before .before .before .before .before .before .before .before .before .before .before .group-of .ensures) (c .before .before .before .before .before .before .before .before .before .before .group-part .ensures)) (has-when _ _ _ (c .before .before .before .before .before .list-name .ensures)) (c .before .before .before .before .named-part .ensures) (c .before .before .before .if1 .taken)
 
 returns : tie.Need-returns
 unfolding lineSought soughtBy
 returns c = let s = c .before .before .before .before .before .before .before .before .before .before .before .before .before .before .before .before in rw (
-  alone-sought (s .args .sought .axis) (s .args .store .now) (c .before .before .before .before .before .before .before .before .before .words-part .result .now) (c .before .before .before .before .before .before .before .words-part2 .result .now) (s .args .areabytes .now) (s .args .stem .now) (s .args .sought .edge) (c .before .before .before .before .before .before .before .before .before .before .before .group-part .result .now) (c .before .before .before .before .before .named-part .result .now) (c .before .before .before .before .before .before .before .before .before .before .before .before .group-of .result .listed) (c .before .before .before .before .before .before .first-has-name .result) (part-listed (s .args .around .grouping) (s .args .index .now) (s .args .store .now) (s .args .stem .now) (s .args .sought .edge) (s .pre) (c .before .before .before .before .before .before .before .before .before .before .before .before .group-of .result) (c .before .before .before .before .before .before .before .before .before .before .before .group-part .result .now) (c .before .before .before .before .before .before .before .before .before .before .before .before .group-of .ensures) (c .before .before .before .before .before .before .before .before .before .before .before .group-part .ensures)) (c .before .before .before .before .before .before .first-has-name .ensures) (c .before .before .before .before .before .named-part .ensures) (c .before .before .before .before .if1 .taken) (sym (c .before .before .is-drawn .ensures) ∙ not-true (c .before .before .is-drawn .result) (c .before .if2 .taken)),
+  alone-sought (s .args .sought .axis) (s .args .store .now) (c .before .before .before .before .before .before .before .before .before .words-part .result .now) (c .before .before .before .before .before .before .before .words-part2 .result .now) (s .args .areabytes .now) (s .args .stem .now) (s .args .sought .edge) (c .before .before .before .before .before .before .before .before .before .before .before .group-part .result .now) (c .before .before .before .before .before .named-part .result .now) (c .before .before .before .before .before .before .before .before .before .before .before .before .group-of .result .listed) (c .before .before .before .before .before .before .list-name .result) (part-listed (s .args .around .grouping) (s .args .index .now) (s .args .store .now) (s .args .stem .now) (s .args .sought .edge) (s .pre) (c .before .before .before .before .before .before .before .before .before .before .before .before .group-of .result) (c .before .before .before .before .before .before .before .before .before .before .before .group-part .result .now) (c .before .before .before .before .before .before .before .before .before .before .before .before .group-of .ensures) (c .before .before .before .before .before .before .before .before .before .before .before .group-part .ensures)) (has-when _ _ _ (c .before .before .before .before .before .before .list-name .ensures)) (c .before .before .before .before .before .named-part .ensures) (c .before .before .before .before .if1 .taken) (sym (c .before .before .is-drawn .ensures) ∙ not-true (c .before .before .is-drawn .result) (c .before .if2 .taken)),
   c .before .before .before .before .before .before .before .before .before .before .before .group-part .ensures,
   c .before .before .before .before .before .before .before .before .before .before .before .before .group-of .ensures,
   c .before .before .before .before .before .before .before .before .before .words-part .ensures,
@@ -47,7 +47,7 @@ nth-line-requires c κs = search needs
 returns-2 : tie.Need-returns-2
 unfolding soughtBy
 returns-2 c = let s = c .before .before .before .before .before .before .before .before .before .before .before .before .before .before in rw (
-  own-sought (s .args .sought .axis) (s .args .store .now) (c .before .before .before .before .before .before .before .words-part .result .now) (c .before .before .before .before .before .words-part2 .result .now) (s .args .areabytes .now) (s .args .stem .now) (s .args .sought .edge) (c .before .before .before .before .before .before .before .before .before .group-part .result .now) (c .before .before .before .named-part .result .now) (c .before .before .before .before .before .before .before .before .before .before .group-of .result .listed) (c .before .before .before .before .first-has-name .result) (part-listed (s .args .around .grouping) (s .args .index .now) (s .args .store .now) (s .args .stem .now) (s .args .sought .edge) (s .pre) (c .before .before .before .before .before .before .before .before .before .before .group-of .result) (c .before .before .before .before .before .before .before .before .before .group-part .result .now) (c .before .before .before .before .before .before .before .before .before .before .group-of .ensures) (c .before .before .before .before .before .before .before .before .before .group-part .ensures)) (c .before .before .before .before .first-has-name .ensures) (c .before .before .before .named-part .ensures),
+  own-sought (s .args .sought .axis) (s .args .store .now) (c .before .before .before .before .before .before .before .words-part .result .now) (c .before .before .before .before .before .words-part2 .result .now) (s .args .areabytes .now) (s .args .stem .now) (s .args .sought .edge) (c .before .before .before .before .before .before .before .before .before .group-part .result .now) (c .before .before .before .named-part .result .now) (c .before .before .before .before .before .before .before .before .before .before .group-of .result .listed) (c .before .before .before .before .list-name .result) (part-listed (s .args .around .grouping) (s .args .index .now) (s .args .store .now) (s .args .stem .now) (s .args .sought .edge) (s .pre) (c .before .before .before .before .before .before .before .before .before .before .group-of .result) (c .before .before .before .before .before .before .before .before .before .group-part .result .now) (c .before .before .before .before .before .before .before .before .before .before .group-of .ensures) (c .before .before .before .before .before .before .before .before .before .group-part .ensures)) (has-when _ _ _ (c .before .before .before .before .list-name .ensures)) (c .before .before .before .named-part .ensures),
   c .before .before .before .before .before .before .before .before .before .group-part .ensures,
   c .before .before .before .before .before .before .before .before .before .before .group-of .ensures,
   c .before .before .before .before .before .before .before .words-part .ensures,
@@ -62,7 +62,7 @@ find-line-spec =
     group-part-requires
     words-part-requires
     words-part-requires-2
-    first-has-name-requires
+    list-name-requires
     named-part-requires
     is-drawn-requires
     nth-listed-requires
