@@ -1,6 +1,6 @@
 -- The three demands hold. Assumes nothing.
 use Prim.Native.Nat.{ℕ, zero, suc, _+_, _*_, _-_, _≤_, _<_}
-use mathlib.Core.Path.{_≡_, refl, sym, ap, _∙_}
+use mathlib.Core.Path.{_≡_, refl, sym, ap, ap₂, _∙_}
 use mathlib.Core.Logic.{_⊎_, inl, inr}
 use mathlib.Core.Bool.{Bool, true, false, cond}
 use mathlib.Core.List.{List, [], _∷_, _++_}
@@ -41,18 +41,18 @@ use Rattle.panel_rules.specs.Placing.{linePlacement, placedBy, resolvePlacement
 use Rattle.panel_rules.specs.Runs.{Call, Accepted, runOf, marksOf, sizeOf, placementOf, recordWith, runWith}
 use Rattle.panel_rules.specs.Views.{entryName, bytesAfter, entriesAfter, placementAt, placementAfter, sizeAfter, tracksAfter}
 use Rattle.panel_rules.specs.Added.{sheetAxis, added, refusalAfter}
-use Rattle.panel_rules.specs.Book.{addedFrom, sheetBook, sheetTracks, book, bookBytes, tableRefusal, Regular}
+use Rattle.panel_rules.specs.Book.{addedFrom, sheetBook, sheetTracks, book, bookBytes, tableRefusal, RegularTemplate, Regular}
 use Rattle.panel_rules.specs.Ranges.{largest}
 use Rattle.panel_rules.proofs.Sheets.{accepted-sheet}
 use Rattle.panel_rules.proofs.Held.{run-refusal}
 use Rattle.panel_rules.proofs.Invariants.{areas-largest}
 use Rattle.panel_rules.proofs.Book as Book
-use Rattle.panel_rules.proofs.Run.{addedTo, placement-css, run-css, run-only}
-use Rattle.panel_rules.proofs.Order.{order-same}
+use Rattle.panel_rules.proofs.Run.{addedTo, placement-css, placement-only, run-css, run-only}
+use Rattle.panel_rules.proofs.Order.{largest-same, order-same}
 use Rattle.panel_rules.proofs.Tracks as Tracks
-use Rattle.panel_rules.proofs.Runs.{axis-fits, words-entries, added-to, few-tracks, run-entries, run-sizes, run-lists, run-names, run-records, run-placements, run-filled, run-marks, marks-enough}
+use Rattle.panel_rules.proofs.Runs.{axis-fits, words-entries, added-to, few-tracks, run-entries, run-sizes, run-lists, run-names, run-records, run-placements, run-filled, run-fill, run-marks, marks-enough}
 use Rattle.panel_rules.proofs.ColumnsAlone.{columns-alone}
-use Rattle.panel_grid.specs.Demands.{SheetAnswered, EntryAnswered, PlacementAnswered, RecordAnswered, RunAnswered, FirstDemand, SecondDemand, RunTheorem, ThirdDemand}
+use Rattle.panel_grid.specs.Demands.{SheetAnswered, EntryAnswered, PlacementAnswered, RecordAnswered, RunAnswered, FirstDemand, SecondDemand, TemplateTheorem, RunTheorem, ThirdDemand}
 use Rattle.panel_grid.specs.Demands.{sheetAccepted, sheetRefused, sheetShort, entryAccepted, entryRefused, placementAccepted, placementOutside, placementShort, recordAccepted, recordOutside, recordShort, runAccepted, runShort}
 
 -- ==== demand 1
@@ -143,88 +143,99 @@ second-demand s t calls ok =
       sizes = run-sizes s t calls ok;
       repeats = λ a c valid m auto. rw (run-sizes s t calls ok a) (Book.found-repetitions (sheetAxis s a) valid c m auto);
       entries = run-entries s t calls ok;
+      refusals = λ c. run-refusal s t calls c ok;
       placements = run-placements s t calls ok;
       placed = λ i held p q. rw (run-placements s t calls ok i) (placement-css (sheetOf s .view) (λ a. added s a calls) i held (few-tracks s z (placementAt (sheetOf s .view) i .axis)) p q);
+      only = λ i held p q r e. run-placements s t calls ok i ∙ placement-only (sheetOf s .view) (λ a. added s a calls) i held (few-tracks s z (placementAt (sheetOf s .view) i .axis)) p q r e;
       lists = run-lists s t calls ok;
       names = run-names s t calls ok;
       records = run-records s t calls ok;
+      lent = run-filled s t calls ok;
+      filled = run-fill s t calls ok;
+      marks = λ a. rw (run-marks s t calls ok a) (marks-enough s z a);
     }
 
 -- ==== demand 3
 
-module _ (n : Axis → ℕ) (s : List ℕ) (t : Tables) (calls : List Call) (ok : Accepted s t) (r : Regular n (sheetOf s .view) calls) where
+-- an axis under the conditions of its own template
+module _ (n : ℕ) (s : List ℕ) (t : Tables) (calls : List Call) (a : Axis) (ok : Accepted s t) (r : RegularTemplate n (sheetAxis s a)) where
   abbrev v : PanelView
   v = sheetOf s .view
 
   good : sheetOf s .fault ≡ 0
   good = accepted-sheet s t ok .0
 
-  -- the entries that the calls add, counted from the sheet's entries on
-  placement-added : (i : ℕ) → placementOf (runOf s t calls) i ≡ placementAfter v (addedTo v calls) i
-  unfolding placementAfter
-  placement-added i = run-placements s t calls ok i ∙ rw (added-to s good calls (placementAt v i .axis))
+  entries-book : entriesOf (sheetAxis s a) ≡ sheetBook n (sheetAxis s a)
+  entries-book = Book.entries-book n v a calls (axis-fits s a) r
 
-  entries-book : (a : Axis) → entriesOf (sheetAxis s a) ≡ sheetBook (n a) (sheetAxis s a)
-  entries-book a = Book.entries-book (n a) v a calls (axis-fits s a) (r .axes a)
-
-  added-book : (a : Axis) → added s a calls ≡ addedFrom (length (sheetBook (n a) (sheetAxis s a))) (length (axisBytes (sheetAxis s a))) a calls
-  added-book a = added-to s good calls a ∙ ap (λ (l : List Entry). addedFrom (length l) (length (axisBytes (sheetAxis s a))) a calls) (entries-book a)
+  added-book : added s a calls ≡ addedFrom (length (sheetBook n (sheetAxis s a))) (length (axisBytes (sheetAxis s a))) a calls
+  added-book = added-to s good calls a ∙ ap (λ (l : List Entry). addedFrom (length l) (length (axisBytes (sheetAxis s a))) a calls) entries-book
 
   -- as many entries, and as many bytes
-  count-book : (a : Axis) → length (entryWords (sheetAxis s a)) + length (added s a calls) ≡ length (book (n a) v a calls)
+  count-book : length (entryWords (sheetAxis s a)) + length (added s a calls) ≡ length (book n v a calls)
   unfolding book
-  count-book a =
-      let added-there = addedFrom (length (sheetBook (n a) (sheetAxis s a))) (length (axisBytes (sheetAxis s a))) a calls in
-      omega (arith, words-entries s good a, ap length (entries-book a), ap length (added-book a), length-append (sheetBook (n a) (sheetAxis s a)) added-there)
+  count-book =
+      let added-there = addedFrom (length (sheetBook n (sheetAxis s a))) (length (axisBytes (sheetAxis s a))) a calls in
+      omega (arith, words-entries s good a, ap length entries-book, ap length added-book, length-append (sheetBook n (sheetAxis s a)) added-there)
 
-  bytes-book : (a : Axis) → length (bytesAfter (sheetAxis s a) (added s a calls)) ≡ bookBytes (n a) v a calls
+  bytes-book : length (bytesAfter (sheetAxis s a) (added s a calls)) ≡ bookBytes n v a calls
   unfolding bookBytes
-  bytes-book a =
+  bytes-book =
       length-append (axisBytes (sheetAxis s a)) (bytesOf entryName (added s a calls))
-      ∙ ap (λ (l : List Entry). length (axisBytes (sheetAxis s a)) + length (bytesOf entryName l)) (added-book a)
+      ∙ ap (λ (l : List Entry). length (axisBytes (sheetAxis s a)) + length (bytesOf entryName l)) added-book
 
-  tracks : (a : Axis) (items : List ℕ) → tracksIn (tracksAfter (sheetAxis s a)) ≤ length items → (j : ℕ) → 1 ≤ j → j ≤ sheetTracks (n a) (sheetAxis s a)
+  tracks : (items : List ℕ) → tracksIn (tracksAfter (sheetAxis s a)) ≤ length items → (j : ℕ) → 1 ≤ j → j ≤ sheetTracks n (sheetAxis s a)
       → (recordWith (runOf s t calls) a items (2 * (sheetAxis s a .negative + j) - 1) .refusal ≡ noRefusal)
-      × Stands (getD (writtenOut (componentsOf (sheetAxis s a .template)) (n a)) (j - 1) noTrack) (getD items (sheetAxis s a .negative + j - 1) 0)
+      × Stands (getD (writtenOut (componentsOf (sheetAxis s a .template)) n) (j - 1) noTrack) (getD items (sheetAxis s a .negative + j - 1) 0)
       (recordWith (runOf s t calls) a items (2 * (sheetAxis s a .negative + j) - 1) .track)
-  tracks a items long j from to =
+  tracks items long j from to =
       let f = axis-fits s a in
-      let low : j ≤ length (writtenOut (componentsOf (sheetAxis s a .template)) (n a)) = rw (Tracks.written-tracks (n a) v a calls f (r .axes a)) to in
+      let low : j ≤ length (writtenOut (componentsOf (sheetAxis s a .template)) n) = rw (Tracks.written-tracks n v a calls f r) to in
       rw (run-records s t calls ok a items (2 * (sheetAxis s a .negative + j) - 1))
-      (Tracks.track-accepted (n a) v a calls f (r .axes a) items long j from low, Tracks.track-after (n a) v a calls f (r .axes a) items long j from low)
+      (Tracks.track-accepted n v a calls f r items long j from low, Tracks.track-after n v a calls f r items long j from low)
 
-  lent : (a : Axis) (items : List ℕ) (run : List GridTrack) → tracksIn (tracksAfter (sheetAxis s a)) ≤ length items → recordsIn (tracksAfter (sheetAxis s a)) ≤ length run
-      → (j : ℕ) → 1 ≤ j → j ≤ sheetTracks (n a) (sheetAxis s a)
-      → Stands (getD (writtenOut (componentsOf (sheetAxis s a .template)) (n a)) (j - 1) noTrack) (getD items (sheetAxis s a .negative + j - 1) 0)
+  lent : (items : List ℕ) (run : List GridTrack) → tracksIn (tracksAfter (sheetAxis s a)) ≤ length items → recordsIn (tracksAfter (sheetAxis s a)) ≤ length run
+      → (j : ℕ) → 1 ≤ j → j ≤ sheetTracks n (sheetAxis s a)
+      → Stands (getD (writtenOut (componentsOf (sheetAxis s a .template)) n) (j - 1) noTrack) (getD items (sheetAxis s a .negative + j - 1) 0)
       (getD (runWith (runOf s t calls) a items run) (2 * (sheetAxis s a .negative + j) - 1) zeroGridTrack)
-  lent a items run long room j from to =
+  lent items run long room j from to =
       let f = axis-fits s a in
-      let low : j ≤ length (writtenOut (componentsOf (sheetAxis s a .template)) (n a)) = rw (Tracks.written-tracks (n a) v a calls f (r .axes a)) to in
-      rw (run-filled s t calls ok a items run) (Tracks.track-run (n a) v a calls f (r .axes a) items long j from low run room)
+      let low : j ≤ length (writtenOut (componentsOf (sheetAxis s a .template)) n) = rw (Tracks.written-tracks n v a calls f r) to in
+      rw (run-filled s t calls ok a items run) (Tracks.track-run n v a calls f r items long j from low run room)
 
-  marks : (a : Axis) → tracksIn (tracksAfter (sheetAxis s a)) ≤ length (marksOf (runOf s t calls .tables) a)
-  marks a = rw (run-marks s t calls ok a) (marks-enough s good a)
-
-  pub run-theorem : RunTheorem n s t calls
-  run-theorem =
+  pub template-theorem : TemplateTheorem n s t calls a
+  template-theorem =
       record {
-        entries = λ a. run-entries s t calls ok a ∙ ap (entriesAfter (sheetAxis s a)) (added-to s good calls a) ∙ Book.book-after (n a) v a calls (axis-fits s a) (r .axes a);
-        refusals = λ c. run-refusal s t calls c ok ∙ rw (count-book (c .axis), bytes-book (c .axis));
-        placed = λ i held. rw (placement-added i) (run-css n v calls (axis-fits s) (few-tracks s good) r i held);
-        only = λ i held x e. rw (placement-added i) (run-only n v calls (axis-fits s) (few-tracks s good) r i held x e);
+        entries = run-entries s t calls ok a ∙ ap (entriesAfter (sheetAxis s a)) (added-to s good calls a) ∙ Book.book-after n v a calls (axis-fits s a) r;
+        refusals = λ line name. run-refusal s t calls (record { axis = a; line = line; name = name }) ok ∙ ap₂ (λ (entries used : ℕ). refusalOf (tableRefusal entries used line name)) count-book bytes-book;
         tracks = tracks;
         lent = lent;
-        marks = marks;
       }
+
+-- the entries that the calls add, counted from the sheet's entries on
+placement-added : (s : List ℕ) (t : Tables) (calls : List Call) → Accepted s t → (i : ℕ)
+    → placementOf (runOf s t calls) i ≡ placementAfter (sheetOf s .view) (addedTo (sheetOf s .view) calls) i
+unfolding placementAfter
+placement-added s t calls ok i =
+    run-placements s t calls ok i ∙ rw (added-to s (accepted-sheet s t ok .0) calls (placementAt (sheetOf s .view) i .axis))
+
+pub run-theorem : (n : Axis → ℕ) (s : List ℕ) (t : Tables) (calls : List Call) → Accepted s t → Regular n (sheetOf s .view) calls → RunTheorem n s t calls
+run-theorem n s t calls ok r =
+    let few = few-tracks s (accepted-sheet s t ok .0) in
+    record {
+      placed = λ i held. rw (placement-added s t calls ok i) (run-css n (sheetOf s .view) calls (axis-fits s) few r i held);
+      only = λ i held x e. placement-added s t calls ok i ∙ run-only n (sheetOf s .view) calls (axis-fits s) few r i held x e;
+    }
 
 pub third-demand : ThirdDemand
 third-demand =
     record {
+      templates = template-theorem;
       runs = run-theorem;
       order = λ n m p q x y r u same entries i.
-          placement-added n (p .sheet) (p .tables) (p .calls) x r i
+          placement-added (p .sheet) (p .tables) (p .calls) x i
           ∙ order-same n m (sheetOf (p .sheet) .view) (sheetOf (q .sheet) .view) (p .calls) (q .calls) (axis-fits (p .sheet)) (axis-fits (q .sheet)) r u same
-          (λ a. areas-largest (p .sheet) a ∙ ap (largest a) (same .areas) ∙ sym (areas-largest (q .sheet) a)) entries i
-          ∙ sym (placement-added m (q .sheet) (q .tables) (q .calls) y u i);
+          (λ a. areas-largest (p .sheet) a ∙ largest-same a (sheetOf (p .sheet) .view .areas) (sheetOf (q .sheet) .view .areas) (same .areas) ∙ sym (areas-largest (q .sheet) a)) entries i
+          ∙ sym (placement-added (q .sheet) (q .tables) (q .calls) y i);
       columns = columns-alone;
     }

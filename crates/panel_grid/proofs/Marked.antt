@@ -2,8 +2,9 @@
 use mathlib.Core.Path.{_≡_, refl}
 use Prim.Native.Nat.{ℕ}
 use lib.Dec.{T}
-use lib.Ieee.{ofBits, add, sub, mul, div, lt, ofInt}
+use lib.Ieee.{ofBits, toBits, isNan, add, sub, mul, div, lt, ofInt}
 use lib.ListN.{length}
+use Rattle.sizing.specs.Words.{printedBits}
 use Rattle.grid_lines.specs.Answers.{originZeroAnswer, gridLineAnswer}
 use Rattle.explicit_grid.specs.Explicit.{explicitSizeOf, templateSizeOf, withAreas}
 use Rattle.explicit_grid.specs.Counts.{outsideCount, automaticCount, beforeCount, automaticTracks, anyEmpty, allFixed, everyFixed}
@@ -12,18 +13,16 @@ use Rattle.explicit_grid.specs.Repetitions.{fittingOf, heldOf, repetitionsOf}
 use Rattle.explicit_grid.specs.Whole.{floorOf, ceilingOf}
 use Rattle.line_placement.specs.Rule.{seek, named?}
 use Rattle.line_placement.specs.Cases as Names
-use Rattle.grid_track.specs.Cases as Tracks
 use Rattle.grid_track.specs.Written.{writtenOut}
 use Rattle.grid_track.specs.Records.{openTo, allTracks, recordsOf}
 use Rattle.panel_grid.specs.Marked.{M1-to-M12, all}
 
 -- three lines, seven counts, seven placements and one axis
 pub how-many : length M1-to-M12 ≡ 18
-unfolding Tracks.cases
 how-many = refl
 
 pub marked : T (all M1-to-M12)
 unfolding originZeroAnswer gridLineAnswer explicitSizeOf templateSizeOf withAreas
     outsideCount automaticCount beforeCount automaticTracks anyEmpty allFixed everyFixed outsideSpace repetitionSpace fittingOf heldOf repetitionsOf floorOf ceilingOf
-    ofBits lt add mul ofInt div sub Names.holds seek named? Tracks.cases recordsOf allTracks writtenOut openTo
+    ofBits lt add mul ofInt div sub Names.holds seek named? recordsOf allTracks writtenOut openTo printedBits isNan toBits
 marked = tt

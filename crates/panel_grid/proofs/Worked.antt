@@ -2,20 +2,30 @@
 use Prim.Native.Nat.{ℕ}
 use mathlib.Core.Path.{_≡_}
 use mathlib.Core.Bool.{false}
+use Rattle.coordinates.specs.declared.axis.Axis.{Axis}
 use Rattle.sheet_rules.specs.Panels.{Tables}
 use Rattle.sheet_rules.specs.Read.{shortStores}
 use Rattle.panel_rules.specs.Runs.{placementOf}
 use Rattle.panel_rules.specs.Alone.{heldBy, SameColumns}
 use Rattle.panel_rules.specs.Worked.{found, runFrom, sample, rowRun, otherRun, firstOrder, secondOrder, namedRun}
 use Rattle.panel_rules.proofs.Worked.{sample-answers, row-answers, first-answers, second-answers, named-answers, sample-met, row-met, first-met, second-met, named-met, orders-panel, orders-entries, named-panel, named-entries, rows-differ}
-use Rattle.panel_grid.specs.Demands.{RunTheorem}
+use Rattle.panel_grid.specs.Demands.{TemplateTheorem, RunTheorem}
 use Rattle.panel_grid.proofs.Demands.{third-demand}
 
 pub sample-run : (t : Tables) → shortStores t ≡ false → RunTheorem (found sample) (sample .sheet) t (sample .calls)
 sample-run t long = third-demand .runs (found sample) (sample .sheet) t (sample .calls) (sample-answers t long .isAccepted) (sample-met .regular)
 
+-- each axis under its own template's conditions
+pub sample-templates : (t : Tables) → shortStores t ≡ false → (a : Axis) → TemplateTheorem (found sample a) (sample .sheet) t (sample .calls) a
+sample-templates t long a =
+    third-demand .templates (found sample a) (sample .sheet) t (sample .calls) a (sample-answers t long .isAccepted) (sample-met .regular .axes a .template)
+
 pub row-run : (t : Tables) → shortStores t ≡ false → RunTheorem (found rowRun) (rowRun .sheet) t (rowRun .calls)
 row-run t long = third-demand .runs (found rowRun) (rowRun .sheet) t (rowRun .calls) (row-answers t long .isAccepted) (row-met .regular)
+
+pub row-templates : (t : Tables) → shortStores t ≡ false → (a : Axis) → TemplateTheorem (found rowRun a) (rowRun .sheet) t (rowRun .calls) a
+row-templates t long a =
+    third-demand .templates (found rowRun a) (rowRun .sheet) t (rowRun .calls) a (row-answers t long .isAccepted) (row-met .regular .axes a .template)
 
 module _ (t u : Tables) (long : shortStores t ≡ false) (further : shortStores u ≡ false) where
   -- every placement alike, in either order

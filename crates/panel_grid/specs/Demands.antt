@@ -4,7 +4,7 @@ use Prim.Native.Nat.{ℕ, suc, _+_, _*_, _-_, _≤_, _<_}
 use mathlib.Core.Path.{_≡_}
 use mathlib.Core.Logic.{_⊎_}
 use mathlib.Core.Bool.{Bool, true, false}
-use mathlib.Core.List.{List, List·Memᴰ}
+use mathlib.Core.List.{List, map, List·Memᴰ}
 use lib.ListN.{length, getD}
 use Rattle.coordinates.specs.declared.axis.Axis.{Axis}
 use Rattle.coordinates.specs.declared.refusal.Refusal.{Refusal}
@@ -14,7 +14,6 @@ use Rattle.explicit_grid.specs.Template.{Component}
 use Rattle.explicit_grid.specs.Css.{Automatic, Valid, Repetitions}
 use Rattle.line_placement.specs.Css.{Bytes, Entry, AxisNames, ResolvedEnds, CssEnds}
 use Rattle.line_placement.specs.Conditions.{UsedNamesLie}
-use Rattle.named.specs.Placements.{resolvedEnds}
 use Rattle.grid_track.specs.declared.GridTrack.{GridTrack}
 use Rattle.grid_track.specs.declared.WrittenTrack.{WrittenTrack}
 use Rattle.grid_track.specs.Tracks.{zeroGridTrack, refusedRecord}
@@ -23,7 +22,7 @@ use Rattle.grid_track.specs.Records.{tracksIn, recordsIn, noTrack}
 use Rattle.grid_track.specs.Lines.{Stands}
 use Rattle.track_run.specs.Run.{refusedFill, fillAnswerOf, runAfter}
 use Rattle.tables.specs.declared.AxisState.{AxisState}
-use Rattle.tables.specs.View.{AxisView, componentsOf, axisBytes}
+use Rattle.tables.specs.View.{AxisView, sizesOf, componentsOf, axisBytes}
 use Rattle.panel_tables.specs.declared.Panel.{Panel}
 use Rattle.panel_tables.specs.View.{PanelView}
 use Rattle.panel_tables.specs.Axes.{stateIn, viewIn}
@@ -35,10 +34,10 @@ use Rattle.sheet_rules.specs.Panels.{Tables}
 use Rattle.sheet_rules.specs.Read.{shortStores, refusedSheet, readSheet}
 use Rattle.panel_rules.specs.Calls.{NameTables, NamedWords, bookIn, namesIn, wordsIn, templateIn, sparesIn, axisTracks, shortNames, enterRefusal, EnteredName, enterName, trackRecord}
 use Rattle.panel_rules.specs.Placing.{refusedPlacement, resolvePlacement}
-use Rattle.panel_rules.specs.Runs.{Held, namesOf, areasOf, Call, refusalIn, Accepted, sheetHeld, runOf, sizeOf, placementOf, listsOf, nameOf, recordWith, runWith, marksOf}
-use Rattle.panel_rules.specs.Views.{entriesAfter, namesAfter, cssEnd, placementAt, placementAfter, sizeAfter, listsAfter, nameAfter, recordAfter, tracksAfter}
+use Rattle.panel_rules.specs.Runs.{Held, namesOf, areasOf, Call, refusalIn, Accepted, sheetHeld, runOf, sizeOf, placementOf, listsOf, nameOf, recordWith, runWith, fillWith, marksOf}
+use Rattle.panel_rules.specs.Views.{entriesAfter, namesAfter, cssEnd, placementAt, answerAt, PlacedByCss, placementAfter, sizeAfter, listsAfter, nameAfter, recordAfter, tracksAfter}
 use Rattle.panel_rules.specs.Added.{sheetAxis, added, refusalAfter}
-use Rattle.panel_rules.specs.Book.{book, bookNames, bookBytes, tableRefusal, sheetTracks, Regular}
+use Rattle.panel_rules.specs.Book.{book, bookNames, bookBytes, tableRefusal, sheetTracks, RegularTemplate, Regular}
 use Rattle.panel_rules.specs.Order.{SamePanel, SameEntries}
 use Rattle.panel_rules.specs.Alone.{Run, DifferInRows, SameColumns}
 
@@ -104,47 +103,63 @@ pub record SecondDemand (s : List ℕ) (t : Tables) (calls : List Call) : Type 0
       (sizeOf (runOf s t calls) a .repetitions)
   -- layer 4
   pub entries : (a : Axis) → bookIn (runOf s t calls .panel) (namesOf (runOf s t calls .tables)) a ≡ entriesAfter (sheetAxis s a) (added s a calls)
+  -- one more entry is refused by the table alone, with the entries and bytes that its axis has then
+  pub refusals : (c : Call) → refusalIn (runOf s t calls) c ≡ refusalOf (refusalAfter (sheetAxis s (c .axis)) (added s (c .axis) calls) c)
   pub placements : (i : ℕ) → placementOf (runOf s t calls) i ≡ placementAfter (sheetOf s .view) (λ a. added s a calls) i
-  -- each placement under conditions on its own names only
+  -- each placement under conditions on its own names only: what CSS counts to
   pub placed : (i : ℕ) → i < length (sheetOf s .view .placements)
       → let p = placementAt (sheetOf s .view) i in let x = namesAfter (sheetOf s .view) (p .axis) (added s (p .axis) calls) in
-      UsedNamesLie x (cssEnd (p .start)) → UsedNamesLie x (cssEnd (p .end)) → CssEnds x (cssEnd (p .start)) (cssEnd (p .end)) (resolvedEnds (placementOf (runOf s t calls) i .line))
+      UsedNamesLie x (cssEnd (p .start)) → UsedNamesLie x (cssEnd (p .end)) → PlacedByCss x p (placementOf (runOf s t calls) i)
+  -- and nothing else
+  pub only : (i : ℕ) → i < length (sheetOf s .view .placements)
+      → let p = placementAt (sheetOf s .view) i in let x = namesAfter (sheetOf s .view) (p .axis) (added s (p .axis) calls) in
+      UsedNamesLie x (cssEnd (p .start)) → UsedNamesLie x (cssEnd (p .end))
+      → (r : ResolvedEnds) → CssEnds x (cssEnd (p .start)) (cssEnd (p .end)) r → placementOf (runOf s t calls) i ≡ answerAt p r
   pub lists : (a : Axis) → listsOf (runOf s t calls) a ≡ listsAfter (sheetAxis s a) (added s a calls)
   pub names : (a : Axis) (line place : ℕ) → nameOf (runOf s t calls) a line place ≡ nameAfter (sheetAxis s a) (added s a calls) line place
   -- layer 5
   pub records : (a : Axis) (items : List ℕ) (i : ℕ) → recordWith (runOf s t calls) a items i ≡ recordAfter (sheetAxis s a) items i
-
--- ==== demand 3
-
--- the run theorem: the entries held are the book's, an entry is refused exactly as the book refuses it, and each named line and each named span
--- beside a line is the line that CSS counts to over the book and the areas
-pub record RunTheorem (n : Axis → ℕ) (s : List ℕ) (t : Tables) (calls : List Call) : Type 0 where
-  pub entries : (a : Axis) → bookIn (runOf s t calls .panel) (namesOf (runOf s t calls .tables)) a ≡ book (n a) (sheetOf s .view) a calls
-  pub refusals : (c : Call) → refusalIn (runOf s t calls) c
-      ≡ refusalOf (tableRefusal (length (book (n (c .axis)) (sheetOf s .view) (c .axis) calls)) (bookBytes (n (c .axis)) (sheetOf s .view) (c .axis) calls) (c .line) (c .name))
-  pub placed : (i : ℕ) → i < length (sheetOf s .view .placements)
-      → let p = placementAt (sheetOf s .view) i in
-      CssEnds (bookNames (n (p .axis)) (sheetOf s .view) (p .axis) calls) (cssEnd (p .start)) (cssEnd (p .end)) (resolvedEnds (placementOf (runOf s t calls) i .line))
-  -- and CSS counts to nothing else
-  pub only : (i : ℕ) → i < length (sheetOf s .view .placements) → (r : ResolvedEnds)
-      → let p = placementAt (sheetOf s .view) i in
-      CssEnds (bookNames (n (p .axis)) (sheetOf s .view) (p .axis) calls) (cssEnd (p .start)) (cssEnd (p .end)) r → resolvedEnds (placementOf (runOf s t calls) i .line) ≡ r
-  -- record 2(m + j) - 1, m the negative tracks, is track j as written out, or collapsed exactly where `fit` wrote it and it holds no item
-  pub tracks : (a : Axis) (items : List ℕ) → tracksIn (tracksAfter (sheetAxis s a)) ≤ length items
-      → (j : ℕ) → 1 ≤ j → j ≤ sheetTracks (n a) (sheetAxis s a)
-      → (recordWith (runOf s t calls) a items (2 * (sheetAxis s a .negative + j) - 1) .refusal ≡ noRefusal)
-      × Stands (getD (writtenOut (componentsOf (sheetAxis s a .template)) (n a)) (j - 1) noTrack) (getD items (sheetAxis s a .negative + j - 1) 0)
-      (recordWith (runOf s t calls) a items (2 * (sheetAxis s a .negative + j) - 1) .track)
-  -- the same of a lent run that the call fills
-  pub lent : (a : Axis) (items : List ℕ) (run : List GridTrack) → tracksIn (tracksAfter (sheetAxis s a)) ≤ length items → recordsIn (tracksAfter (sheetAxis s a)) ≤ length run
-      → (j : ℕ) → 1 ≤ j → j ≤ sheetTracks (n a) (sheetAxis s a)
-      → Stands (getD (writtenOut (componentsOf (sheetAxis s a .template)) (n a)) (j - 1) noTrack) (getD items (sheetAxis s a .negative + j - 1) 0)
-      (getD (runWith (runOf s t calls) a items run) (2 * (sheetAxis s a .negative + j) - 1) zeroGridTrack)
+  -- a lent run of records after the call that fills it, and what that call answers
+  pub lent : (a : Axis) (items : List ℕ) (run : List GridTrack) → runWith (runOf s t calls) a items run
+      ≡ runAfter (tracksAfter (sheetAxis s a)) (componentsOf (sheetAxis s a .template)) (map sizesOf (sheetAxis s a .spares)) items run
+  pub filled : (a : Axis) (items : List ℕ) (run : List GridTrack) → fillWith (runOf s t calls) a items run
+      ≡ fillAnswerOf (tracksAfter (sheetAxis s a)) (length run) (length items)
   -- the sheet's own marks are enough item bytes
   pub marks : (a : Axis) → tracksIn (tracksAfter (sheetAxis s a)) ≤ length (marksOf (runOf s t calls .tables) a)
 
+-- ==== demand 3
+
+-- an axis whose own template is valid, writes each repeat out and at most 10,000 tracks: the entries held are the book's, an entry is refused
+-- exactly as the book refuses it, and "the track after each template line but the last is the one written there, or collapsed as CSS has it"
+pub record TemplateTheorem (n : ℕ) (s : List ℕ) (t : Tables) (calls : List Call) (a : Axis) : Type 0 where
+  pub entries : bookIn (runOf s t calls .panel) (namesOf (runOf s t calls .tables)) a ≡ book n (sheetOf s .view) a calls
+  pub refusals : (line : ℕ) (name : Bytes) → refusalIn (runOf s t calls) (record { axis = a; line = line; name = name })
+      ≡ refusalOf (tableRefusal (length (book n (sheetOf s .view) a calls)) (bookBytes n (sheetOf s .view) a calls) line name)
+  -- record 2(m + j) - 1, m the negative tracks, is track j as written out, or collapsed exactly where `fit` wrote it and it holds no item
+  pub tracks : (items : List ℕ) → tracksIn (tracksAfter (sheetAxis s a)) ≤ length items
+      → (j : ℕ) → 1 ≤ j → j ≤ sheetTracks n (sheetAxis s a)
+      → (recordWith (runOf s t calls) a items (2 * (sheetAxis s a .negative + j) - 1) .refusal ≡ noRefusal)
+      × Stands (getD (writtenOut (componentsOf (sheetAxis s a .template)) n) (j - 1) noTrack) (getD items (sheetAxis s a .negative + j - 1) 0)
+      (recordWith (runOf s t calls) a items (2 * (sheetAxis s a .negative + j) - 1) .track)
+  -- the same of a lent run that the call fills
+  pub lent : (items : List ℕ) (run : List GridTrack) → tracksIn (tracksAfter (sheetAxis s a)) ≤ length items → recordsIn (tracksAfter (sheetAxis s a)) ≤ length run
+      → (j : ℕ) → 1 ≤ j → j ≤ sheetTracks n (sheetAxis s a)
+      → Stands (getD (writtenOut (componentsOf (sheetAxis s a .template)) n) (j - 1) noTrack) (getD items (sheetAxis s a .negative + j - 1) 0)
+      (getD (runWith (runOf s t calls) a items run) (2 * (sheetAxis s a .negative + j) - 1) zeroGridTrack)
+
+-- the run theorem: each named line and each named span beside a line is the line that CSS counts to over the book and the areas
+pub record RunTheorem (n : Axis → ℕ) (s : List ℕ) (t : Tables) (calls : List Call) : Type 0 where
+  pub placed : (i : ℕ) → i < length (sheetOf s .view .placements)
+      → let p = placementAt (sheetOf s .view) i in
+      PlacedByCss (bookNames (n (p .axis)) (sheetOf s .view) (p .axis) calls) p (placementOf (runOf s t calls) i)
+  -- and CSS counts to nothing else
+  pub only : (i : ℕ) → i < length (sheetOf s .view .placements) → (r : ResolvedEnds)
+      → let p = placementAt (sheetOf s .view) i in
+      CssEnds (bookNames (n (p .axis)) (sheetOf s .view) (p .axis) calls) (cssEnd (p .start)) (cssEnd (p .end)) r → placementOf (runOf s t calls) i ≡ answerAt p r
+
 pub record ThirdDemand : Type 0 where
-  -- for every accepted sheet and every list of entry calls, refused ones included, from any lent contents
+  -- for every accepted sheet and every list of entry calls, refused ones included, from any lent contents; an axis under its own template's conditions
+  pub templates : (n : ℕ) (s : List ℕ) (t : Tables) (calls : List Call) (a : Axis) → Accepted s t → RegularTemplate n (sheetAxis s a) → TemplateTheorem n s t calls a
   pub runs : (n : Axis → ℕ) (s : List ℕ) (t : Tables) (calls : List Call) → Accepted s t → Regular n (sheetOf s .view) calls → RunTheorem n s t calls
   -- "with the same accepted entries in any order, resolve every placement alike"
   pub order : (n m : Axis → ℕ) (p q : Run) → Accepted (p .sheet) (p .tables) → Accepted (q .sheet) (q .tables)

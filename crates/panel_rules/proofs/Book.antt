@@ -35,7 +35,7 @@ use Rattle.panel_tables.specs.Axes.{viewIn}
 use Rattle.sheet_rules.specs.Sheet.{innerOf, strategyOf, sizeOf, explicitOf, timesOf, piecesOf, itemsOf, entriesOf}
 use Rattle.panel_rules.specs.Runs.{Call}
 use Rattle.panel_rules.specs.Views.{entriesAfter, namesAfter, areasIn}
-use Rattle.panel_rules.specs.Book.{sheetBook, sheetTracks, addedFrom, book, bookExplicit, bookNames, CssRepetitions, RegularAxis}
+use Rattle.panel_rules.specs.Book.{sheetBook, sheetTracks, addedFrom, book, bookExplicit, bookNames, CssRepetitions, RegularTemplate}
 
 -- ---- items and components
 
@@ -119,8 +119,8 @@ found-repetitions v valid c m auto =
     never : (n : ℕ) → n ≡ 0 → 0 < n → ⊥
     never n e h = omega arith
 
--- ---- an axis under the conditions
-module _ (n : ℕ) (v : PanelView) (a : Axis) (calls : List Call) (f : Fits (viewIn v a)) (r : RegularAxis n v a calls) where
+-- ---- an axis whose template meets the conditions
+module _ (n : ℕ) (v : PanelView) (a : Axis) (calls : List Call) (f : Fits (viewIn v a)) (r : RegularTemplate n (viewIn v a)) where
   abbrev va : AxisView
   va = viewIn v a
 

@@ -11,6 +11,7 @@ use Rattle.coordinates.specs.Refusals.{noRefusal, count}
 use Rattle.line_placement.specs.Css.{Entry, AxisNames}
 use Rattle.line_placement.specs.Rule.{named?, resolve}
 use Rattle.named.specs.Placements.{endsOf}
+use Rattle.grid_track.specs.declared.GridTrack.{GridTrack}
 use Rattle.tables.specs.View.{AxisView}
 use Rattle.panel_tables.specs.View.{Area, Placement, PanelView, noPlacement}
 use Rattle.panel_tables.specs.Axes.{stateIn}
@@ -18,7 +19,7 @@ use Rattle.sheet_rules.specs.Panels.{Tables}
 use Rattle.sheet_rules.specs.Sheet.{explicitOf}
 use Rattle.panel_rules.specs.declared.PlacementAnswer.{PlacementAnswer}
 use Rattle.panel_rules.specs.Placing.{refusedPlacement}
-use Rattle.panel_rules.specs.Runs.{marksOf, sizeOf, listsOf, recordWith}
+use Rattle.panel_rules.specs.Runs.{marksOf, sizeOf, listsOf, recordWith, runWith, fillWith}
 use Rattle.panel_rules.specs.Calls.{explicitSize, lineCountIn}
 use Rattle.panel_rules.specs.Views.{heldAfter, entriesAfter, areasIn, namesAfter, cssEnd, placementAt, placementAfter, nameAfter}
 
@@ -39,6 +40,14 @@ module _ (v u : PanelView) (t w : Tables) (c d r q : List Entry) (x : v .columns
   pub records-same : (items : List ℕ) (index : ℕ) → recordWith (heldAfter v t c r) Column items index ≡ recordWith (heldAfter u w d q) Column items index
   unfolding heldAfter
   records-same items index = rw (x, e)
+
+  pub run-same : (items : List ℕ) (run : List GridTrack) → runWith (heldAfter v t c r) Column items run ≡ runWith (heldAfter u w d q) Column items run
+  unfolding heldAfter
+  run-same items run = rw (x, e)
+
+  pub fill-same : (items : List ℕ) (run : List GridTrack) → fillWith (heldAfter v t c r) Column items run ≡ fillWith (heldAfter u w d q) Column items run
+  unfolding heldAfter
+  fill-same items run = rw (x, e)
 
   pub marks-same : marksOf (heldAfter v t c r .tables) Column ≡ marksOf (heldAfter u w d q .tables) Column
   unfolding heldAfter

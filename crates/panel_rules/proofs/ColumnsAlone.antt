@@ -8,6 +8,7 @@ use Rattle.coordinates.specs.declared.axis.Axis.{Axis}
 use Rattle.coordinates.specs.declared.axis.Axis.the-variants.{Column, Row}
 use Rattle.coordinates.specs.Refusals.{refusalOf}
 use Rattle.line_placement.specs.Css.{Entry}
+use Rattle.grid_track.specs.declared.GridTrack.{GridTrack}
 use Rattle.tables.specs.View.{AxisView, axisBytes}
 use Rattle.panel_tables.specs.View.{PanelView}
 use Rattle.panel_tables.specs.Axes.{stateIn}
@@ -15,7 +16,7 @@ use Rattle.sheet_rules.specs.Panels.{entryWords}
 use Rattle.sheet_rules.specs.Read.{shortStores}
 use Rattle.sheet_rules.specs.Sheet.{sheetOf}
 use Rattle.panel_rules.specs.declared.PlacementAnswer.{PlacementAnswer}
-use Rattle.panel_rules.specs.Runs.{Held, Call, refusalIn, sheetHeld, marksOf, sizeOf, placementOf, listsOf, nameOf, recordWith}
+use Rattle.panel_rules.specs.Runs.{Held, Call, refusalIn, sheetHeld, marksOf, sizeOf, placementOf, listsOf, nameOf, recordWith, runWith, fillWith}
 use Rattle.panel_rules.specs.Views.{heldAfter, nameAfter, placementAfter}
 use Rattle.panel_rules.specs.Book.{addedFrom}
 use Rattle.panel_rules.specs.Added.{sheetAxis, added, refusalAfter}
@@ -25,7 +26,7 @@ use Rattle.panel_rules.proofs.Held.{added-fit, run-held, run-refusal}
 use Rattle.panel_rules.proofs.Runs.{run-names, run-placements}
 use Rattle.panel_rules.proofs.Alone.{columns-view, columns-added}
 use Rattle.panel_rules.proofs.ColumnCalls.{refusalsAfter, columns-refusals}
-use Rattle.panel_rules.proofs.ColumnAnswers.{state-same, size-same, lists-same, records-same, marks-same, names-same, axes-same, placements-same}
+use Rattle.panel_rules.proofs.ColumnAnswers.{state-same, size-same, lists-same, records-same, run-same, fill-same, marks-same, names-same, axes-same, placements-same}
 
 -- ---- one run: its answers over the view of its sheet and the entries that its calls add
 module _ (r : Run) (ok : AcceptedRun r) where
@@ -108,6 +109,12 @@ module _ (p q : Run) (d : DifferInRows p q) where
   records items index =
       over (λ h. recordWith h Column items index) (records-same v u (p .tables) (q .tables) (c Column) (e Column) (c Row) (e Row) columns same-entries items index)
 
+  lent : (items : List ℕ) (run : List GridTrack) → runWith (heldBy p) Column items run ≡ runWith (heldBy q) Column items run
+  lent items run = over (λ h. runWith h Column items run) (run-same v u (p .tables) (q .tables) (c Column) (e Column) (c Row) (e Row) columns same-entries items run)
+
+  filled : (items : List ℕ) (run : List GridTrack) → fillWith (heldBy p) Column items run ≡ fillWith (heldBy q) Column items run
+  filled items run = over (λ h. fillWith h Column items run) (fill-same v u (p .tables) (q .tables) (c Column) (e Column) (c Row) (e Row) columns same-entries items run)
+
   marks : marksOf (heldBy p .tables) Column ≡ marksOf (heldBy q .tables) Column
   marks = over (λ h. marksOf (h .tables) Column) (marks-same v u (p .tables) (q .tables) (c Column) (e Column) (c Row) (e Row) columns same-entries)
 
@@ -163,6 +170,8 @@ columns-alone p q d =
       records = records p q d;
       marks = marks p q d;
       marked = λ index. ap (λ (items : List ℕ). recordWith (heldBy p) Column items index) (marks p q d) ∙ records p q d (marksOf (heldBy q .tables) Column) index;
+      lent = lent p q d;
+      filled = filled p q d;
       refusals = refusals p q d;
       refusal = refusal p q d;
     }

@@ -1,8 +1,10 @@
 -- Names may arrive in any order: two panels that are the same but for that, with the same accepted entries, resolve every placement alike. Assumes nothing.
-use Prim.Native.Nat.{ℕ, _≤_, _<_, max}
+use Prim.Native.Nat.{ℕ, _-_, _≤_, _<_, max}
 use mathlib.Core.Path.{_≡_, refl, sym, ap, _∙_}
+use mathlib.Core.Logic.{_⊎_, ⊎-elim}
 use mathlib.Core.Bool.{Bool, true, false, cond}
-use mathlib.Core.List.{List}
+use mathlib.Core.List.{List, [], _∷_, map, List·Memᴰ, List·Memᴰ·head, List·Memᴰ·tail, List·Memᴰ·cases-cons, List·Memᴰ·not-nil, Memᴰ·cast, Memᴰ·map, Memᴰ·of-map}
+use native.Mathlib.Omega.{arith}
 use lib.Dec.{ltb}
 use lib.ListN.{length, getD}
 use Rattle.coordinates.specs.declared.axis.Axis.{Axis}
@@ -16,16 +18,44 @@ use Rattle.named.specs.Placements.{endsOf}
 use Rattle.tables.specs.View.{AxisView, AxisLine, componentsOf}
 use Rattle.tables.proofs.Fits.{Fits}
 use Rattle.panel_tables.specs.View.{Area, Placement, PanelView, noPlacement}
+use Rattle.panel_tables.specs.Areas.{edgesIn}
 use Rattle.panel_tables.specs.Axes.{viewIn}
 use Rattle.sheet_rules.specs.Sheet.{sizeOf, explicitOf}
 use Rattle.panel_rules.specs.declared.PlacementAnswer.{PlacementAnswer}
 use Rattle.panel_rules.specs.Placing.{refusedPlacement}
 use Rattle.panel_rules.specs.Runs.{Call}
-use Rattle.panel_rules.specs.Views.{areasIn, cssEnd, placementAt, namesAfter, placementAfter}
+use Rattle.panel_rules.specs.Views.{areaIn, areasIn, cssEnd, placementAt, namesAfter, placementAfter}
 use Rattle.panel_rules.specs.Book.{book, bookNames, Regular}
 use Rattle.panel_rules.specs.Order.{SamePanel, SameEntries}
+use Rattle.panel_rules.specs.Ranges.{largest}
 use Rattle.panel_rules.proofs.Book as Book
 use Rattle.panel_rules.proofs.Run.{addedTo}
+
+-- ---- the same areas in any order
+module _ (a : Axis) where
+  -- are the same to an axis
+  areas-among : (l m : List Area) → ((x : Area) → List·Memᴰ x l → List·Memᴰ x m) → (y : CssArea) → List·Memᴰ y (areasIn a l) → List·Memᴰ y (areasIn a m)
+  areas-among l m f y h =
+      let (x, k, e) = Memᴰ·of-map (areaIn a) l h in
+      Memᴰ·cast (sym e) (Memᴰ·map (areaIn a) (f x k))
+
+  -- and span as many tracks
+  end-within : (x : Area) (m : List Area) → List·Memᴰ x m → edgesIn (x .edges) a .end - 1 ≤ largest a m
+  end-within x [] h = absurd (List·Memᴰ·not-nil h)
+  end-within x (y ∷ m) h =
+      ⊎-elim (λ (e : x ≡ y). rw e (omega arith)) (λ (k : List·Memᴰ x m). let i = end-within x m k in omega arith) (List·Memᴰ·cases-cons h)
+
+  largest-within : (l m : List Area) → ((x : Area) → List·Memᴰ x l → List·Memᴰ x m) → largest a l ≤ largest a m
+  largest-within [] m f = omega arith
+  largest-within (x ∷ l) m f =
+      let i = end-within x m (f x (List·Memᴰ·head refl)) in
+      let j = largest-within l m (λ z k. f z (List·Memᴰ·tail k)) in
+      omega arith
+
+  pub largest-same : (l m : List Area) → SameMembers l m → largest a l ≡ largest a m
+  largest-same l m s = omega (arith, largest-within l m (λ x. s x .0), largest-within m l (λ x. s x .1))
+
+-- ---- the same answers
 
 -- the same `axis` record and components have the same size
 same-size : (x y : AxisView) → x .line ≡ y .line → componentsOf (x .template) ≡ componentsOf (y .template) → sizeOf x .tracks ≡ sizeOf y .tracks
@@ -58,8 +88,11 @@ module _ (n m : Axis → ℕ) (v w : PanelView) (cs ds : List Call) (f : (a : Ax
   names-same a =
       record {
         explicit = explicit-same a;
-        entries = rw (Book.book-after (n a) v a cs (f a) (r .axes a), Book.book-after (m a) w a ds (g a) (q .axes a)) (entries a);
-        areas = rw (same .areas) (λ (x : CssArea). (λ h. h, λ h. h));
+        entries = rw (Book.book-after (n a) v a cs (f a) (r .axes a .template), Book.book-after (m a) w a ds (g a) (q .axes a .template)) (entries a);
+        areas = λ (y : CssArea). (
+          areas-among a (v .areas) (w .areas) (λ x. same .areas x .0) y,
+          areas-among a (w .areas) (v .areas) (λ x. same .areas x .1) y,
+        );
       }
 
   -- every placement is resolved alike

@@ -97,10 +97,12 @@ module _ (v : PanelView) (a : Axis) (calls : List Call) where
       let u = both (lineAtMost (suc (x .explicit)) (x .book)) _ (s .1) in
       let valid = valid-css (innerValue (innerOf (viewIn v a .line))) cs .0 (p .0) in
       record {
-        valid = valid;
-        repetitions = found-repetitions (viewIn v a) valid;
-        repeated = written-once (itemsOf n (viewIn v a .template)) (q .0);
-        few = leb-true (sheetTracks n (viewIn v a)) 10000 (r .0);
+        template = record {
+          valid = valid;
+          repetitions = found-repetitions (viewIn v a) valid;
+          repeated = written-once (itemsOf n (viewIn v a .template)) (q .0);
+          few = leb-true (sheetTracks n (viewIn v a)) 10000 (r .0);
+        };
         lies = all-lie x (leb-true (x .explicit) 10000 (s .0)) (line-at-most (suc (x .explicit)) (x .book) (u .0)) (edges-at-most (suc (x .explicit)) (x .areas) (u .1)) .lies;
       }
 

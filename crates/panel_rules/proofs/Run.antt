@@ -2,29 +2,26 @@
 -- Assumes nothing.
 use Prim.Native.Nat.{ℕ, zero, suc, _≤_, _<_}
 use native.Mathlib.Nat.{le-of-suc-le-suc, not-suc-le-zero}
-use mathlib.Core.Path.{_≡_, refl, sym, ap, _∙_}
+use mathlib.Core.Path.{_≡_, refl, sym, ap, _∙_, subst}
 use mathlib.Core.List.{List, [], _∷_, List·Memᴰ, List·Memᴰ·head, List·Memᴰ·tail}
 use borrow.Author.Tests.{lt-ltb}
 use lib.ListN.{length, getD}
 use lib.Dec.{ltb}
 use Rattle.coordinates.specs.declared.axis.Axis.{Axis}
-use Rattle.coordinates.specs.Refusals.{noRefusal}
 use Rattle.line_placement.specs.Css.{Bytes, Entry, AxisNames, Placement as CssPlacement, Resolved, free, atLine, spanning, ResolvedEnds, CssEnds}
 use Rattle.line_placement.specs.Conditions.{UsedNamesLie, NoZero}
 use Rattle.line_placement.specs.Rule.{named?, resolve}
 use Rattle.line_placement.proofs.Resolve.{resolve-css, resolve-css-all}
 use Rattle.line_placement.proofs.Unique.{ends-unique}
-use Rattle.named.specs.Placements.{resolvedOf, answerOf, endsOf, resolvedEnds}
 use Rattle.named.proofs.Theorems.{ends-back}
 use Rattle.tables.specs.View.{axisBytes}
 use Rattle.tables.proofs.Fits.{Fits}
 use Rattle.panel_tables.specs.View.{Placement, PanelView, noPlacement}
 use Rattle.panel_tables.specs.Axes.{viewIn}
 use Rattle.sheet_rules.specs.Sheet.{explicitOf, entriesOf}
-use Rattle.panel_rules.specs.declared.PlacementAnswer.{PlacementAnswer}
 use Rattle.panel_rules.specs.Runs.{Call}
-use Rattle.panel_rules.specs.Views.{cssEnd, placementAt, namesAfter, placementAfter}
-use Rattle.panel_rules.specs.Book.{addedFrom, bookNames, RegularAxis, Regular}
+use Rattle.panel_rules.specs.Views.{cssEnd, placementAt, namesAfter, answerAt, PlacedByCss, placementAfter}
+use Rattle.panel_rules.specs.Book.{addedFrom, bookNames, Regular}
 use Rattle.panel_rules.proofs.Book as Book
 
 -- ---- an answer that is not refused
@@ -35,23 +32,36 @@ module _ (v : PanelView) (es : Axis → List Entry) (i : ℕ) (held : i < length
   abbrev x : AxisNames
   x = namesAfter v (p .axis) (es (p .axis))
 
-  pub placement-answer : placementAfter v es i
-      ≡ record { refusal = noRefusal; axis = p .axis; line = endsOf (resolve (x .explicit) (named? x) (cssEnd (p .start)) (cssEnd (p .end))) }
+  pub placement-answer : placementAfter v es i ≡ answerAt p (resolve (x .explicit) (named? x) (cssEnd (p .start)) (cssEnd (p .end)))
   unfolding placementAfter
   placement-answer = rw (lt-ltb i (length (v .placements)) held)
 
-  line-answer : resolvedEnds (placementAfter v es i .line) ≡ resolve (x .explicit) (named? x) (cssEnd (p .start)) (cssEnd (p .end))
-  line-answer = ap (λ (r : PlacementAnswer). resolvedEnds (r .line)) placement-answer ∙ ends-back _
+  -- it is CSS's over names y where the rule gives that, and the names are the same
+  by-css : (y : AxisNames) → x ≡ y → CssEnds y (cssEnd (p .start)) (cssEnd (p .end)) (resolve (y .explicit) (named? y) (cssEnd (p .start)) (cssEnd (p .end)))
+      → PlacedByCss y p (placementAfter v es i)
+  by-css y e c =
+      let found : ResolvedEnds = resolve (y .explicit) (named? y) (cssEnd (p .start)) (cssEnd (p .end)) in
+      subst (PlacedByCss y p)
+      (sym (placement-answer ∙ ap (λ (z : AxisNames). answerAt p (resolve (z .explicit) (named? z) (cssEnd (p .start)) (cssEnd (p .end)))) e))
+      (record { accepted = refl; axis = refl; ends = subst (CssEnds y (cssEnd (p .start)) (cssEnd (p .end))) (sym (ends-back found)) c })
+
+  -- and CSS's ends make up the whole answer
+  by-ends : (y : AxisNames) → x ≡ y → CssEnds y (cssEnd (p .start)) (cssEnd (p .end)) (resolve (y .explicit) (named? y) (cssEnd (p .start)) (cssEnd (p .end)))
+      → (t : ResolvedEnds) → CssEnds y (cssEnd (p .start)) (cssEnd (p .end)) t → placementAfter v es i ≡ answerAt p t
+  by-ends y e c t d =
+      placement-answer
+      ∙ ap (λ (z : AxisNames). answerAt p (resolve (z .explicit) (named? z) (cssEnd (p .start)) (cssEnd (p .end)))) e
+      ∙ ap (answerAt p) (ends-unique y (cssEnd (p .start)) (cssEnd (p .end)) (resolve (y .explicit) (named? y) (cssEnd (p .start)) (cssEnd (p .end))) t c d)
 
   -- each placement under conditions on its own names only
   pub placement-css : x .explicit ≤ 10000 → UsedNamesLie x (cssEnd (p .start)) → UsedNamesLie x (cssEnd (p .end))
-      → CssEnds x (cssEnd (p .start)) (cssEnd (p .end)) (resolvedEnds (placementAfter v es i .line))
-  placement-css h a b = rw line-answer (resolve-css x h (cssEnd (p .start)) (cssEnd (p .end)) a b)
+      → PlacedByCss x p (placementAfter v es i)
+  placement-css h a b = by-css x refl (resolve-css x h (cssEnd (p .start)) (cssEnd (p .end)) a b)
 
   -- and CSS comes to nothing else
   pub placement-only : x .explicit ≤ 10000 → UsedNamesLie x (cssEnd (p .start)) → UsedNamesLie x (cssEnd (p .end))
-      → (t : ResolvedEnds) → CssEnds x (cssEnd (p .start)) (cssEnd (p .end)) t → resolvedEnds (placementAfter v es i .line) ≡ t
-  placement-only h a b t c = ends-unique x (cssEnd (p .start)) (cssEnd (p .end)) (resolvedEnds (placementAfter v es i .line)) t (placement-css h a b) c
+      → (t : ResolvedEnds) → CssEnds x (cssEnd (p .start)) (cssEnd (p .end)) t → placementAfter v es i ≡ answerAt p t
+  placement-only h a b = by-ends x refl (resolve-css x h (cssEnd (p .start)) (cssEnd (p .end)) a b)
 
 -- ---- over the book
 
@@ -73,22 +83,20 @@ module _ (n : Axis → ℕ) (v : PanelView) (calls : List Call) (f : (a : Axis) 
   b = bookNames (n (q .axis)) v (q .axis) calls
 
   same-names : namesAfter v (q .axis) (addedTo v calls (q .axis)) ≡ b
-  same-names = Book.names-book (n (q .axis)) v (q .axis) calls (f (q .axis)) (r .axes (q .axis))
+  same-names = Book.names-book (n (q .axis)) v (q .axis) calls (f (q .axis)) (r .axes (q .axis) .template)
 
   small : b .explicit ≤ 10000
-  small = let e = Book.explicit-book (n (q .axis)) v (q .axis) calls (f (q .axis)) (r .axes (q .axis)) in rw (← e) (few (q .axis))
+  small = let e = Book.explicit-book (n (q .axis)) v (q .axis) calls (f (q .axis)) (r .axes (q .axis) .template) in rw (← e) (few (q .axis))
 
-  book-answer : resolvedEnds (placementAfter v (addedTo v calls) i .line) ≡ resolve (b .explicit) (named? b) (cssEnd (q .start)) (cssEnd (q .end))
-  book-answer =
-      line-answer v (addedTo v calls) i held ∙ ap (λ (y : AxisNames). resolve (y .explicit) (named? y) (cssEnd (q .start)) (cssEnd (q .end))) same-names
+  book-css : CssEnds b (cssEnd (q .start)) (cssEnd (q .end)) (resolve (b .explicit) (named? b) (cssEnd (q .start)) (cssEnd (q .end)))
+  book-css =
+      let z = r .nonzero q (member (v .placements) i noPlacement held) in
+      resolve-css-all b (record { small = small; lies = r .axes (q .axis) .lies }) (cssEnd (q .start)) (cssEnd (q .end)) (z .0) (z .1)
 
   -- "each named line, and each named span beside a line, is resolved to the line that CSS counts to over document 01's name book"
-  pub run-css : CssEnds b (cssEnd (q .start)) (cssEnd (q .end)) (resolvedEnds (placementAfter v (addedTo v calls) i .line))
-  run-css =
-      let z = r .nonzero q (member (v .placements) i noPlacement held) in
-      rw book-answer
-      (resolve-css-all b (record { small = small; lies = r .axes (q .axis) .lies }) (cssEnd (q .start)) (cssEnd (q .end)) (z .0) (z .1))
+  pub run-css : PlacedByCss b q (placementAfter v (addedTo v calls) i)
+  run-css = by-css v (addedTo v calls) i held b same-names book-css
 
   -- and to nothing else
-  pub run-only : (t : ResolvedEnds) → CssEnds b (cssEnd (q .start)) (cssEnd (q .end)) t → resolvedEnds (placementAfter v (addedTo v calls) i .line) ≡ t
-  run-only t c = ends-unique b (cssEnd (q .start)) (cssEnd (q .end)) (resolvedEnds (placementAfter v (addedTo v calls) i .line)) t run-css c
+  pub run-only : (t : ResolvedEnds) → CssEnds b (cssEnd (q .start)) (cssEnd (q .end)) t → placementAfter v (addedTo v calls) i ≡ answerAt q t
+  run-only = by-ends v (addedTo v calls) i held b same-names book-css

@@ -11,7 +11,7 @@ use Rattle.name_store.specs.Entries.{entryOf, namedEntry}
 use Rattle.name_store.specs.Entries as Store
 use Rattle.grid_track.specs.declared.GridTrack.{GridTrack}
 use Rattle.grid_track.specs.Records.{tracksIn}
-use Rattle.track_run.specs.Run.{runAfter}
+use Rattle.track_run.specs.Run.{fillAnswerOf, runAfter}
 use Rattle.tables.specs.View.{AxisView, sizesOf, componentsOf, axisBytes}
 use Rattle.tables.proofs.Fits.{Fits}
 use Rattle.panel_tables.specs.View.{PanelView}
@@ -22,7 +22,7 @@ use Rattle.sheet_rules.specs.Panels.{Tables, entryWords}
 use Rattle.sheet_rules.proofs.Fits.{sheet-fits}
 use Rattle.sheet_end.proofs.Entries.{entries-read}
 use Rattle.panel_rules.specs.Calls.{bookIn}
-use Rattle.panel_rules.specs.Runs.{Held, namesOf, Call, Accepted, runOf, marksOf, sizeOf, placementOf, listsOf, nameOf, recordWith, runWith}
+use Rattle.panel_rules.specs.Runs.{Held, namesOf, Call, Accepted, runOf, marksOf, sizeOf, placementOf, listsOf, nameOf, recordWith, runWith, fillWith}
 use Rattle.panel_rules.specs.Views.{entriesAfter, placementAt, placementAfter, sizeAfter, listsAfter, nameAfter, tracksAfter, recordAfter, heldAfter, both}
 use Rattle.panel_rules.specs.Added.{sheetAxis, added}
 use Rattle.panel_rules.proofs.Ends.{sheet-end, no-fault}
@@ -124,6 +124,13 @@ module _ (s : List ℕ) (t : Tables) (calls : List Call) (ok : Accepted s t) whe
         Answers.template-after v (sheet-fits s) (sheet-range s) (sheet-end s good) t (accepted-sheet s t ok .1) columns rows (added-fit s good Column calls) (added-fit s good Row calls) a,
         Answers.spares-after v (sheet-fits s) (sheet-range s) (sheet-end s good) t (accepted-sheet s t ok .1) columns rows (added-fit s good Column calls) (added-fit s good Row calls) a,
       )
+
+  -- and of the call that fills it
+  pub run-fill : (a : Axis) (items : List ℕ) (run : List GridTrack)
+      → fillWith (runOf s t calls) a items run ≡ fillAnswerOf (tracksAfter (sheetAxis s a)) (length run) (length items)
+  run-fill a items run =
+      of-closed (λ h. fillWith h a items run)
+      ∙ rw (Answers.tracks-after v (sheet-fits s) (sheet-range s) (sheet-end s good) t (accepted-sheet s t ok .1) columns rows (added-fit s good Column calls) (added-fit s good Row calls) a)
 
 -- the sheet's marks are enough for all tracks
 pub marks-enough : (s : List ℕ) → sheetOf s .fault ≡ 0 → (a : Axis) → tracksIn (tracksAfter (sheetAxis s a)) ≤ length (sheetAxis s a .marks)

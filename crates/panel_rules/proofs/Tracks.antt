@@ -32,7 +32,7 @@ use Rattle.panel_tables.specs.Axes.{viewIn}
 use Rattle.sheet_rules.specs.Sheet.{sizeOf, explicitOf}
 use Rattle.panel_rules.specs.Runs.{Call}
 use Rattle.panel_rules.specs.Views.{tracksAfter, recordAfter}
-use Rattle.panel_rules.specs.Book.{sheetTracks, RegularAxis}
+use Rattle.panel_rules.specs.Book.{sheetTracks, RegularTemplate}
 use Rattle.panel_rules.proofs.Book as Book
 
 -- without an automatic repeat the repetitions play no part
@@ -48,7 +48,7 @@ plain (c ∷ cs) n m e = go (c .count) e (plain cs n m)
     go AutoFill e f = absurd (omega arith)
     go AutoFit e f = absurd (omega arith)
 
-module _ (n : ℕ) (v : PanelView) (a : Axis) (calls : List Call) (f : Fits (viewIn v a)) (r : RegularAxis n v a calls) where
+module _ (n : ℕ) (v : PanelView) (a : Axis) (calls : List Call) (f : Fits (viewIn v a)) (r : RegularTemplate n (viewIn v a)) where
   abbrev va : AxisView
   va = viewIn v a
 

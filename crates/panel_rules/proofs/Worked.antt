@@ -1,7 +1,7 @@
 -- Worked runs, from the bytes of the sheet to the answers after the run: they answer as specs/Worked.antt has it. The conditions of the third demand
 -- are met by runs with an automatic repeat, and two different runs differ in nothing but row names and row template. Assumes nothing.
 use Prim.Native.Nat.{ℕ, zero, suc}
-use mathlib.Core.Path.{_≡_, refl, sym, ap, ap₂, _∙_}
+use mathlib.Core.Path.{_≡_, refl, sym, ap, ap₂, _∙_, subst}
 use mathlib.Core.Bool.{Bool, true, false, _&&_}
 use native.Mathlib.Omega.{arith}
 use mathlib.Core.List.{List, [], _∷_, _++_, map, List·Memᴰ, List·Memᴰ·head, List·Memᴰ·tail}
@@ -12,6 +12,7 @@ use Rattle.coordinates.specs.declared.axis.Axis.{Axis}
 use Rattle.coordinates.specs.declared.axis.Axis.the-variants.{Column, Row}
 use Rattle.coordinates.specs.Refusals.{count}
 use Rattle.line_placement.specs.Css.{Bytes, Entry}
+use Rattle.line_placement.specs.Conditions.{SameMembers}
 use Rattle.line_placement.specs.Rule.{seek, named?}
 use Rattle.line_placement.specs.Template.{repeated, passed, ruleFrom}
 use Rattle.text.specs.Split.{split, onto, same, index}
@@ -276,10 +277,13 @@ named-met = met namedRun Column 0 (all .ofNamed) (all .namedRepeat)
 
 pub orders-panel : SamePanel (viewOf firstOrder) (viewOf secondOrder)
 unfolding firstOrder secondOrder
-orders-panel = record { lines = λ a. refl; components = λ a. refl; areas = refl; placements = refl }
+orders-panel = record { lines = λ a. refl; components = λ a. refl; areas = λ x. (λ h. h, λ h. h); placements = refl }
+
+same-list : {A : Type 0} {l m : List A} → l ≡ m → SameMembers l m
+same-list e x = (subst (List·Memᴰ x) e, subst (List·Memᴰ x) (sym e))
 
 pub named-panel : SamePanel (viewOf firstOrder) (viewOf namedRun)
-named-panel = record { lines = lines; components = components; areas = all .namedPanel .3; placements = all .namedPanel .4 }
+named-panel = record { lines = lines; components = components; areas = same-list (all .namedPanel .3); placements = all .namedPanel .4 }
   where
     lines : (a : Axis) → viewIn (viewOf firstOrder) a .line ≡ viewIn (viewOf namedRun) a .line
     lines Column = all .namedPanel .0

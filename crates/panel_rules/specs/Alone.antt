@@ -8,9 +8,10 @@ use Rattle.coordinates.specs.declared.axis.Axis.the-variants.{Column}
 use Rattle.coordinates.specs.declared.refusal.Refusal.{Refusal}
 use Rattle.text.specs.Split.{split, same}
 use Rattle.records.specs.Words.{at, axisWords, kindWords}
+use Rattle.grid_track.specs.declared.GridTrack.{GridTrack}
 use Rattle.panel_tables.specs.Axes.{stateIn}
 use Rattle.sheet_rules.specs.Panels.{Tables}
-use Rattle.panel_rules.specs.Runs.{Held, Call, refusalIn, after, Accepted, sheetHeld, runOf, marksOf, sizeOf, placementOf, listsOf, nameOf, recordWith, recordOf}
+use Rattle.panel_rules.specs.Runs.{Held, Call, refusalIn, after, Accepted, sheetHeld, runOf, marksOf, sizeOf, placementOf, listsOf, nameOf, recordWith, recordOf, runWith, fillWith}
 use Rattle.panel_rules.specs.Book.{sameAxis}
 
 -- ---- the sheet without its row names and row template
@@ -77,6 +78,9 @@ pub record SameColumns (p q : Run) : Type 0 where
   pub records : (items : List ℕ) (index : ℕ) → recordWith (heldBy p) Column items index ≡ recordWith (heldBy q) Column items index
   pub marks : marksOf (heldBy p .tables) Column ≡ marksOf (heldBy q .tables) Column
   pub marked : (index : ℕ) → recordOf (heldBy p) Column index ≡ recordOf (heldBy q) Column index
+  -- a lent run of records after the call that fills it, and what that call answers
+  pub lent : (items : List ℕ) (run : List GridTrack) → runWith (heldBy p) Column items run ≡ runWith (heldBy q) Column items run
+  pub filled : (items : List ℕ) (run : List GridTrack) → fillWith (heldBy p) Column items run ≡ fillWith (heldBy q) Column items run
   -- of the calls in the runs, and of any one more
   pub refusals : columnRefusals (sheetHeld (p .sheet) (p .tables)) (p .calls) ≡ columnRefusals (sheetHeld (q .sheet) (q .tables)) (q .calls)
   pub refusal : (c : Call) → c .axis ≡ Column → refusalIn (heldBy p) c ≡ refusalIn (heldBy q) c

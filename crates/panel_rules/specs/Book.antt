@@ -83,12 +83,17 @@ CssRepetitions v n =
     (c : Component) → List·Memᴰ c (componentsOf (v .template)) → Automatic c
     → Repetitions (innerOf (v .line)) (strategyOf (v .line)) (sizingOf (v .line .gap)) (componentsOf (v .template)) n
 
--- "each template is valid, writes each repeat out at least once and at most 10,000 tracks in all, every name lies on an explicit line"
+-- of a template alone: it "is valid, writes each repeat out at least once and at most 10,000 tracks in all".
+-- A template of names without a track, which document 01 doesn't call valid, meets this too: more is proved than asked
+pub record RegularTemplate (n : ℕ) (v : AxisView) : Type 0 where
+  pub valid : Valid (componentsOf (v .template))
+  pub repetitions : CssRepetitions v n
+  pub repeated : WrittenOut (itemsOf n (v .template))
+  pub few : sheetTracks n v ≤ 10000
+
+-- of an axis: that of its template, and "every name lies on an explicit line"
 pub record RegularAxis (n : ℕ) (v : PanelView) (a : Axis) (calls : List Call) : Type 0 where
-  pub valid : Valid (componentsOf (viewIn v a .template))
-  pub repetitions : CssRepetitions (viewIn v a) n
-  pub repeated : WrittenOut (itemsOf n (viewIn v a .template))
-  pub few : sheetTracks n (viewIn v a) ≤ 10000
+  pub template : RegularTemplate n (viewIn v a)
   pub lies : (nm : Bytes) → NameLies (bookNames n v a calls) nm
 
 -- "and no placement writes line 0"

@@ -15,7 +15,8 @@ pub record SamePanel (v w : PanelView) : Type 0 where
   pub lines : (a : Axis) → viewIn v a .line ≡ viewIn w a .line
   -- the tracks and repeats of each template
   pub components : (a : Axis) → componentsOf (viewIn v a .template) ≡ componentsOf (viewIn w a .template)
-  pub areas : v .areas ≡ w .areas
+  -- the same areas, in any order
+  pub areas : SameMembers (v .areas) (w .areas)
   pub placements : v .placements ≡ w .placements
 
 -- "the same accepted entries in any order", of the sheet's names and of the calls together

@@ -3,6 +3,7 @@
 use Prim.Native.Nat.{ℕ}
 use mathlib.Core.Path.{_≡_}
 use mathlib.Core.List.{List, [], _∷_}
+use lib.ListN.{length}
 use Rattle.coordinates.specs.declared.axis.Axis.{Axis}
 use Rattle.coordinates.specs.declared.refusal.Refusal.{Refusal}
 use Rattle.coordinates.specs.Refusals.{noRefusal}
@@ -10,7 +11,8 @@ use Rattle.line_placement.specs.Css.{Bytes}
 use Rattle.name_store.specs.LineNames.{ofAxis}
 use Rattle.grid_track.specs.declared.GridTrack.{GridTrack}
 use Rattle.grid_track.specs.declared.RecordAnswer.{RecordAnswer}
-use Rattle.track_run.specs.Run.{runAfter}
+use Rattle.track_run.specs.declared.FillAnswer.{FillAnswer}
+use Rattle.track_run.specs.Run.{fillAnswerOf, runAfter}
 use Rattle.tables.specs.declared.AxisState.{AxisState}
 use Rattle.panel_tables.specs.declared.Panel.{Panel}
 use Rattle.panel_tables.specs.Axes.{stateIn}
@@ -118,3 +120,7 @@ runWith h a items run =
     let s : AxisState = stateIn (h .panel) a in
     let words : List ℕ = wordsIn (namesOf (h .tables)) a in
     runAfter (axisTracks s) (templateIn s words) (sparesIn s words) items run
+
+-- and what that call answers
+abbrev pub fillWith : Held → Axis → List ℕ → List GridTrack → FillAnswer
+fillWith h a items run = fillAnswerOf (axisTracks (stateIn (h .panel) a)) (length run) (length items)

@@ -1,5 +1,6 @@
 -- What is held, and what the calls answer, after an accepted sheet and accepted entries, from the sheet's view and those entries alone.
 use Prim.Native.Nat.{ℕ, zero, suc, _+_}
+use mathlib.Core.Path.{_≡_}
 use mathlib.Core.Bool.{cond}
 use mathlib.Core.List.{List, [], _∷_, _++_, map}
 use lib.IntN.{ℤ, pos, negsuc}
@@ -15,7 +16,7 @@ use Rattle.line_placement.specs.Css.{Bytes, Entry, AxisNames}
 use Rattle.line_placement.specs.Rule.{named?, resolve}
 use Rattle.name_store.specs.Entries.{wordOf}
 use Rattle.name_store.specs.LineNames.{ofAxis, explicitLineNames, lineCount}
-use Rattle.named.specs.Placements.{endsOf}
+use Rattle.named.specs.Placements.{endsOf, resolvedEnds}
 use Rattle.grid_track.specs.declared.AxisTracks.{AxisTracks}
 use Rattle.grid_track.specs.declared.RecordAnswer.{RecordAnswer}
 use Rattle.grid_track.specs.Records.{recordAnswerOf}
@@ -139,6 +140,16 @@ cssEnd e = cssBy (e .end .kind) e
 -- placement i of the sheet
 abbrev pub placementAt : PanelView → ℕ → Placement
 placementAt v i = getD (v .placements) i noPlacement
+
+-- an answer that is not refused: of the placement's axis, with these ends
+abbrev pub answerAt : Placement → Css.ResolvedEnds → PlacementAnswer
+answerAt p r = record { refusal = noRefusal; axis = p .axis; line = endsOf r }
+
+-- an answer to a placement that is not refused, is of the placement's axis and has the ends that CSS counts to over x
+pub record PlacedByCss (x : AxisNames) (p : Placement) (r : PlacementAnswer) : Type 0 where
+  pub accepted : r .refusal ≡ noRefusal
+  pub axis : r .axis ≡ p .axis
+  pub ends : Css.CssEnds x (cssEnd (p .start)) (cssEnd (p .end)) (resolvedEnds (r .line))
 
 -- the answer for a placement, by the rule over the names of its axis
 unfoldable pub placementAfter : PanelView → (Axis → List Entry) → ℕ → PlacementAnswer
