@@ -126,14 +126,14 @@ pub mod raw {
             areabytes: *const [u8; AREA_BYTES], placements: *const [u64; PLACEMENT_WORDS], placementbytes: *const [u8; PLACEMENT_BYTES],
             first: u32, numbers: *mut i32, numbers_length: usize,
         ) -> CountAnswer;
-        pub fn palgwern_line_names(
-            panel: State, columns: *const [u64; AXIS_WORDS], rows: *const [u64; AXIS_WORDS], columnstore: *const u8,
-            columnstore_bytes: usize, rowstore: *const u8, rowstore_bytes: usize, axis: u32, words: *mut u64, words_length: usize,
-        ) -> CountAnswer;
         pub fn palgwern_line_name(
             panel: State, columns: *const [u64; AXIS_WORDS], rows: *const [u64; AXIS_WORDS], columnstore: *const u8,
             columnstore_bytes: usize, rowstore: *const u8, rowstore_bytes: usize, axis: u32, line: u32, place: u32,
         ) -> NameAnswer;
+        pub fn palgwern_line_names(
+            panel: State, columns: *const [u64; AXIS_WORDS], rows: *const [u64; AXIS_WORDS], columnstore: *const u8,
+            columnstore_bytes: usize, rowstore: *const u8, rowstore_bytes: usize, axis: u32, words: *mut u64, words_length: usize,
+        ) -> CountAnswer;
         pub fn palgwern_records(
             panel: State, columns: *const [u64; AXIS_WORDS], rows: *const [u64; AXIS_WORDS], axis: u32, items: *const u8,
             items_bytes: usize, first: u32, words: *mut u64, words_length: usize,

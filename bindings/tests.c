@@ -38,38 +38,71 @@ static int same(palgwern_panel a, palgwern_panel b) {
         a.placements == b.placements && a.placementbytes == b.placementbytes;
 }
 
-/* Every field of the panel, and every kind of answer, on a sheet that gives them different values. */
+/* Every field of the panel, on a sheet that gives them different values: no field of an axis has the values of another, in both
+ * axes (tests.rs tests that), nor the same value in both. */
 static void layout(void) {
     palgwern_panel_answer read = palgwern_tables_read(&tables, sheet, sheet_bytes);
     CHECK(read.number == 0 && read.line == 0);
     panel = read.panel;
     palgwern_axis c = panel.columns, r = panel.rows;
-    CHECK(c.definite == 1 && c.inner == 0x43480000 && c.rule == 1 && c.gap == 0x13dcccccdull);
-    CHECK(c.components == 2 && c.tracks == 3 && c.spares == 1 && c.names == 3 && c.used == 6);
-    CHECK(c.negative == 1 && c.positive == 2 && c.entries == 6 && c.repetitions == 4 && c.explicit_count == 9 && c.areas == 8);
-    CHECK(r.definite == 1 && r.inner == 0x42c80000 && r.rule == 0 && r.gap == 0x40000000);
-    CHECK(r.components == 1 && r.tracks == 1 && r.spares == 2 && r.names == 1 && r.used == 7);
-    CHECK(r.negative == 3 && r.positive == 4 && r.entries == 1 && r.repetitions == 0 && r.explicit_count == 4 && r.areas == 4);
-    CHECK(panel.areas == 2 && panel.areabytes == 6 && panel.placements == 2 && panel.placementbytes == 8);
-    CHECK(!memcmp(tables.columnstore, "xyyzzz", 7) && !memcmp(tables.rowstore, "rowname", 8) && !memcmp(tables.areabytes, "alphab", 7));
-    CHECK(tables.columnmarks[0] != 0 && tables.columnmarks[1] == 0 && tables.rowmarks[2] != 0);
+    CHECK(c.definite == 1 && c.inner == 0x44070000 && c.rule == 0 && c.gap == 0x13c23d70aull);
+    CHECK(c.components == 3 && c.tracks == 4 && c.spares == 5 && c.names == 6 && c.used == 13);
+    CHECK(c.negative == 7 && c.positive == 8 && c.entries == 22 && c.repetitions == 9 && c.explicit_count == 20 && c.areas == 10);
+    CHECK(r.definite == 0 && r.inner == 0 && r.rule == 1 && r.gap == 0x40000000);
+    CHECK(r.components == 2 && r.tracks == 3 && r.spares == 4 && r.names == 5 && r.used == 14);
+    CHECK(r.negative == 6 && r.positive == 10 && r.entries == 11 && r.repetitions == 0 && r.explicit_count == 9 && r.areas == 8);
+    CHECK(panel.areas == 3 && panel.areabytes == 11 && panel.placements == 2 && panel.placementbytes == 12);
+    CHECK(!memcmp(tables.columnstore, "xyyzzzuuuuuwv", 14) && !memcmp(tables.rowstore, "rownamepqssttt", 15));
+    CHECK(!memcmp(tables.areabytes, "alphabgamma", 12) && !memcmp(tables.placementbytes, "uuuuurowname", 13));
+    CHECK(tables.columnmarks[8] != 0 && tables.columnmarks[2] == 0 && tables.rowmarks[2] != 0 && tables.rowmarks[8] == 0);
+}
 
-    palgwern_size_answer size = palgwern_explicit_size(panel, PALGWERN_COLUMNS);
-    CHECK(size.number == 0 && size.repetitions == 4 && size.explicit_count == 9);
-    CHECK(palgwern_line_count(panel, PALGWERN_COLUMNS).count == 10 && palgwern_record_count(panel, PALGWERN_ROWS).count == 23);
-    palgwern_name_answer name = palgwern_tables_name(&tables, panel, PALGWERN_COLUMNS, 3, 0);
-    CHECK(name.number == 0 && name.offset == 3 && name.length == 3);
-    name = palgwern_tables_name(&tables, panel, PALGWERN_COLUMNS, 3, 1);
-    CHECK(name.number == 0 && name.length == 0);
-    palgwern_placement_answer p = palgwern_tables_placement(&tables, panel, 1);
-    CHECK(p.number == 0 && p.axis == PALGWERN_ROWS && p.startkind == PALGWERN_END_LINE && p.startnumber == -1);
-    CHECK(p.endkind == PALGWERN_END_LINE && p.endnumber == 6);
-    palgwern_count_answer records = palgwern_tables_records(&tables, panel, PALGWERN_COLUMNS, 0, all, sizeof all / sizeof *all);
-    CHECK(records.number == 0 && records.count == 25 && all[0] == (PALGWERN_GUTTER | PALGWERN_COLLAPSED));
-    CHECK(all[3] == 0 && all[4] == 0x41a00000 && all[5] == ((uint64_t)PALGWERN_FR << 32 | 0x3f800000));
-    for (uint32_t first = 0; first < 25; first += 10) {
-        records = palgwern_tables_records(&tables, panel, PALGWERN_COLUMNS, first, some, 30);
-        CHECK(records.number == 0 && records.count == (first < 20 ? 10 : 5) && !memcmp(some, all + 3 * first, records.count * 24));
+static int is_size(palgwern_size_answer a, uint32_t repetitions, uint32_t explicit_count) {
+    return a.number == 0 && a.repetitions == repetitions && a.explicit_count == explicit_count;
+}
+
+static int is_count(palgwern_count_answer a, uint64_t count) {
+    return a.number == 0 && a.count == count;
+}
+
+static int is_name(palgwern_name_answer a, uint32_t offset, uint32_t length) {
+    return a.number == 0 && a.offset == offset && a.length == length;
+}
+
+/* Every kind of answer, with numbers that differ from field to field and from axis to axis. */
+static void answers(void) {
+    CHECK(is_size(palgwern_explicit_size(panel, PALGWERN_COLUMNS), 9, 20) && is_size(palgwern_explicit_size(panel, PALGWERN_ROWS), 0, 9));
+    CHECK(is_count(palgwern_line_count(panel, PALGWERN_COLUMNS), 21) && is_count(palgwern_line_count(panel, PALGWERN_ROWS), 10));
+    CHECK(is_count(palgwern_record_count(panel, PALGWERN_COLUMNS), 71) && is_count(palgwern_record_count(panel, PALGWERN_ROWS), 51));
+    CHECK(is_name(palgwern_tables_name(&tables, panel, PALGWERN_COLUMNS, 3, 0), 6, 5));
+    CHECK(is_name(palgwern_tables_name(&tables, panel, PALGWERN_COLUMNS, 2, 1), 3, 3));
+    CHECK(is_name(palgwern_tables_name(&tables, panel, PALGWERN_COLUMNS, 3, 1), 0, 0));
+    CHECK(is_name(palgwern_tables_name(&tables, panel, PALGWERN_ROWS, 2, 1), 8, 1));
+    palgwern_placement_answer p = palgwern_tables_placement(&tables, panel, 0);
+    CHECK(p.number == 0 && p.axis == PALGWERN_COLUMNS && p.startkind == PALGWERN_END_LINE && p.startnumber == 5);
+    CHECK(p.endkind == PALGWERN_END_SPAN && p.endnumber == 6);
+    p = palgwern_tables_placement(&tables, panel, 1);
+    CHECK(p.number == 0 && p.axis == PALGWERN_ROWS && p.startkind == PALGWERN_END_LINE && p.startnumber == -3);
+    CHECK(p.endkind == PALGWERN_END_LINE && p.endnumber == 12);
+}
+
+/* Whether record `place` of those in `all` has these words. */
+static int is_record(uint32_t place, uint64_t kind, uint64_t minimum, uint64_t maximum) {
+    const uint64_t *words = all + PALGWERN_RECORD_WORDS * place;
+    return words[0] == kind && words[1] == minimum && words[2] == maximum;
+}
+
+/* Records: of both axes, with the items of each, and a run of them from any on. */
+static void records(void) {
+    const uint64_t fraction = (uint64_t)PALGWERN_FR << 32, fit = (uint64_t)PALGWERN_FITL << 32, keyword = (uint64_t)PALGWERN_AUTO << 32;
+    CHECK(is_count(palgwern_tables_records(&tables, panel, PALGWERN_ROWS, 0, all, sizeof all / sizeof *all), 51));
+    CHECK(is_record(13, 0, keyword, fit | 0x41a00000) && is_record(14, PALGWERN_GUTTER, 0x40000000, 0x40000000));
+    CHECK(is_count(palgwern_tables_records(&tables, panel, PALGWERN_COLUMNS, 0, all, sizeof all / sizeof *all), 71));
+    CHECK(is_record(0, PALGWERN_GUTTER | PALGWERN_COLLAPSED, 0, 0) && is_record(5, 0, 0x41a00000, fraction | 0x3f800000));
+    CHECK(is_record(17, 0, 0x41a00000, 0x41a00000) && is_record(19, PALGWERN_COLLAPSED, 0, 0));
+    for (uint32_t first = 0; first < 71; first += 10) {
+        palgwern_count_answer run = palgwern_tables_records(&tables, panel, PALGWERN_COLUMNS, first, some, 30);
+        CHECK(is_count(run, first < 70 ? 10 : 1) && !memcmp(some, all + 3 * first, run.count * 24));
     }
 }
 
@@ -125,12 +158,12 @@ static void refusals(void) {
     CHECK(palgwern_tables_placements(&tables, panel, 1, numbers, 5).number == PALGWERN_SHORT && numbers[0] == 7);
     names[0] = 7;
     CHECK(palgwern_tables_names(&tables, panel, 2, names, PALGWERN_ENTRIES).number == PALGWERN_COUNT);
-    CHECK(palgwern_tables_names(&tables, panel, PALGWERN_COLUMNS, names, 5).number == PALGWERN_SHORT && names[0] == 7);
+    CHECK(palgwern_tables_names(&tables, panel, PALGWERN_COLUMNS, names, 21).number == PALGWERN_SHORT && names[0] == 7);
     CHECK(palgwern_tables_name(&tables, panel, 2, 1, 0).number == PALGWERN_COUNT);
     CHECK(palgwern_tables_records(&tables, panel, 2, 0, some, 30).number == PALGWERN_COUNT);
-    CHECK(palgwern_tables_records(&tables, panel, PALGWERN_COLUMNS, 25, some, 30).number == PALGWERN_COUNT);
-    CHECK(palgwern_tables_records(&tables, panel, PALGWERN_COLUMNS, 24, some, 2).number == PALGWERN_SHORT);
-    CHECK(palgwern_records(panel, tables.columns, tables.rows, 0, tables.columnmarks, 11, 0, some, 30).number == PALGWERN_SHORT);
+    CHECK(palgwern_tables_records(&tables, panel, PALGWERN_COLUMNS, 71, some, 30).number == PALGWERN_COUNT);
+    CHECK(palgwern_tables_records(&tables, panel, PALGWERN_COLUMNS, 70, some, 2).number == PALGWERN_SHORT);
+    CHECK(palgwern_records(panel, tables.columns, tables.rows, 0, tables.columnmarks, 34, 0, some, 30).number == PALGWERN_SHORT);
     CHECK(!memcmp(&before, &tables, sizeof tables));
     for (uint32_t i = panel.rows.entries; i < PALGWERN_ENTRIES; i++) {
         e = palgwern_tables_enter(&tables, panel, PALGWERN_ROWS, i + 1, TEXT("a"));
@@ -138,7 +171,8 @@ static void refusals(void) {
         panel = e.panel;
     }
     CHECK(palgwern_tables_enter(&tables, panel, PALGWERN_ROWS, 1, TEXT("a")).number == PALGWERN_CROWDED);
-    CHECK(tables.columnstore[6] == 0 && !memcmp(before.columns, tables.columns, sizeof tables.columns));
+    CHECK(!memcmp(tables.rowstore, "rownamepqsstttaa", 16) && !memcmp(before.columnstore, tables.columnstore, sizeof tables.columnstore));
+    CHECK(!memcmp(before.columns, tables.columns, sizeof tables.columns));
 }
 
 /* The calls, one for each number. */
@@ -194,6 +228,8 @@ int main(int count, char **words) {
     sheet_bytes = fread(sheet, 1, sizeof sheet, file);
     fclose(file);
     layout();
+    answers();
+    records();
     placements();
     line_names(PALGWERN_COLUMNS);
     refusals();

@@ -8,19 +8,40 @@ fn refusal(word: Word, line: u32) -> Option<Refusal> {
     Some(Refusal { word, line })
 }
 
+/// The values of each field in two axes.
+fn pairs(a: AxisState, b: AxisState) -> [(u64, u64); 15] {
+    [
+        (a.definite.into(), b.definite.into()), (a.inner.into(), b.inner.into()), (a.rule.into(), b.rule.into()), (a.gap, b.gap),
+        (a.components.into(), b.components.into()), (a.tracks.into(), b.tracks.into()), (a.spares.into(), b.spares.into()),
+        (a.names.into(), b.names.into()), (a.used.into(), b.used.into()), (a.negative.into(), b.negative.into()),
+        (a.positive.into(), b.positive.into()), (a.entries.into(), b.entries.into()), (a.repetitions.into(), b.repetitions.into()),
+        (a.explicit.into(), b.explicit.into()), (a.areas.into(), b.areas.into()),
+    ]
+}
+
+/// No two are the same, so that a swap of fields would show.
+fn assert_different<T: PartialEq + std::fmt::Debug>(values: &[T]) {
+    for (place, value) in values.iter().enumerate() {
+        assert!(!values[..place].contains(value), "{value:?} twice");
+    }
+}
+
 #[test]
 fn every_field() {
     let panel = Panel::read(LAYOUT).unwrap();
     let columns = AxisState {
-        definite: 1, inner: 0x4348_0000, rule: 1, gap: 0x1_3dcc_cccd, components: 2, tracks: 3, spares: 1, names: 3, used: 6,
-        negative: 1, positive: 2, entries: 6, repetitions: 4, explicit: 9, areas: 8,
+        definite: 1, inner: 0x4407_0000, rule: 0, gap: 0x1_3c23_d70a, components: 3, tracks: 4, spares: 5, names: 6, used: 13,
+        negative: 7, positive: 8, entries: 22, repetitions: 9, explicit: 20, areas: 10,
     };
     let rows = AxisState {
-        definite: 1, inner: 0x42c8_0000, rule: 0, gap: 0x4000_0000, components: 1, tracks: 1, spares: 2, names: 1, used: 7,
-        negative: 3, positive: 4, entries: 1, repetitions: 0, explicit: 4, areas: 4,
+        definite: 0, inner: 0, rule: 1, gap: 0x4000_0000, components: 2, tracks: 3, spares: 4, names: 5, used: 14,
+        negative: 6, positive: 10, entries: 11, repetitions: 0, explicit: 9, areas: 8,
     };
-    let state = State { columns, rows, areas: 2, areabytes: 6, placements: 2, placementbytes: 8 };
+    let state = State { columns, rows, areas: 3, areabytes: 11, placements: 2, placementbytes: 12 };
     assert_eq!(panel.state(), state);
+    assert_different(&pairs(columns, rows));
+    assert!(pairs(columns, rows).iter().all(|(in_columns, in_rows)| in_columns != in_rows));
+    assert_different(&[state.areas, state.areabytes, state.placements, state.placementbytes]);
     assert_eq!(std::mem::offset_of!(AxisState, gap), 16);
     assert_eq!(std::mem::offset_of!(State, areas), 144);
     assert_eq!(std::mem::offset_of!(raw::PanelAnswer, panel), 8);
@@ -30,29 +51,46 @@ fn every_field() {
 #[test]
 fn answers() {
     let panel = Panel::read(LAYOUT).unwrap();
-    assert_eq!(panel.size(Axis::Columns), AxisSize { repetitions: 4, explicit: 9 });
-    assert_eq!((panel.lists(Axis::Columns), panel.record_count(Axis::Rows)), (10, 23));
-    let names: Vec<Vec<&[u8]>> = (1..=4).map(|line| panel.names(Axis::Columns, line).collect()).collect();
-    assert_eq!(names, [vec![b"x" as &[u8]], vec![b"yy"], vec![b"zzz"], vec![]]);
-    assert_eq!((panel.name(Axis::Columns, 0, 0), panel.name(Axis::Rows, 1, 0)), (None, Some(b"rowname" as &[u8])));
-    assert_eq!(panel.placement(0), Ok(Placement { axis: Axis::Columns, start: End::Line(1), end: End::Auto }));
-    assert_eq!(panel.placement(1), Ok(Placement { axis: Axis::Rows, start: End::Line(-1), end: End::Line(6) }));
+    assert_eq!(panel.size(Axis::Columns), AxisSize { repetitions: 9, explicit: 20 });
+    assert_eq!(panel.size(Axis::Rows), AxisSize { repetitions: 0, explicit: 9 });
+    assert_eq!((panel.lists(Axis::Columns), panel.lists(Axis::Rows)), (21, 10));
+    assert_eq!((panel.record_count(Axis::Columns), panel.record_count(Axis::Rows)), (71, 51));
+    assert_eq!(panel.placement(0), Ok(Placement { axis: Axis::Columns, start: End::Line(5), end: End::Span(6) }));
+    assert_eq!(panel.placement(1), Ok(Placement { axis: Axis::Rows, start: End::Line(-3), end: End::Line(12) }));
     assert_eq!(panel.resolved(), [panel.placement(0).unwrap(), panel.placement(1).unwrap()]);
+}
+
+#[test]
+fn line_names() {
+    let panel = Panel::read(LAYOUT).unwrap();
+    let names: Vec<Vec<&[u8]>> = (1..=4).map(|line| panel.names(Axis::Columns, line).collect()).collect();
+    assert_eq!(names, [vec![b"x" as &[u8]], vec![b"yy", b"zzz"], vec![b"uuuuu"], vec![b"zzz"]]);
+    assert_eq!((panel.name(Axis::Columns, 0, 0), panel.name(Axis::Rows, 1, 0)), (None, Some(b"rowname" as &[u8])));
+    assert_eq!((panel.name(Axis::Rows, 2, 1), panel.name(Axis::Rows, 3, 1)), (Some(b"q" as &[u8]), None));
     assert_eq!(panel.line_names(Axis::Columns)[..4], names);
-    assert_eq!((panel.line_names(Axis::Columns).len(), panel.line_names(Axis::Rows)[0].clone()), (10, vec![b"rowname" as &[u8]]));
-    let records = panel.records(Axis::Columns);
-    assert_eq!(records.len(), 25);
-    let spare = Record { gutter: false, collapsed: false, minimum: Size::Length(20.0), maximum: Size::Fraction(1.0) };
-    assert_eq!((records[1], records[0].gutter, records[0].collapsed), (spare, true, true));
+    assert_eq!((panel.line_names(Axis::Columns).len(), panel.line_names(Axis::Rows)[0].clone()), (21, vec![b"rowname" as &[u8]]));
+    let mut words = [0; 22];
+    assert_eq!((panel.write_line_names(Axis::Columns, &mut words), words[3]), (Ok(22), 3 | 6 << 16 | 5 << 32));
+}
+
+#[test]
+fn records() {
+    let panel = Panel::read(LAYOUT).unwrap();
+    let open = |minimum, maximum| Record { gutter: false, collapsed: false, minimum, maximum };
+    let columns = panel.records(Axis::Columns);
+    assert_eq!((columns.len(), columns[0].gutter, columns[0].collapsed), (71, true, true));
+    assert_eq!(columns[5], open(Size::Length(20.0), Size::Fraction(1.0)));
+    assert_eq!((columns[17], columns[19].gutter, columns[19].collapsed), (open(Size::Length(20.0), Size::Length(20.0)), false, true));
     let rows = panel.records(Axis::Rows);
-    assert_eq!((rows[7].minimum, rows[7].maximum), (Size::Auto, Size::FitContentLength(20.0)));
-    assert_eq!((rows[1].maximum, rows[3].maximum, rows[5].minimum), (Size::FitContentPercent(0.5), Size::MaxContent, Size::Auto));
-    let mut whole = vec![0; 75];
-    assert_eq!(panel.write_records(Axis::Columns, panel.items(Axis::Columns), 0, &mut whole), Ok(25));
+    assert_eq!((rows.len(), rows[2].gutter, rows[2].collapsed, rows[2].minimum), (51, true, false, Size::Length(2.0)));
+    assert_eq!((rows[3], rows[5]), (open(Size::Length(50.0), Size::Length(100.0)), open(Size::MinContent, Size::MaxContent)));
+    assert_eq!((rows[7], rows[13]), (open(Size::Auto, Size::FitContentPercent(0.5)), open(Size::Auto, Size::FitContentLength(20.0))));
+    let mut whole = vec![0; 213];
+    assert_eq!(panel.write_records(Axis::Columns, panel.items(Axis::Columns), 0, &mut whole), Ok(71));
     let mut part = [7; 31];
-    for first in [0, 10, 20] {
+    for first in [0, 10, 70] {
         let count = panel.write_records(Axis::Columns, panel.items(Axis::Columns), first, &mut part).unwrap();
-        assert_eq!((count, &part[..3 * count], part[30]), (10.min(25 - first as usize), &whole[3 * first as usize..][..3 * count], 7));
+        assert_eq!((count, &part[..3 * count], part[30]), (10.min(71 - first as usize), &whole[3 * first as usize..][..3 * count], 7));
     }
 }
 
@@ -69,10 +107,10 @@ fn refusals() {
     assert_eq!(panel.enter(Axis::Rows, 20_001, b"a").err(), refusal(Word::Count, 0));
     assert_eq!(panel.placement(2).err(), refusal(Word::Count, 0));
     assert_eq!(panel.write_records(Axis::Rows, &[], 0, &mut [0; 3]).err(), refusal(Word::Short, 0));
-    assert_eq!(panel.write_records(Axis::Rows, &[0; 11], 23, &mut [0; 3]).err(), refusal(Word::Count, 0));
+    assert_eq!(panel.write_records(Axis::Rows, &[0; 25], 51, &mut [0; 3]).err(), refusal(Word::Count, 0));
     assert_eq!(panel.write_placements(2, &mut [0; 6]).err(), refusal(Word::Count, 0));
     assert_eq!(panel.write_placements(1, &mut [0; 5]).err(), refusal(Word::Short, 0));
-    assert_eq!(panel.write_line_names(Axis::Columns, &mut [0; 5]).err(), refusal(Word::Short, 0));
+    assert_eq!(panel.write_line_names(Axis::Columns, &mut [0; 21]).err(), refusal(Word::Short, 0));
     assert_eq!(panel.read_again(b"none").err(), refusal(Word::Unread, 1));
     assert_eq!(panel.state(), before.state());
     assert_eq!(panel.records(Axis::Rows), before.records(Axis::Rows));
@@ -82,8 +120,8 @@ fn refusals() {
 #[test]
 fn entries() {
     let mut panel = Panel::read(LAYOUT).unwrap();
-    for i in 1..4_096 {
-        panel.enter(Axis::Rows, i, b"a").unwrap();
+    for line in 1..=4_096 - panel.state().rows.entries {
+        panel.enter(Axis::Rows, line, b"a").unwrap();
     }
     assert_eq!(panel.enter(Axis::Rows, 1, b"a").err(), refusal(Word::Crowded, 0));
     for _ in 0..1_023 {
@@ -97,7 +135,7 @@ fn entries() {
         assert_eq!(panel.line_names(axis), one_by_one);
     }
     assert_eq!(panel.resolved(), [panel.placement(0).unwrap(), panel.placement(1).unwrap()]);
-    assert_eq!((panel.placement(0).unwrap().start, panel.placement(1).unwrap().end), (End::Line(1), End::Line(6)));
+    assert_eq!((panel.placement(0).unwrap().start, panel.placement(1).unwrap().end), (End::Line(5), End::Line(12)));
 }
 
 #[test]
@@ -112,5 +150,5 @@ fn empty_sheet() {
 fn in_a_small_thread() {
     let run = || Panel::read(LAYOUT).unwrap().placement(0).unwrap().start;
     let thread = std::thread::Builder::new().stack_size(512 * 1024).spawn(run).unwrap();
-    assert_eq!(thread.join().unwrap(), End::Line(1));
+    assert_eq!(thread.join().unwrap(), End::Line(5));
 }

@@ -182,10 +182,10 @@ def first_cases(rust):
     """For each branch reached, the recorded case that reaches it first."""
     found = {}
     for file in ("cases", "limits", "entries", "accepted", "large", "refused"):
-        for name, sheet, rows in blocks(read_list(file)):
-            entries = entries_asked(sheet, [call_of(row) for row in rows])
+        for block in blocks(read_list(file)):
+            entries = entries_asked(block.sheet, [call_of(row) for row in block.rows])
             if entries is not None:
-                take_new(found, rust.ask(sheet, entries)[-1], f"{file}.txt: {name}")
+                take_new(found, rust.ask(block.sheet, entries)[-1], f"{file}.txt: {block.name}")
     take_new(found, rust.lines(3)[-1], "lines.txt")
     return found
 

@@ -7,6 +7,7 @@ import build
 
 RECORDED = os.path.join(build.COMPARE, "recorded")
 REPLAYED = ("cases", "limits", "short", "entries", "accepted", "refused", "large", "differences", "lines")
+WRONG = "wrong"  # replayed after them: what is wrong on purpose
 DIFFERENCES = os.path.join(build.REPOSITORY, "docs", "DIFFERENCES.md")
 VECTORS = os.path.join(build.REPOSITORY, "crates", "vectors")
 
@@ -36,18 +37,42 @@ class Reading:
         return self.data[self.at - int(size):self.at]
 
 
-def blocks(data):
-    """The (name, sheet, entry lines) of each block of a list."""
-    reading = Reading(data)
-    while reading.at < len(data):
-        name = reading.head()[1].decode()
+class Block:
+    """A block of a list, its `case` line read already."""
+
+    def __init__(self, name, reading):
+        self.name = name
+        start = reading.at
         word, size = reading.head()
         if word == b"stores":
             size = reading.head()[1]
-        sheet = reading.part(size)
-        rows = [reading.line() for _ in range(int(reading.head()[1]))]
-        reading.part(reading.head()[1])
-        yield name, sheet, rows
+        self.sheet = reading.part(size)
+        self.rows = [reading.line() for _ in range(int(reading.head()[1]))]
+        self.asked = reading.data[start:reading.at]
+        self.word, size = reading.head()
+        self.lines = reading.part(size).decode().splitlines()
+
+    def written(self, name, lines):
+        """The same sheet and calls under another name, with other expected lines."""
+        expected = "".join(line + "\n" for line in lines).encode()
+        return b"case %s\n" % name.encode() + self.asked + b"%s %d\n" % (self.word, len(expected)) + expected
+
+
+def parts(data):
+    """The first line of each part of a list, with its block, or else with the rows of its conversions."""
+    reading = Reading(data)
+    while reading.at < len(data):
+        first = reading.line()
+        word, rest = first.split(b" ", 1)
+        if word == b"lines":
+            yield first, None, [reading.line() for _ in range(int(rest.split()[0]))]
+        else:
+            yield first, Block(rest.decode(), reading), []
+
+
+def blocks(data):
+    """The blocks of a list."""
+    return [block for _, block, _ in parts(data) if block]
 
 
 def call_of(row):
@@ -60,14 +85,22 @@ def replayed():
     """All lists one after the other, the lines with their number before them: what `vectors` replays under the gate."""
     data = {name: read_list(name) for name in REPLAYED}
     data["lines"] = b"lines %d\n" % data["lines"].count(b"\n") + data["lines"]
-    return b"".join(data[name] for name in REPLAYED)
+    return b"".join(data[name] for name in REPLAYED) + read_list(WRONG)
 
 
 def totals():
-    """What `vectors` has to print, by the lists alone."""
-    found = [block for name in REPLAYED if name != "lines" for block in blocks(read_list(name))]
-    calls = sum(len(rows) for _, _, rows in found)
-    return f"blocks\t{len(found)}\ncalls\t{calls}\nrows\t{read_list('lines').count(bytes([10]))}\ndifferent\t0\n".encode()
+    """What `vectors` has to print, by the lists alone: all that is wrong on purpose differs, and nothing else."""
+    found = list(parts(replayed()))
+    differs = [first for first, _, _ in parts(read_list(WRONG))]
+    read = [block for _, block, _ in found if block]
+    counts = {
+        "blocks": len(read),
+        "calls": sum(len(block.rows) for block in read),
+        "rows": sum(len(rows) for _, _, rows in found),
+        "different": len(differs),
+    }
+    named = b"".join(b"differs\t%s\n" % first for first in differs)
+    return named + "".join(f"{word}\t{count}\n" for word, count in counts.items()).encode()
 
 
 def write_replayed():
@@ -91,7 +124,7 @@ def cases_of(name):
         return set(browser_sheets.SHEETS)
     if name == "lines":
         return {" ".join(row.split("\t")[:2]) for row in read_list(name).decode().splitlines()}
-    return {case for case, _, _ in blocks(read_list(name))}
+    return {block.name for block in blocks(read_list(name))}
 
 
 def unnamed_rows(text):

@@ -12,6 +12,7 @@ import maker
 import model
 import reader
 import rules
+import wrong_blocks
 from answer import calls_of
 from compare import Rust, compare, compare_lines
 from lists import RECORDED
@@ -271,9 +272,16 @@ def write_lines(rust):
     write("lines.txt", rows)
 
 
+def write_wrong():
+    """What is wrong on purpose, made from the lists."""
+    write("wrong.txt", wrong_blocks.made())
+
+
 def check():
-    """The lists against docs/DIFFERENCES.md and the files of `vectors`."""
+    """The lists against docs/DIFFERENCES.md, the files of `vectors` and each other."""
     found = lists.faults()
+    if lists.read_list(lists.WRONG) != b"".join(wrong_blocks.made()):
+        found.append("recorded/wrong.txt is not made from the lists")
     for fault in found:
         print(fault)
     print(f"{len(found)} faults in the recorded lists")
@@ -300,6 +308,7 @@ def main():
     write_cut(rust)
     write_differences(rust)
     rust.close()
+    write_wrong()
     lists.write_replayed()
     return check()
 

@@ -2,6 +2,9 @@
 use libc::STDOUT_FILENO;
 use std::num::wrapping_add_u64;
 
+// How many that differ are named.
+const MOST_NAMED: u64 = 32;
+
 pub struct Counts {
     pub blocks: u64,
     pub calls: u64,
@@ -42,10 +45,10 @@ pub fn print_counts(counts: Counts) {
     print_count(b"different\t", counts.different);
 }
 
-// The `case` line of a block that differs, where it is the first.
-pub fn print_first(counts: Counts, line: &[u8]) {
-    if counts.different == 0 {
-        io::write_all(STDOUT_FILENO, b"first\t");
+// The first line of a block or of a list of rows that differs, where few differ before it.
+pub fn print_different(counts: Counts, line: &[u8]) {
+    if counts.different < MOST_NAMED {
+        io::write_all(STDOUT_FILENO, b"differs\t");
         io::write_all(STDOUT_FILENO, line);
         io::write_all(STDOUT_FILENO, b"\n");
     }

@@ -1,5 +1,6 @@
 // Replays recorded lists from standard input. A block is a sheet, entry calls and the expected answers; a row is the conversion
-// of a grid line and back. Prints how many there are, how many differ, and the first block that does.
+// of a grid line and back. Prints the first lines of those that differ, how many there are, and how many differ. Some are wrong on
+// purpose, and say so.
 mod answers;
 mod block;
 mod buffer;

@@ -6,7 +6,7 @@ use crate::conversions::replay_rows;
 use crate::counts::Counts;
 use crate::counts::more_blocks;
 use crate::counts::more_rows;
-use crate::counts::print_first;
+use crate::counts::print_different;
 use crate::input::Head;
 use crate::input::LINES;
 use crate::input::head_at;
@@ -25,8 +25,11 @@ struct Replayed {
 }
 
 // The rows at a place.
-fn replay_list(input: &[u8], head: Head, counts: Counts) -> Replayed {
+fn replay_list(input: &[u8], at: usize, head: Head, counts: Counts) -> Replayed {
     let rows = replay_rows(input, head.next, head.number);
+    if rows.different != 0 {
+        print_different(counts, line_at(input, at));
+    }
     Replayed {
         counts: more_rows(counts, head.number, rows.different),
         next: rows.next,
@@ -65,7 +68,7 @@ fn replay_block(
         rowstore,
     );
     if !same {
-        print_first(counts, line_at(input, at));
+        print_different(counts, line_at(input, at));
     }
     Replayed {
         counts: more_blocks(counts, block.callcount, same),
@@ -91,7 +94,7 @@ fn replay_at(
 ) -> Replayed {
     let head = head_at(input, at);
     if head.word == LINES {
-        return replay_list(input, head, counts);
+        return replay_list(input, at, head, counts);
     }
     replay_block(
         input,

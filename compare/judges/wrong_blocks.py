@@ -1,0 +1,61 @@
+"""Blocks that are wrong on purpose: right ones of the lists with one change each. A replay that passes over a part doesn't find
+the one that is wrong there."""
+import build
+import lists
+
+PURPOSE = "wrong on purpose: "
+
+# What is wrong, the list and the case that it is made from, the expected line that is changed, and what stands in its place.
+CHANGES = [
+    ("repetitions", "cases", "worked", "size\tc\t2\t2", ["size\tc\t3\t2"]),
+    ("an explicit count", "cases", "M8", "size\tr\t0\t0", ["size\tr\t0\t1"]),
+    ("a record's kind", "cases", "M8", "2\tgutter\tn\tlen\t00000000\tlen\t00000000", ["2\ttrack\tn\tlen\t00000000\tlen\t00000000"]),
+    ("a collapsed record", "cases", "M8", "6\tgutter\ty\tlen\t00000000\tlen\t00000000", ["6\tgutter\tn\tlen\t00000000\tlen\t00000000"]),
+    ("a record's minimum", "cases", "M8", "3\ttrack\tn\tlen\t42c80000\tlen\t42c80000", ["3\ttrack\tn\tlen\t42c80001\tlen\t42c80000"]),
+    ("a record's maximum", "cases", "M8", "5\ttrack\tn\tlen\t42c80000\tlen\t42c80000", ["5\ttrack\tn\tlen\t42c80000\tfr\t42c80000"]),
+    ("a record too few", "cases", "M8", "6\tgutter\ty\tlen\t00000000\tlen\t00000000", []),
+    ("a start", "cases", "d12-enter-past-end", "place\tc\tline\t-5\tauto\t0", ["place\tc\tline\t5\tauto\t0"]),
+    ("an end", "cases", "M10", "place\tc\tline\t0\tspan\t1", ["place\tc\tline\t0\tline\t1"]),
+    ("a placement's axis", "large", "large 2", "place\tr\tline\t10001\tline\t10001", ["place\tc\tline\t10001\tline\t10001"]),
+    ("a line name", "cases", "M8", "names\tc\t3\tx", ["names\tc\t3\ty"]),
+    ("a name too many", "cases", "M8", "names\tc\t2", ["names\tc\t2\tx"]),
+    ("a named line", "large", "large 2", "names\tc\t10001\ta", ["names\tc\t10000\ta"]),
+    ("a list of names too few", "cases", "M8", "names\tc\t4", []),
+    ("a list of names too many", "cases", "M8", "names\tc\t4", ["names\tc\t4", "names\tc\t5"]),
+    ("a refusal's number", "cases", "d1-over-counted", "refused\t4\t4", ["refused\t8\t4"]),
+    ("a refusal's line", "cases", "d1-over-counted", "refused\t4\t4", ["refused\t4\t3"]),
+    ("a refusal for a short store", "short", "short good 1", "refused\t10\t0", ["refused\t10\t1"]),
+    ("an entry call that is refused", "entries", "general 28", "refused\t2\t0", ["entered\t0\t0"]),
+    ("an entry call that is accepted", "cases", "d12-enter-past-end", "entered\t0\t0", ["refused\t4\t0"]),
+]
+
+# The same for conversions: what is wrong, the row, and what stands in its place.
+CHANGED_ROWS = [
+    ("a conversion's refusal", "0\t0\t9\t0\t0", "0\t0\t4\t0\t0"),
+    ("an origin-zero line", "3\t-5\t0\t-1\t-5", "3\t-5\t0\t-2\t-5"),
+    ("a line back", "3\t-5\t0\t-1\t-5", "3\t-5\t0\t-1\t-4"),
+]
+
+
+def changed(lines, old, new):
+    """The lines with one of them changed."""
+    place = lines.index(old)
+    return lines[:place] + new + lines[place + 1:]
+
+
+def changed_block(what, name, case, old, new):
+    block = next((block for block in lists.blocks(lists.read_list(name)) if block.name == case), None)
+    if not block or old not in block.lines:
+        raise build.CannotCompare(f"not recorded: {name}/{case} has no line {old!r}")
+    return block.written(PURPOSE + what, changed(block.lines, old, new))
+
+
+def changed_row(what, old, new):
+    if old not in lists.read_list("lines").decode().splitlines():
+        raise build.CannotCompare(f"not recorded: no conversion is {old!r}")
+    return f"lines 1 {PURPOSE}{what}\n{new}\n".encode()
+
+
+def made():
+    """All of them."""
+    return [changed_block(*change) for change in CHANGES] + [changed_row(*change) for change in CHANGED_ROWS]
