@@ -3,7 +3,7 @@
  * Link target/staticlib/libpanel_c.a (x86-64 Linux), which `rt staticlib panel_c` writes. Every call is proved to end and to
  * answer as its contract in crates/panel_c/src/lib.rt says, whatever the panel and the tables hold. What C must ensure:
  *
- * - stack: 512 KiB of room for palgwern_read_sheet, 192 KiB for palgwern_resolve_placements and palgwern_line_names, 64 KiB for each
+ * - stack: 512 KiB of room for palgwern_read_sheet, 192 KiB for palgwern_line_names, 64 KiB for each
  *   other call (`bindings/test` measures them);
  * - memory: every array and store that is lent is initialized, whatever it holds, and not null; an array has the length that is
  *   stated here, a pointer with a length has so many elements, and one of length 0 still points somewhere;
