@@ -12,6 +12,7 @@ mod sheet;
 mod style;
 mod style_helpers;
 mod table;
+mod template;
 mod timing;
 mod util;
 
@@ -31,6 +32,8 @@ use table::Row;
 use timing::pair;
 
 const STAGES: [&str; 5] = ["sizes", "names", "placements", "records", "line names"];
+/// What is timed beside the stages.
+const PARTS: [&str; 2] = ["reading", "templates"];
 const GROWTH: [&str; 4] = ["small", "medium", "large, 16 names", "large, 1,440 names"];
 
 /// Both sides of a sheet, after they were seen to answer alike; ends the program where they do not.
@@ -88,10 +91,10 @@ fn readings(sheets: &[Sheet]) {
     [panels::forty_lines(), panels::longest()].iter().chain(sheets).for_each(reading);
 }
 
-/// Every stage and the reading, or those that are named.
+/// Every stage, the reading and the templates, or those that are named.
 fn main() {
     let words: Vec<String> = std::env::args().skip(1).collect();
-    if let Some(word) = words.iter().find(|word| *word != "reading" && !STAGES.contains(&word.as_str())) {
+    if let Some(word) = words.iter().find(|word| !PARTS.contains(&word.as_str()) && !STAGES.contains(&word.as_str())) {
         eprintln!("no bench: no stage is called {word}");
         std::process::exit(2);
     }
@@ -107,5 +110,9 @@ fn main() {
     }
     if asked("reading") {
         readings(&sheets);
+        println!();
+    }
+    if asked("templates") {
+        template::print();
     }
 }

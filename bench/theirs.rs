@@ -63,6 +63,11 @@ impl Theirs {
         }
     }
 
+    /// The size of the columns alone: repetitions and template count.
+    pub(crate) fn column_size(&self) -> (u16, u16) {
+        black_box(template_size(black_box(&self.input), AXES[0]))
+    }
+
     /// A resolver with all names of both templates.
     pub(crate) fn names(&self) -> NamedLineResolver<String> {
         NamedLineResolver::new(black_box(&self.input.style), self.sizes[0].0, self.sizes[1].0)

@@ -1,9 +1,14 @@
 // What a size measures in a definite inner size.
 ghost use mathlib.Core.Path.{_≡_};
-ghost use Rattle.sizing.specs.Definite.{definiteOf, trackValueOf, gapOf, isFixed, fixedTrack};
+ghost use Rattle.sizing.specs.Words.{sizingOf, minMaxOf};
+ghost use Rattle.sizing.specs.Definite.{definiteOf, trackValueOf, gapOf};
 use sizing::DefiniteSize;
-use sizing::MinMax;
 use sizing::Sizing;
+use sizing::word::length_of;
+use sizing::word::sizing_of;
+
+// The word of the largest length, 65,535.
+const LARGEST_LENGTH: u64 = 0x477f_ff00;
 
 // A length, or a percentage times the inner size; no other kind has a definite size.
 pub fn definite_value(size: Sizing, inner: f32) -> DefiniteSize
@@ -21,15 +26,24 @@ pub fn definite_value(size: Sizing, inner: f32) -> DefiniteSize
     }
 }
 
-// The definite maximum raised to the definite minimum, else the minimum. The Rust's is `max.max(min)`: at equal values
-// either is the same bits, since no size in range is a NaN or minus zero (the law `neither-less`).
-pub fn track_definite_value(track: MinMax, inner: f32) -> DefiniteSize
-    ensures { λ r. ⌜ r ≡ trackValueOf track inner ⌝ }
+// What the size of a word measures. A length in range is told by one comparison, since its kind is 0: its word is its bits.
+pub fn definite_of_word(word: u64, inner: f32) -> DefiniteSize
+    ensures { λ r. ⌜ r ≡ definiteOf (sizingOf word) inner ⌝ }
 {
-    let min = track.min;
-    let max = track.max;
-    let minimum = definite_value(min, inner);
-    let maximum = definite_value(max, inner);
+    if word <= LARGEST_LENGTH {
+        return DefiniteSize::Definite(length_of(word as u32));
+    }
+    let size = sizing_of(word);
+    definite_value(size, inner)
+}
+
+// The definite maximum raised to the definite minimum, else the minimum, from the words of the two. The Rust's is `max.max(min)`:
+// at equal values either is the same bits, since no size in range is a NaN or minus zero (the law `neither-less`).
+pub fn track_definite_value(min: u64, max: u64, inner: f32) -> DefiniteSize
+    ensures { λ r. ⌜ r ≡ trackValueOf (minMaxOf min max) inner ⌝ }
+{
+    let minimum = definite_of_word(min, inner);
+    let maximum = definite_of_word(max, inner);
     let DefiniteSize::Definite(high) = maximum else {
         return minimum;
     };
@@ -48,32 +62,4 @@ pub fn gap_value(gap: Sizing, inner: f32) -> f32
         DefiniteSize::Definite(v) => v,
         DefiniteSize::Indefinite => 0.0,
     }
-}
-
-// Whether a size is of a fixed kind: a length or a percentage.
-pub fn is_fixed(size: Sizing) -> bool
-    ensures { λ r. ⌜ r ≡ isFixed size ⌝ }
-{
-    match size {
-        Sizing::Length(_) => true,
-        Sizing::Percent(_) => true,
-        Sizing::Fraction(_) => false,
-        Sizing::Auto => false,
-        Sizing::MinContent => false,
-        Sizing::MaxContent => false,
-        Sizing::FitContentLength(_) => false,
-        Sizing::FitContentPercent(_) => false,
-    }
-}
-
-// Whether a track has a fixed kind at one end.
-pub fn has_fixed_component(track: MinMax) -> bool
-    ensures { λ r. ⌜ r ≡ fixedTrack track ⌝ }
-{
-    let min = track.min;
-    let max = track.max;
-    if is_fixed(min) {
-        return true;
-    }
-    is_fixed(max)
 }

@@ -13,7 +13,8 @@ use mir.Val.{Fits}
 use mir.Syntax.{w64}
 use Rattle.explicit_grid.specs.Template.{componentOf, tracksFrom}
 use Rattle.explicit_grid.specs.Space.{countedSpace}
-use Rattle.explicit_grid.specs.Summary.{noComponents, outsideStep, automaticStep, stepBy}
+use Rattle.explicit_grid.specs.Summary.{noComponents}
+use Rattle.explicit_grid.specs.Steps.{outsideStep, automaticStep, stepBy}
 use Rattle.explicit_grid.specs.Bounds.{CountOfWord, OfWord, Gathered}
 use Rattle.explicit_grid.specs.declared.RepetitionCount.{RepetitionCount}
 use Rattle.explicit_grid.specs.declared.RepetitionCount.the-variants.{Single, Count, AutoFill, AutoFit}

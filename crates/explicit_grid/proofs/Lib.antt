@@ -5,6 +5,7 @@ pub mod Exact
 pub mod WholeNumbers
 pub mod Walk
 pub mod Bounds
+pub mod FirstPart
 pub mod Held
 pub mod Valid
 pub mod Css

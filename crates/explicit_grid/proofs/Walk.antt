@@ -16,8 +16,9 @@ use Rattle.sizing.specs.Definite.{fixedTrack}
 use Rattle.sizing.specs.declared.MinMax.{MinMax}
 use Rattle.explicit_grid.specs.Template.{Component}
 use Rattle.explicit_grid.specs.Counts.{isAutomatic, outsideOf, isEmpty, outsideCount, automaticCount, beforeCount, automaticTracks, anyEmpty, allFixed, everyFixed}
-use Rattle.explicit_grid.specs.Space.{spaceIn, spaceOf, repeatedTrackSpace, outsideSpace, repetitionSpace}
-use Rattle.explicit_grid.specs.Summary.{meaningOf, noTracks, trackStep, noComponents, summaryStep, summaryOf}
+use Rattle.explicit_grid.specs.Space.{trackSpace, spaceIn, spaceOf, repeatedTrackSpace, outsideSpace, repetitionSpace}
+use Rattle.explicit_grid.specs.Summary.{meaningOf, noComponents}
+use Rattle.explicit_grid.specs.Steps.{noTracks, trackStep, summaryStep, summaryOf}
 use Rattle.explicit_grid.specs.declared.RepetitionCount.{RepetitionCount}
 use Rattle.explicit_grid.specs.declared.RepetitionCount.the-variants.{Single, Count, AutoFill, AutoFit}
 use Rattle.explicit_grid.specs.declared.TrackTotals.{TrackTotals}
@@ -31,7 +32,7 @@ summary-one-more inner cs c = foldl-append (summaryStep inner) noComponents cs (
 
 -- the tracks of a component: whether all are fixed, and their sum in order
 pub totals-from : (count : RepetitionCount) (inner : Float) (s : TrackTotals) (ts : List MinMax)
-    → foldl (trackStep count inner) s ts ≡ record { fixed = s .fixed && allFixed ts; space = sumFrom (s .space) (map (spaceIn count inner) ts) }
+    → foldl (trackStep count inner) s ts ≡ record { fixed = s .fixed && allFixed ts; space = sumFrom (s .space) (map (λ (t : MinMax). spaceIn count (trackSpace inner t)) ts) }
 unfolding allFixed sumFrom
 totals-from count inner s [] = rw (and-true (s .fixed))
 totals-from count inner s (t ∷ ts) = totals-from count inner (trackStep count inner s t) ts ∙ rw (and-assoc (s .fixed) (fixedTrack t) (allFixed ts))

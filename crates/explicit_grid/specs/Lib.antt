@@ -5,6 +5,7 @@ pub mod Whole
 pub mod Counts
 pub mod Space
 pub mod Summary
+pub mod Steps
 pub mod Repetitions
 pub mod Explicit
 pub mod Css

@@ -21,16 +21,19 @@ whole32 n = ofInt binary32 (pos n)
 abbrev pub trackSpace : Float → MinMax → Float
 trackSpace inner t = orZero (trackValueOf t inner)
 
--- a track inside the automatic repeat
-abbrev pub repeatedTrackSpace : Float → MinMax → Float
-repeatedTrackSpace inner t = trackSpace inner t
+-- what a track inside the automatic repeat counts as, by what it measures
+abbrev pub repeatedSpace : Float → Float
+repeatedSpace space = space
 
--- a track of a component, by how often the component is written out
-abbrev pub spaceIn : RepetitionCount → Float → MinMax → Float
-spaceIn Single inner t = trackSpace inner t
-spaceIn (Count n) inner t = trackSpace inner t
-spaceIn AutoFill inner t = repeatedTrackSpace inner t
-spaceIn AutoFit inner t = repeatedTrackSpace inner t
+abbrev pub repeatedTrackSpace : Float → MinMax → Float
+repeatedTrackSpace inner t = repeatedSpace (trackSpace inner t)
+
+-- what a track counts as in a component, by how often the component is written out and what the track measures
+abbrev pub spaceIn : RepetitionCount → Float → Float
+spaceIn Single space = space
+spaceIn (Count n) space = space
+spaceIn AutoFill space = repeatedSpace space
+spaceIn AutoFit space = repeatedSpace space
 
 -- a single is its track
 abbrev pub singleSpace : Float → List MinMax → Float

@@ -1,19 +1,18 @@
--- What the one walk over a template gathers: a left fold over the components, and in each over its tracks.
-use Prim.Native.Nat.{ℕ, _+_, _*_}
-use mathlib.Core.Bool.{Bool, true, false, cond, _&&_, _||_}
-use mathlib.Core.List.{List, foldl}
+-- What the one walk over a template gathers: after the whole of it, and after any number of steps.
+use mathlib.Core.Path.{_≡_}
+use Prim.Native.Nat.{ℕ, _+_, _-_}
+use mathlib.Core.Bool.{true, false, cond}
+use mathlib.Core.List.{List, [], _∷_, _++_}
 use lib.Dec.{eqb}
-use lib.ListN.{length}
-use lib.Ieee.{Float, binary32, add}
+use lib.ListN.{length, take}
+use lib.Ieee.{Float}
 use Rattle.sizing.specs.Words.{zero32}
-use Rattle.sizing.specs.Definite.{fixedTrack}
 use Rattle.sizing.specs.declared.MinMax.{MinMax}
 use Rattle.explicit_grid.specs.Template.{Component}
-use Rattle.explicit_grid.specs.Counts.{outsideCount, automaticCount, beforeCount, automaticTracks, anyEmpty, allFixed, everyFixed}
-use Rattle.explicit_grid.specs.Space.{spaceIn, singleSpace, countedSpace, outsideSpace, repetitionSpace}
+use Rattle.explicit_grid.specs.Counts.{outsideCount, automaticCount, beforeCount, automaticTracks, anyEmpty, everyFixed}
+use Rattle.explicit_grid.specs.Space.{outsideSpace, repetitionSpace}
 use Rattle.explicit_grid.specs.declared.RepetitionCount.{RepetitionCount}
 use Rattle.explicit_grid.specs.declared.RepetitionCount.the-variants.{Single, Count, AutoFill, AutoFit}
-use Rattle.explicit_grid.specs.declared.TrackTotals.{TrackTotals}
 use Rattle.explicit_grid.specs.declared.TemplateSummary.{TemplateSummary}
 
 -- what is gathered after a template, each field in document 01's words
@@ -30,64 +29,36 @@ meaningOf inner cs =
       once = repetitionSpace inner cs;
     }
 
--- before any track, and one track more
-abbrev pub noTracks : TrackTotals
-noTracks = record { fixed = true; space = zero32 }
-
-abbrev pub trackStep : RepetitionCount → Float → TrackTotals → MinMax → TrackTotals
-trackStep count inner s t = record { fixed = s .fixed && fixedTrack t; space = add binary32 (s .space) (spaceIn count inner t) }
-
--- the tracks of a component: a single is its one track
-abbrev pub totalsOf : Float → RepetitionCount → List MinMax → TrackTotals
-totalsOf inner Single ts = record { fixed = allFixed ts; space = singleSpace inner ts }
-totalsOf inner (Count n) ts = foldl (trackStep (Count n) inner) noTracks ts
-totalsOf inner AutoFill ts = foldl (trackStep AutoFill inner) noTracks ts
-totalsOf inner AutoFit ts = foldl (trackStep AutoFit inner) noTracks ts
-
 -- before any component
 abbrev pub noComponents : TemplateSummary
 noComponents = record { empty = false; fixed = true; automatic = 0; outside = 0; before = 0; repeated = 0; used = zero32; once = zero32 }
 
--- one more component outside the automatic repeat: it has n tracks and uses a space
-abbrev pub outsideStep : TemplateSummary → Bool → Bool → ℕ → Float → TemplateSummary
-outsideStep s empty fixed n space =
-    record {
-      empty = s .empty || empty;
-      fixed = s .fixed && fixed;
-      automatic = s .automatic;
-      outside = s .outside + n;
-      before = s .before + cond (eqb (s .automatic) 0) n 0;
-      repeated = s .repeated;
-      used = add binary32 (s .used) space;
-      once = s .once;
-    }
+-- a step for each component, and one for each track in a repeat: the steps inside a component of n tracks, and those of a template
+abbrev pub stepsInside : RepetitionCount → ℕ → ℕ
+stepsInside Single n = 0
+stepsInside (Count times) n = n
+stepsInside AutoFill n = n
+stepsInside AutoFit n = n
 
--- one more automatic repeat of n tracks: the first one counts
-abbrev pub automaticStep : TemplateSummary → ℕ → TrackTotals → TemplateSummary
-automaticStep s n t =
-    record {
-      empty = s .empty || eqb n 0;
-      fixed = s .fixed && t .fixed;
-      automatic = s .automatic + 1;
-      outside = s .outside;
-      before = s .before;
-      repeated = cond (eqb (s .automatic) 0) n (s .repeated);
-      used = add binary32 (s .used) zero32;
-      once = cond (eqb (s .automatic) 0) (t .space) (s .once);
-    }
+unfoldable pub stepsIn : List Component → ℕ
+stepsIn [] = 0
+stepsIn (c ∷ cs) = 1 + stepsInside (c .count) (length (c .tracks)) + stepsIn cs
 
--- one more component of n tracks
-abbrev pub stepBy : TemplateSummary → RepetitionCount → ℕ → TrackTotals → TemplateSummary
-stepBy s Single n t = outsideStep s false (t .fixed) 1 (t .space)
-stepBy s (Count times) n t = outsideStep s (eqb n 0) (t .fixed) (times * n) (countedSpace (t .space) times)
-stepBy s AutoFill n t = automaticStep s n t
-stepBy s AutoFit n t = automaticStep s n t
+-- the tracks of a component after k steps inside it: of a repeat the first k, of a single its one
+abbrev pub firstTracks : ℕ → RepetitionCount → List MinMax → List MinMax
+firstTracks k Single ts = ts
+firstTracks k (Count times) ts = take k ts
+firstTracks k AutoFill ts = take k ts
+firstTracks k AutoFit ts = take k ts
 
-unfoldable pub summaryStep : Float → TemplateSummary → Component → TemplateSummary
-unfolding allFixed
-summaryStep inner s c = stepBy s (c .count) (length (c .tracks)) (totalsOf inner (c .count) (c .tracks))
+-- the part of a template that lies within its first k steps: it may end inside a repeat, which then has its tracks so far
+unfoldable pub firstPart : ℕ → List Component → List Component
+firstPart k [] = []
+firstPart k (c ∷ cs) =
+    cond (eqb k 0) []
+    (record { count = c .count; tracks = firstTracks (k - 1) (c .count) (c .tracks) } ∷ firstPart (k - 1 - stepsInside (c .count) (length (c .tracks))) cs)
 
--- the walk
-unfoldable pub summaryOf : Float → List Component → TemplateSummary
-unfolding summaryStep
-summaryOf inner cs = foldl (summaryStep inner) noComponents cs
+-- what one step adds to a first part: a single or a repeat of no tracks so far, or one track of the last repeat
+pub data OneMore (part : List Component) : List Component → Type 0 where
+  another : (c : Component) → stepsInside (c .count) (length (c .tracks)) ≡ 0 → OneMore part (part ++ (c ∷ []))
+  further : (before : List Component) (count : RepetitionCount) (ts : List MinMax) (t : MinMax) → (count ≡ Single → ⊥) → part ≡ before ++ (record { count = count; tracks = ts } ∷ []) → OneMore part (before ++ (record { count = count; tracks = ts ++ (t ∷ []) } ∷ []))

@@ -40,7 +40,7 @@ pub fn component_of(word: u64) -> GridTemplateComponent
 }
 
 // The word at a place, 0 past the end.
-fn word_at(words: &[u64], place: u64) -> u64
+pub fn word_at(words: &[u64], place: u64) -> u64
     ensures { λ r. ⌜ r ≡ getD (now (words .entry)) place 0 ⌝ }
 {
     let at = place as usize;

@@ -13,6 +13,9 @@ use explicit_grid::TemplateSummary;
 use sizing::Sizing;
 use template_summary::summary::template_summary;
 
+// As many steps as a template of any words can have: 64 components, each of at most 65,535 tracks.
+const EVERY_STEP: u64 = 64 * 0x1_0000;
+
 // Whether a template has no repeat without tracks, and at most one automatic repeat, which stands among fixed tracks only.
 fn is_valid(summary: TemplateSummary) -> bool
     ensures { λ r. ⌜ r ≡ validOf summary ⌝ }
@@ -113,7 +116,13 @@ pub fn compute_explicit_grid_size_in_axis(
     if components.len() > 64 {
         return refused_size(coordinates::refusal::CROWDED);
     }
-    let summary = template_summary(components, minimums, maximums, inner_value(inner));
+    let summary = template_summary(
+        components,
+        minimums,
+        maximums,
+        inner_value(inner),
+        EVERY_STEP,
+    );
     let size = template_size(summary, inner, strategy, gap);
     size_with_areas(size, areas)
 }

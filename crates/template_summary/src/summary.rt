@@ -4,8 +4,9 @@ ghost use mathlib.Core.Bool.{cond};
 ghost use Prim.Native.Nat.{_≤_};
 ghost use lib.Dec.{eqb, leb};
 ghost use lib.ListN.{length};
-ghost use Rattle.explicit_grid.specs.Template.{componentOf, withTracks, templateOf};
-ghost use Rattle.explicit_grid.specs.Summary.{outsideStep, automaticStep, stepBy, summaryStep, noComponents, summaryOf};
+ghost use Rattle.explicit_grid.specs.Template.{withTracks, templateOf};
+ghost use Rattle.explicit_grid.specs.Summary.{meaningOf, noComponents, stepsInside, firstPart};
+ghost use Rattle.explicit_grid.specs.Steps.{outsideStep, automaticStep, stepBy, summaryStep, cutAfter};
 ghost use Rattle.explicit_grid.specs.Bounds.{OfWord, Gathered};
 use crate::tracks::component_totals;
 use explicit_grid::GridTemplateComponent;
@@ -89,42 +90,69 @@ fn add_totals(
     let length = component.length;
     match count {
         RepetitionCount::Single => add_outside(summary, false, totals.fixed, 1, totals.space),
-        RepetitionCount::Count(times) => add_outside(
-            summary,
-            length == 0,
-            totals.fixed,
-            times * length,
-            totals.space * times as f32,
-        ),
+        RepetitionCount::Count(times) => {
+            let factor = times as f32;
+            let space = totals.space * factor;
+            add_outside(summary, length == 0, totals.fixed, times * length, space)
+        }
         RepetitionCount::AutoFill => add_automatic(summary, length, totals),
         RepetitionCount::AutoFit => add_automatic(summary, length, totals),
     }
 }
 
-// The step for the component of a word.
+// The step for a component.
 fn add_component(
     summary: TemplateSummary,
-    word: u64,
+    component: GridTemplateComponent,
     minimums: &[u64],
     maximums: &[u64],
     inner: f32,
 ) -> TemplateSummary
-    requires { ⌜ Gathered 64 summary ⌝ }
-    ensures { λ r. ⌜ r ≡ summaryStep inner summary (withTracks (now (minimums .entry)) (now (maximums .entry)) (componentOf word)) ⌝ }
+    requires { ⌜ Gathered 64 summary × OfWord component ⌝ }
+    ensures { λ r. ⌜ r ≡ summaryStep inner summary (withTracks (now (minimums .entry)) (now (maximums .entry)) component) ⌝ }
 {
-    let component = component_of(word);
     let totals = component_totals(minimums, maximums, component, inner);
     add_totals(summary, component, totals)
 }
 
-// The walk over the components, in template order; of more than 64, none.
+// How many steps are inside a component: one for each track of a repeat, none for a single.
+fn steps_inside(component: GridTemplateComponent) -> u64
+    ensures { λ r. ⌜ r ≡ stepsInside (component .count) (component .length) ⌝ }
+{
+    let count = component.count;
+    match count {
+        RepetitionCount::Single => 0,
+        RepetitionCount::Count(_) => component.length,
+        RepetitionCount::AutoFill => component.length,
+        RepetitionCount::AutoFit => component.length,
+    }
+}
+
+// A component after so many steps inside it: a repeat cut to its first tracks.
+fn first_tracks(component: GridTemplateComponent, steps: u64) -> GridTemplateComponent
+    ensures { λ r. ⌜ r ≡ cutAfter steps component ⌝ }
+{
+    if steps < steps_inside(component) {
+        let count = component.count;
+        return GridTemplateComponent {
+            count,
+            first: component.first,
+            length: steps,
+        };
+    }
+    component
+}
+
+// The one walk over a template, for so many steps: one for each component, and one for each track in a repeat. It may end inside a
+// repeat, whose tracks so far then count. Of more than 64 components none is walked.
 pub fn template_summary(
     components: &[u64],
     minimums: &[u64],
     maximums: &[u64],
     inner: f32,
+    steps: u64,
 ) -> TemplateSummary
-    ensures { λ r. ⌜ (r ≡ cond (leb (length (now (components .entry))) 64) (summaryOf inner (templateOf (now (components .entry)) (now (minimums .entry)) (now (maximums .entry)))) noComponents) × Gathered 64 r ⌝ }
+    ensures { λ r. ⌜ (r ≡ cond (leb (length (now (components .entry))) 64) (meaningOf inner (firstPart steps (templateOf (now (components .entry)) (now (minimums .entry)) (now (maximums .entry))))) noComponents) × Gathered 64 r ⌝ }
 {
     let mut summary = TemplateSummary {
         empty: false,
@@ -140,8 +168,14 @@ pub fn template_summary(
         return summary;
     }
     let mut i = 0usize;
+    let mut left = steps;
     while i < components.len() {
-        summary = add_component(summary, components[i], minimums, maximums, inner);
+        if left == 0 {
+            return summary;
+        }
+        let component = first_tracks(component_of(components[i]), left - 1);
+        summary = add_component(summary, component, minimums, maximums, inner);
+        left = left - 1 - steps_inside(component);
         i += 1;
     }
     summary

@@ -1,56 +1,61 @@
 // The tracks of a component, walked in order: whether each has a fixed kind, and what they measure.
 ghost use mathlib.Core.Path.{_≡_};
 ghost use mathlib.Core.List.{foldl};
+ghost use Rattle.sizing.specs.Words.{minMaxOf};
 ghost use Rattle.explicit_grid.specs.Template.{tracksFrom};
-ghost use Rattle.explicit_grid.specs.Space.{trackSpace, repeatedTrackSpace, spaceIn};
-ghost use Rattle.explicit_grid.specs.Summary.{noTracks, trackStep, totalsOf};
+ghost use Rattle.explicit_grid.specs.Space.{repeatedSpace, spaceIn};
+ghost use Rattle.explicit_grid.specs.Steps.{noTracks, ofTrack, addTotals, trackStep, totalsOf};
 ghost use Rattle.explicit_grid.specs.Bounds.{OfWord};
-use definite_sizes::definite::has_fixed_component;
 use definite_sizes::definite::track_definite_value;
 use explicit_grid::GridTemplateComponent;
 use explicit_grid::RepetitionCount;
 use explicit_grid::TrackTotals;
-use explicit_grid::component::track_at;
+use explicit_grid::component::word_at;
 use sizing::DefiniteSize;
-use sizing::MinMax;
 
-// What a track measures; 0 where it has no definite size.
-fn track_space(track: MinMax, inner: f32) -> f32
-    ensures { λ r. ⌜ r ≡ trackSpace inner track ⌝ }
+// Whether a track has a fixed kind, and what it measures, from one decoding: it has a definite size exactly where its kind is fixed.
+fn track_totals(min: u64, max: u64, inner: f32) -> TrackTotals
+    ensures { λ r. ⌜ r ≡ ofTrack inner (minMaxOf min max) ⌝ }
 {
-    let size = track_definite_value(track, inner);
+    let size = track_definite_value(min, max, inner);
     match size {
-        DefiniteSize::Definite(v) => v,
-        DefiniteSize::Indefinite => 0.0,
+        DefiniteSize::Definite(v) => TrackTotals {
+            fixed: true,
+            space: v,
+        },
+        DefiniteSize::Indefinite => TrackTotals {
+            fixed: false,
+            space: 0.0,
+        },
     }
 }
 
-// What a track inside the automatic repeat measures.
-fn repeated_track_space(track: MinMax, inner: f32) -> f32
-    ensures { λ r. ⌜ r ≡ repeatedTrackSpace inner track ⌝ }
+// What a track inside the automatic repeat counts as, by what it measures.
+fn repeated_space(space: f32) -> f32
+    ensures { λ r. ⌜ r ≡ repeatedSpace space ⌝ }
 {
-    track_space(track, inner)
+    space
 }
 
-// What a track measures in a component.
-fn space_in(count: RepetitionCount, track: MinMax, inner: f32) -> f32
-    ensures { λ r. ⌜ r ≡ spaceIn count inner track ⌝ }
+// What a track counts as in a component, by what it measures.
+fn space_in(count: RepetitionCount, space: f32) -> f32
+    ensures { λ r. ⌜ r ≡ spaceIn count space ⌝ }
 {
     match count {
-        RepetitionCount::Single => track_space(track, inner),
-        RepetitionCount::Count(_) => track_space(track, inner),
-        RepetitionCount::AutoFill => repeated_track_space(track, inner),
-        RepetitionCount::AutoFit => repeated_track_space(track, inner),
+        RepetitionCount::Single => space,
+        RepetitionCount::Count(_) => space,
+        RepetitionCount::AutoFill => repeated_space(space),
+        RepetitionCount::AutoFit => repeated_space(space),
     }
 }
 
 // The step for a track of a repeat.
-fn add_track(totals: TrackTotals, count: RepetitionCount, track: MinMax, inner: f32) -> TrackTotals
-    ensures { λ r. ⌜ r ≡ trackStep count inner totals track ⌝ }
+fn add_track(totals: TrackTotals, count: RepetitionCount, track: TrackTotals) -> TrackTotals
+    ensures { λ r. ⌜ r ≡ addTotals count totals track ⌝ }
 {
     TrackTotals {
-        fixed: totals.fixed & has_fixed_component(track),
-        space: totals.space + space_in(count, track, inner),
+        fixed: totals.fixed & track.fixed,
+        space: totals.space + space_in(count, track.space),
     }
 }
 
@@ -72,8 +77,8 @@ fn repeat_totals(
         space: 0.0,
     };
     while place < end {
-        let track = track_at(minimums, maximums, place);
-        totals = add_track(totals, count, track, inner);
+        let track = track_totals(word_at(minimums, place), word_at(maximums, place), inner);
+        totals = add_track(totals, count, track);
         place += 1;
     }
     totals
@@ -90,16 +95,9 @@ pub(crate) fn component_totals(
     ensures { λ r. ⌜ r ≡ totalsOf inner (component .count) (tracksFrom (now (minimums .entry)) (now (maximums .entry)) (component .first) (component .length)) ⌝ }
 {
     let count = component.count;
-    match count {
-        RepetitionCount::Single => {
-            let track = track_at(minimums, maximums, component.first);
-            TrackTotals {
-                fixed: has_fixed_component(track),
-                space: track_space(track, inner),
-            }
-        }
-        RepetitionCount::Count(_) => repeat_totals(minimums, maximums, component, inner),
-        RepetitionCount::AutoFill => repeat_totals(minimums, maximums, component, inner),
-        RepetitionCount::AutoFit => repeat_totals(minimums, maximums, component, inner),
-    }
+    let first = component.first;
+    let RepetitionCount::Single = count else {
+        return repeat_totals(minimums, maximums, component, inner);
+    };
+    track_totals(word_at(minimums, first), word_at(maximums, first), inner)
 }

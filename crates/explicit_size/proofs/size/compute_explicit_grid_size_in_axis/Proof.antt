@@ -1,22 +1,23 @@
 use mathlib.Core.Path.{_≡_, ap, _∙_}
 use mathlib.Core.Bool.{cond}
 use mathlib.Core.List.{List}
-use Prim.Native.Nat.{ℕ, _<_, _≤_}
+use Prim.Native.Nat.{ℕ, _*_, _^_, _<_, _≤_}
+use native.Mathlib.Omega.{arith}
 use borrow.Author.Tests.{le-leb, lt-leb}
 use lib.Dec.{leb}
 use lib.Ieee.{Float}
-use lib.ListN.{length, length-map}
+use lib.ListN.{length, getD, length-map}
 use Rattle.coordinates.specs.Refusals.{crowded}
 use Rattle.sizing.specs.declared.Sizing.{Sizing}
 use Rattle.explicit_grid.specs.Template.{componentOf, withTracks, templateOf}
-use Rattle.explicit_grid.specs.Summary.{meaningOf, noComponents, summaryOf}
+use Rattle.explicit_grid.specs.Summary.{meaningOf, noComponents, stepsIn, firstPart}
 use Rattle.explicit_grid.specs.Explicit.{innerValue, templateSizeOf, refusedSize, withAreas, explicitSizeOf}
 use Rattle.explicit_grid.specs.declared.InnerSize.{InnerSize}
 use Rattle.explicit_grid.specs.declared.AutoRepeatStrategy.{AutoRepeatStrategy}
 use Rattle.explicit_grid.specs.declared.ExplicitSize.{ExplicitSize}
 use Rattle.explicit_grid.specs.declared.TemplateSize.{TemplateSize}
 use Rattle.explicit_grid.specs.declared.TemplateSummary.{TemplateSummary}
-use Rattle.explicit_grid.proofs.Walk.{summary-means}
+use Rattle.explicit_grid.proofs.FirstPart.{first-part-all, most-steps}
 use borrow.Author.Needs.{needs}
 use Rattle.explicit_size.proofs.size.compute_explicit_grid_size_in_axis.Statement.{statement}
 use Rattle.explicit_size.proofs.size.compute_explicit_grid_size_in_axis.Tie as tie
@@ -32,14 +33,21 @@ module _ (words minimums maximums : List ℕ) where
   unfolding explicitSizeOf
   crowds inner strategy gap areas r h e = rw (length-template, lt-leb (length words) 64 h) e
 
-  counts : (inner : InnerSize) (strategy : AutoRepeatStrategy) (gap : Sizing) (areas : ℕ) (value : Float) (s : TemplateSummary) (t : TemplateSize) (r : ExplicitSize) → length words ≤ 64
-      → value ≡ innerValue inner → s ≡ cond (leb (length words) 64) (summaryOf value (templateOf words minimums maximums)) noComponents → t ≡ templateSizeOf inner strategy gap s → r ≡ withAreas areas t
+  -- there are no more steps than the walk is given
+  whole : ((i : ℕ) → getD words i 0 < 2 ^ 64) → length words ≤ 64 → firstPart 4194304 (templateOf words minimums maximums) ≡ templateOf words minimums maximums
+  whole known h = first-part-all 4194304 (templateOf words minimums maximums) (enough (stepsIn (templateOf words minimums maximums)) (length words) (most-steps words minimums maximums known) h)
+    where
+      enough : (n m : ℕ) → n ≤ m * 65536 → m ≤ 64 → n ≤ 4194304
+      enough n m e h = omega arith
+
+  counts : (inner : InnerSize) (strategy : AutoRepeatStrategy) (gap : Sizing) (areas : ℕ) (value : Float) (s : TemplateSummary) (t : TemplateSize) (r : ExplicitSize)
+      → ((i : ℕ) → getD words i 0 < 2 ^ 64) → length words ≤ 64 → value ≡ innerValue inner
+      → s ≡ cond (leb (length words) 64) (meaningOf value (firstPart 4194304 (templateOf words minimums maximums))) noComponents → t ≡ templateSizeOf inner strategy gap s → r ≡ withAreas areas t
       → r ≡ explicitSizeOf inner strategy gap areas (templateOf words minimums maximums)
   unfolding explicitSizeOf
-  counts inner strategy gap areas value s t r h v e f g =
-      let cs = templateOf words minimums maximums in
+  counts inner strategy gap areas value s t r known h v e f g =
       rw (length-template, le-leb (length words) 64 h)
-      (g ∙ ap (withAreas areas) (f ∙ ap (templateSizeOf inner strategy gap) ((rw (le-leb (length words) 64 h) at e) ∙ summary-means value cs ∙ ap (λ (x : Float). meaningOf x cs) v)))
+      (g ∙ ap (withAreas areas) (f ∙ ap (templateSizeOf inner strategy gap) (rw (le-leb (length words) 64 h, whole known h, v) at e)))
 
 refused-size-requires : tie.Need-refused-size-requires
 refused-size-requires c κs = search needs
@@ -65,7 +73,8 @@ returns-2 : tie.Need-returns-2
 returns-2 c =
     let n = c .before .before .before .before in
     let a = n .before .before .before .before .args in
-    counts (a .components .now) (a .minimums .now) (a .maximums .now) _ _ _ _ _ _ _ _ (n .if1 .left) (c .before .before .before .inner-value .ensures) (c .before .before .template-summary .ensures .0)
+    let known : (i : ℕ) → getD (a .components .now) i 0 < 2 ^ 64 = λ i. omega (arith, n .before .before .before .shared-slice-known .given i) in
+    counts (a .components .now) (a .minimums .now) (a .maximums .now) _ _ _ _ _ _ _ _ known (n .if1 .left) (c .before .before .before .inner-value .ensures) (c .before .before .template-summary .ensures .0)
     (c .before .template-size .ensures .0) (c .size-with-areas .ensures)
 
 pub compute-explicit-grid-size-in-axis-spec : {M : Type 1} → statement M

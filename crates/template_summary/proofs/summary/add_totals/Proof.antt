@@ -13,14 +13,20 @@ add-outside-requires c κs = search needs
 enum-known-count : tie.Need-enum-known-count
 enum-known-count c = search needs
 
-mul-add-outside : tie.Need-mul-add-outside
-mul-add-outside c = let s = c .before .before .before in product-fits _ _ (times-small _ _ _ (c .before .count .given .1) (s .pre .1 .counted)) (s .pre .1 .length)
+int-to-float-factor : tie.Need-int-to-float-factor
+int-to-float-factor c = let s = c .before .before .before .before in small-in-float _ (times-small _ _ _ (c .before .before .count .given .1) (s .pre .1 .counted))
 
-int-to-float-add-outside : tie.Need-int-to-float-add-outside
-int-to-float-add-outside c = let s = c .before .before .before .before in small-in-float _ (times-small _ _ _ (c .before .before .count .given .1) (s .pre .1 .counted))
+mul-add-outside : tie.Need-mul-add-outside
+mul-add-outside c =
+    let k = c .before .before .before in
+    let s = k .before .before in
+    product-fits _ _ (times-small _ _ _ (k .count .given .1) (s .pre .1 .counted)) (s .pre .1 .length)
 
 add-outside-requires-2 : tie.Need-add-outside-requires-2
-add-outside-requires-2 c κs = let s = c .before .before .before .before .before in (omega (arith, s .pre .0 .outside), omega (arith, s .pre .0 .before), (product-small _ _ (times-small _ _ _ (c .before .before .before .count .given .1) (s .pre .1 .counted)) (s .pre .1 .length)))
+add-outside-requires-2 c κs =
+    let k = c .before .before .before in
+    let s = k .before .before in
+    (omega (arith, s .pre .0 .outside), omega (arith, s .pre .0 .before), product-small _ _ (times-small _ _ _ (k .count .given .1) (s .pre .1 .counted)) (s .pre .1 .length))
 
 enum-told-2 : tie.Need-enum-told-2
 enum-told-2 c = search needs
@@ -53,8 +59,8 @@ add-totals-spec =
     enum-told
     add-outside-requires
     enum-known-count
+    int-to-float-factor
     mul-add-outside
-    int-to-float-add-outside
     add-outside-requires-2
     enum-told-2
     add-automatic-requires

@@ -6,9 +6,10 @@ use native.Mathlib.Numerals.{add-one}
 use native.Mathlib.Omega.{arith}
 use borrow.Author.Needs.{needs}
 use lib.Ieee.{Float}
-use Rattle.sizing.specs.declared.MinMax.{MinMax}
-use Rattle.explicit_grid.specs.Template.{trackAt, tracksFrom}
-use Rattle.explicit_grid.specs.Summary.{trackStep}
+use lib.ListN.{getD}
+use Rattle.sizing.specs.Words.{minMaxOf}
+use Rattle.explicit_grid.specs.Template.{tracksFrom}
+use Rattle.explicit_grid.specs.Steps.{ofTrack, addTotals, trackStep}
 use Rattle.explicit_grid.specs.declared.RepetitionCount.{RepetitionCount}
 use Rattle.explicit_grid.specs.declared.TrackTotals.{TrackTotals}
 use Rattle.template_summary.proofs.tracks.repeat_totals.Statement.{statement}
@@ -19,12 +20,12 @@ module _ (minimums maximums : List ℕ) (count : RepetitionCount) (inner : Float
   abbrev rest : TrackTotals → ℕ → ℕ → TrackTotals
   rest s place n = foldl (trackStep count inner) s (tracksFrom minimums maximums place n)
 
-  turn : (place end : ℕ) (s s′ : TrackTotals) (t : MinMax) (all : TrackTotals) → place < end → t ≡ trackAt minimums maximums place → s′ ≡ trackStep count inner s t
-      → rest s place (end - place) ≡ all → rest s′ (place + 1) (end - (place + 1)) ≡ all
+  turn : (place end : ℕ) (s s′ t : TrackTotals) (low high : ℕ) (all : TrackTotals) → place < end → low ≡ getD minimums place 0 → high ≡ getD maximums place 0
+      → t ≡ ofTrack inner (minMaxOf low high) → s′ ≡ addTotals count s t → rest s place (end - place) ≡ all → rest s′ (place + 1) (end - (place + 1)) ≡ all
   unfolding tracksFrom
-  turn place end s s′ t all h e f g =
+  turn place end s s′ t low high all h e f p q g =
       let one : end - place ≡ suc (end - (place + 1)) = omega arith in
-      rw (f, e, add-one place) (rw (one, add-one place) at g)
+      rw (q, p, e, f, add-one place) (rw (one, add-one place) at g)
 
   done : (place end : ℕ) (s all : TrackTotals) → end ≤ place → rest s place (end - place) ≡ all → s ≡ all
   unfolding tracksFrom
@@ -43,8 +44,14 @@ add-end c = omega (arith, c .before .before .before .pre .first, c .before .befo
 loop-holds : tie.Need-loop-holds Inv-loop μ-loop
 loop-holds c = (omega arith, refl)
 
-track-at-requires : tie.Need-track-at-requires Inv-loop μ-loop
-track-at-requires c κs = search needs
+word-at-requires : tie.Need-word-at-requires Inv-loop μ-loop
+word-at-requires c κs = search needs
+
+word-at-requires-2 : tie.Need-word-at-requires-2 Inv-loop μ-loop
+word-at-requires-2 c κs = search needs
+
+track-totals-requires : tie.Need-track-totals-requires Inv-loop μ-loop
+track-totals-requires c κs = search needs
 
 add-track-requires : tie.Need-add-track-requires Inv-loop μ-loop
 add-track-requires c κs = search needs
@@ -57,10 +64,13 @@ loop-less c = omega arith
 
 loop-again : tie.Need-loop-again Inv-loop μ-loop
 loop-again c =
-    let l = c .before .before .before in
+    let w = c .before .before in
+    let l = w .before .before .before in
     let a = l .before .before .before .before .args in (
       omega arith,
-      turn (a .minimums .now) (a .maximums .now) (a .component .count) (a .inner) (l .loop .place) _ (l .loop .totals) (c .add-track .result) (c .before .track-at .result) _ (c .before .before .loop-test .taken) (c .before .track-at .ensures) (c .add-track .ensures) (l .loop .inv .1),
+      turn (a .minimums .now) (a .maximums .now) (a .component .count) (a .inner) (l .loop .place) _ (l .loop .totals) (c .add-track .result) (c .before .track-totals .result)
+          (w .before .word-at .result) (w .word-at2 .result) _ (w .before .before .loop-test .taken) (w .before .word-at .ensures) (w .word-at2 .ensures) (c .before .track-totals .ensures)
+          (c .add-track .ensures) (l .loop .inv .1),
     )
 
 returns : tie.Need-returns Inv-loop μ-loop
@@ -78,7 +88,9 @@ repeat-totals-spec =
     μ-loop
     add-end
     loop-holds
-    track-at-requires
+    word-at-requires
+    word-at-requires-2
+    track-totals-requires
     add-track-requires
     add-place
     loop-less

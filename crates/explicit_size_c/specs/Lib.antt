@@ -1,0 +1,2 @@
+-- What the contract of the bench's call cites.
+pub mod Numbers
