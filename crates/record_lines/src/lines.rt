@@ -1,8 +1,11 @@
 // The other lines, and the record of any line.
 ghost use mathlib.Core.Path.{_≡_};
 ghost use Rattle.text.specs.Split.{split, index};
+ghost use Rattle.text.specs.Places.{partAt, fieldsBy};
 ghost use Rattle.records.specs.Words.{kindWords};
+ghost use Rattle.records.specs.Names.{ofFirst, ofSecond, firstName, secondName};
 ghost use Rattle.records.specs.Records.{edgesOf, madeArea, areaLine, madeName, nameLine, madeExtra, extraLine, madeItem, itemLine, madePlace, placeLine, byKind, recordOf};
+use crate::LineRecord;
 use coordinates::refusal::AREA;
 use coordinates::refusal::UNREAD;
 use record_parts::ends::end;
@@ -19,6 +22,9 @@ use template_lines::templates::axis_line;
 use template_lines::templates::end_line;
 use template_lines::templates::repeat_line;
 use template_lines::templates::sizes_line;
+use text::field_place;
+use text::fields::FIELDS;
+use text::fields::STARTS;
 
 // An area's edges, each start below its end.
 fn edges(rowstart: u32, rowend: u32, columnstart: u32, columnend: u32) -> Record
@@ -52,17 +58,17 @@ fn make_area(name: u32, a: Field, b: Field, c: Field, d: Field) -> Record
 }
 
 // `area`, name, row start, row end, column start, column end
-fn area_line(line: &[u8]) -> Record
-    ensures { λ r. ⌜ r ≡ areaLine (split 9 (now (line .entry))) ⌝ }
+fn area_line(line: &[u8], starts: &[usize; STARTS], fields: usize) -> Record
+    ensures { λ r. ⌜ r ≡ areaLine (fieldsBy (now (starts .entry)) (now (line .entry)) fields) ⌝ }
 {
-    if text::parts(line, 9) != 6 {
+    if fields != 6 {
         return Record::Fault(UNREAD);
     }
-    let name = name_fault(text::part(line, 9, 1));
-    let a = count(text::part(line, 9, 2), 1, 10001);
-    let b = count(text::part(line, 9, 3), 1, 10001);
-    let c = count(text::part(line, 9, 4), 1, 10001);
-    let d = count(text::part(line, 9, 5), 1, 10001);
+    let name = name_fault(text::field(line, starts, 1));
+    let a = count(text::field(line, starts, 2), 1, 10001);
+    let b = count(text::field(line, starts, 3), 1, 10001);
+    let c = count(text::field(line, starts, 4), 1, 10001);
+    let d = count(text::field(line, starts, 5), 1, 10001);
     make_area(name, a, b, c, d)
 }
 
@@ -79,14 +85,14 @@ fn make_name(a: AxisField, name: u32) -> Record
 }
 
 // `name`, axis, name
-fn name_line(line: &[u8]) -> Record
-    ensures { λ r. ⌜ r ≡ nameLine (split 9 (now (line .entry))) ⌝ }
+fn name_line(line: &[u8], starts: &[usize; STARTS], fields: usize) -> Record
+    ensures { λ r. ⌜ r ≡ nameLine (fieldsBy (now (starts .entry)) (now (line .entry)) fields) ⌝ }
 {
-    if text::parts(line, 9) != 3 {
+    if fields != 3 {
         return Record::Fault(UNREAD);
     }
-    let a = axis(text::part(line, 9, 1));
-    let name = name_fault(text::part(line, 9, 2));
+    let a = axis(text::field(line, starts, 1));
+    let name = name_fault(text::field(line, starts, 2));
     make_name(a, name)
 }
 
@@ -103,15 +109,15 @@ fn make_extra(a: AxisField, n: Field, p: Field) -> Record
 }
 
 // `extra`, axis, negative and positive implicit counts
-fn extra_line(line: &[u8]) -> Record
-    ensures { λ r. ⌜ r ≡ extraLine (split 9 (now (line .entry))) ⌝ }
+fn extra_line(line: &[u8], starts: &[usize; STARTS], fields: usize) -> Record
+    ensures { λ r. ⌜ r ≡ extraLine (fieldsBy (now (starts .entry)) (now (line .entry)) fields) ⌝ }
 {
-    if text::parts(line, 9) != 4 {
+    if fields != 4 {
         return Record::Fault(UNREAD);
     }
-    let a = axis(text::part(line, 9, 1));
-    let n = count(text::part(line, 9, 2), 0, 10000);
-    let p = count(text::part(line, 9, 3), 0, 10000);
+    let a = axis(text::field(line, starts, 1));
+    let n = count(text::field(line, starts, 2), 0, 10000);
+    let p = count(text::field(line, starts, 3), 0, 10000);
     make_extra(a, n, p)
 }
 
@@ -128,14 +134,14 @@ fn make_item(a: AxisField, i: Field) -> Record
 }
 
 // `item`, axis, track index
-fn item_line(line: &[u8]) -> Record
-    ensures { λ r. ⌜ r ≡ itemLine (split 9 (now (line .entry))) ⌝ }
+fn item_line(line: &[u8], starts: &[usize; STARTS], fields: usize) -> Record
+    ensures { λ r. ⌜ r ≡ itemLine (fieldsBy (now (starts .entry)) (now (line .entry)) fields) ⌝ }
 {
-    if text::parts(line, 9) != 3 {
+    if fields != 3 {
         return Record::Fault(UNREAD);
     }
-    let a = axis(text::part(line, 9, 1));
-    let i = count(text::part(line, 9, 2), 0, 29999);
+    let a = axis(text::field(line, starts, 1));
+    let i = count(text::field(line, starts, 2), 0, 29999);
     make_item(a, i)
 }
 
@@ -154,58 +160,130 @@ fn make_place(a: AxisField, s: EndField, e: EndField) -> Record
 }
 
 // `place`, axis, then kind, name, number for the start and for the end
-fn place_line(line: &[u8]) -> Record
-    ensures { λ r. ⌜ r ≡ placeLine (split 9 (now (line .entry))) ⌝ }
+fn place_line(line: &[u8], starts: &[usize; STARTS], fields: usize) -> Record
+    ensures { λ r. ⌜ r ≡ placeLine (fieldsBy (now (starts .entry)) (now (line .entry)) fields) ⌝ }
 {
-    if text::parts(line, 9) != 8 {
+    if fields != 8 {
         return Record::Fault(UNREAD);
     }
-    let a = axis(text::part(line, 9, 1));
+    let a = axis(text::field(line, starts, 1));
     let s = end(
-        text::part(line, 9, 2),
-        text::part(line, 9, 3),
-        text::part(line, 9, 4),
+        text::field(line, starts, 2),
+        text::field(line, starts, 3),
+        text::field(line, starts, 4),
     );
     let e = end(
-        text::part(line, 9, 5),
-        text::part(line, 9, 6),
-        text::part(line, 9, 7),
+        text::field(line, starts, 5),
+        text::field(line, starts, 6),
+        text::field(line, starts, 7),
     );
     make_place(a, s, e)
 }
 
-fn by_kind(k: usize, line: &[u8]) -> Record
-    ensures { λ r. ⌜ r ≡ byKind k (split 9 (now (line .entry))) ⌝ }
+fn by_kind(k: usize, line: &[u8], starts: &[usize; STARTS], fields: usize) -> Record
+    ensures { λ r. ⌜ r ≡ byKind k (fieldsBy (now (starts .entry)) (now (line .entry)) fields) ⌝ }
 {
     match k {
-        0 => axis_line(line),
-        1 => area_line(line),
-        2 => name_line(line),
-        3 => sizes_line(false, line),
-        4 => repeat_line(line),
-        5 => end_line(line),
-        6 => sizes_line(true, line),
-        7 => extra_line(line),
-        8 => item_line(line),
-        9 => place_line(line),
+        0 => axis_line(line, starts, fields),
+        1 => area_line(line, starts, fields),
+        2 => name_line(line, starts, fields),
+        3 => sizes_line(false, line, starts, fields),
+        4 => repeat_line(line, starts, fields),
+        5 => end_line(line, starts, fields),
+        6 => sizes_line(true, line, starts, fields),
+        7 => extra_line(line, starts, fields),
+        8 => item_line(line, starts, fields),
+        9 => place_line(line, starts, fields),
         _ => Record::Fault(UNREAD),
     }
 }
 
-// Which kind of record a first field names.
+// Which kind of record a first field names, the commonest asked first.
 fn kind(f: &[u8]) -> usize
     ensures { λ r. ⌜ r ≡ index (now (f .entry)) kindWords ⌝ }
 {
-    text::find_part(
-        b"axis\tarea\tname\ttrack\trepeat\tend\tspare\textra\titem\tplace",
-        9,
-        f,
-    )
+    if text::equal(b"name", f) {
+        return 2;
+    }
+    if text::equal(b"place", f) {
+        return 9;
+    }
+    if text::equal(b"track", f) {
+        return 3;
+    }
+    if text::equal(b"item", f) {
+        return 8;
+    }
+    if text::equal(b"area", f) {
+        return 1;
+    }
+    if text::equal(b"extra", f) {
+        return 7;
+    }
+    if text::equal(b"repeat", f) {
+        return 4;
+    }
+    if text::equal(b"end", f) {
+        return 5;
+    }
+    if text::equal(b"spare", f) {
+        return 6;
+    }
+    if text::equal(b"axis", f) {
+        return 0;
+    }
+    10
 }
 
-// The record that a line makes.
-pub fn read_record(line: &[u8]) -> Record
-    ensures { λ r. ⌜ r ≡ recordOf (split 9 (now (line .entry))) ⌝ }
+// The field of a record that holds its first name; past the fields that are kept where there is none.
+fn first_name_field(said: Record) -> usize
+    ensures { λ r. ⌜ r ≡ ofFirst 14 (λ k. k) said ⌝ }
 {
-    by_kind(kind(text::part(line, 9, 0)), line)
+    match said {
+        Record::Fault(_) => FIELDS,
+        Record::Axis(_) => FIELDS,
+        Record::Area(_) => 1,
+        Record::Name(_) => 2,
+        Record::Track(_, _, _) => FIELDS,
+        Record::Repeat(_, _) => FIELDS,
+        Record::End(_) => FIELDS,
+        Record::Spare(_, _, _) => FIELDS,
+        Record::Extra(_, _, _) => FIELDS,
+        Record::Item(_, _) => FIELDS,
+        Record::Place(_, _, _) => 3,
+    }
+}
+
+// The field of a record that holds its second name, likewise.
+fn second_name_field(said: Record) -> usize
+    ensures { λ r. ⌜ r ≡ ofSecond 14 (λ k. k) said ⌝ }
+{
+    match said {
+        Record::Fault(_) => FIELDS,
+        Record::Axis(_) => FIELDS,
+        Record::Area(_) => FIELDS,
+        Record::Name(_) => FIELDS,
+        Record::Track(_, _, _) => FIELDS,
+        Record::Repeat(_, _) => FIELDS,
+        Record::End(_) => FIELDS,
+        Record::Spare(_, _, _) => FIELDS,
+        Record::Extra(_, _, _) => FIELDS,
+        Record::Item(_, _) => FIELDS,
+        Record::Place(_, _, _) => 6,
+    }
+}
+
+// The record that a line makes, and where its names lie in the line.
+pub fn read_record(line: &[u8]) -> LineRecord
+    ensures { λ r. ⌜ (r .said ≡ recordOf (split 9 (now (line .entry)))) × (partAt (now (line .entry)) (r .first) ≡ firstName (r .said) (split 9 (now (line .entry)))) × (partAt (now (line .entry)) (r .second) ≡ secondName (r .said) (split 9 (now (line .entry)))) ⌝ }
+{
+    let mut starts = [0usize; STARTS];
+    let fields = text::cut_parts(line, 9, &mut starts);
+    let k = kind(text::field(line, &starts, 0));
+    let said = by_kind(k, line, &starts, fields);
+    LineRecord {
+        said,
+        first: field_place(&starts, first_name_field(said)),
+        second: field_place(&starts, second_name_field(said)),
+    }
 }

@@ -11,13 +11,31 @@ use records::PlaceEnd;
 use records::fault::first_fault;
 use records::field::Field;
 use records::field::count;
-use records::field::word;
 use records::name::name_fault;
 
+// The number of a kind of end; unread where the field names none.
 fn kind(f: &[u8]) -> Field
     ensures { λ r. ⌜ r ≡ endKind (now (f .entry)) ⌝ }
 {
-    word(b"auto\tline\tnamed\tspan\tnspan", 5, f)
+    if text::equal(b"line", f) {
+        return Field { fault: 0, value: 1 };
+    }
+    if text::equal(b"named", f) {
+        return Field { fault: 0, value: 2 };
+    }
+    if text::equal(b"span", f) {
+        return Field { fault: 0, value: 3 };
+    }
+    if text::equal(b"auto", f) {
+        return Field { fault: 0, value: 0 };
+    }
+    if text::equal(b"nspan", f) {
+        return Field { fault: 0, value: 4 };
+    }
+    Field {
+        fault: UNREAD,
+        value: 0,
+    }
 }
 
 // An unused name is `-`.

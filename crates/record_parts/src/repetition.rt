@@ -18,18 +18,19 @@ fn repetition_field(c: Field) -> RepeatRecord
 pub fn repetition(f: &[u8]) -> RepeatRecord
     ensures { λ r. ⌜ r ≡ repetitionOf (now (f .entry)) ⌝ }
 {
-    let i = text::find_part(b"fill\tfit", 9, f);
-    match i {
-        0 => RepeatRecord {
+    if text::equal(b"fill", f) {
+        return RepeatRecord {
             fault: 0,
             kind: 1,
             number: 0,
-        },
-        1 => RepeatRecord {
+        };
+    }
+    if text::equal(b"fit", f) {
+        return RepeatRecord {
             fault: 0,
             kind: 2,
             number: 0,
-        },
-        _ => repetition_field(count(f, 0, 65535)),
+        };
     }
+    repetition_field(count(f, 0, 65535))
 }

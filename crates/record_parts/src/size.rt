@@ -8,13 +8,39 @@ use records::InnerField;
 use records::Position;
 use records::SizeField;
 use records::field::Field;
-use records::field::word;
 
 // The number of a kind of size; unread where the field names none.
 fn kind(f: &[u8]) -> Field
     ensures { λ r. ⌜ r ≡ kindOf (now (f .entry)) ⌝ }
 {
-    word(b"len\tpct\tfr\tauto\tmin\tmax\tfitl\tfitp", 8, f)
+    if text::equal(b"len", f) {
+        return Field { fault: 0, value: 0 };
+    }
+    if text::equal(b"fr", f) {
+        return Field { fault: 0, value: 2 };
+    }
+    if text::equal(b"auto", f) {
+        return Field { fault: 0, value: 3 };
+    }
+    if text::equal(b"pct", f) {
+        return Field { fault: 0, value: 1 };
+    }
+    if text::equal(b"min", f) {
+        return Field { fault: 0, value: 4 };
+    }
+    if text::equal(b"max", f) {
+        return Field { fault: 0, value: 5 };
+    }
+    if text::equal(b"fitl", f) {
+        return Field { fault: 0, value: 6 };
+    }
+    if text::equal(b"fitp", f) {
+        return Field { fault: 0, value: 7 };
+    }
+    Field {
+        fault: UNREAD,
+        value: 0,
+    }
 }
 
 // Whether a kind may stand there.

@@ -5,5 +5,6 @@ pub mod Fields
 pub mod Sizes
 pub mod Ends
 pub mod Records
+pub mod Names
 pub mod Forms
 pub mod Rows

@@ -1,7 +1,6 @@
 // What one field gives: a fault, 0 where there is none, and a value.
 ghost use mathlib.Core.Path.{_≡_};
-ghost use Rattle.text.specs.Split.{split, index};
-ghost use Rattle.records.specs.Fields.{wordOf, axisOf, countField, countOf};
+ghost use Rattle.records.specs.Fields.{axisOf, countField, countOf};
 use coordinates::Axis;
 use coordinates::refusal::COUNT;
 use coordinates::refusal::UNREAD;
@@ -17,42 +16,25 @@ pub struct AxisField {
     pub axis: Axis,
 }
 
-// The number of the word that f is among at most n words that tabs part; else unread.
-pub fn word(words: &[u8], n: u32, f: &[u8]) -> Field
-    ensures { λ r. ⌜ r ≡ wordOf n (index (now (f .entry)) (split 9 (now (words .entry)))) ⌝ }
-{
-    let i = text::find_part(words, 9, f);
-    if i < (n as usize) {
-        Field {
-            fault: 0,
-            value: i as u32,
-        }
-    } else {
-        Field {
-            fault: UNREAD,
-            value: 0,
-        }
-    }
-}
-
 // An axis is `c` or `r`.
 pub fn axis(f: &[u8]) -> AxisField
     ensures { λ r. ⌜ r ≡ axisOf (now (f .entry)) ⌝ }
 {
-    let i = text::find_part(b"c\tr", 9, f);
-    match i {
-        0 => AxisField {
+    if text::equal(b"c", f) {
+        return AxisField {
             fault: 0,
             axis: Axis::Column,
-        },
-        1 => AxisField {
+        };
+    }
+    if text::equal(b"r", f) {
+        return AxisField {
             fault: 0,
             axis: Axis::Row,
-        },
-        _ => AxisField {
-            fault: UNREAD,
-            axis: Axis::Column,
-        },
+        };
+    }
+    AxisField {
+        fault: UNREAD,
+        axis: Axis::Column,
     }
 }
 

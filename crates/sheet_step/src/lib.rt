@@ -55,7 +55,8 @@ pub fn read_line(
 ) -> PanelRead
     ensures { λ r. ⌜ record { fault = r .fault; held = heldAs (r .panel) (r .reading) (now (columns .exit)) (now (rows .exit)) (now (columnmarks .exit)) (now (rowmarks .exit)) (now (columnbytes .exit)) (now (rowbytes .exit)) (now (areas .exit)) (now (areabytes .exit)) (now (placements .exit)) (now (placementbytes .exit)) } ≡ lineIn (heldAs panel reading (now (columns .entry)) (now (rows .entry)) (now (columnmarks .entry)) (now (rowmarks .entry)) (now (columnbytes .entry)) (now (rowbytes .entry)) (now (areas .entry)) (now (areabytes .entry)) (now (placements .entry)) (now (placementbytes .entry))) (split 9 (now (line .entry))) ⌝ }
 {
-    let said = read_record(line);
+    let there = read_record(line);
+    let said = there.said;
     let before = fault_before(panel.areas, reading, areas, areabytes, line, said);
     let read = panel_record(
         panel,

@@ -1,6 +1,6 @@
-// The lines that make a template and its axis: `axis`, `track`, `spare`, `repeat`, `end`.
+// The lines that make a template and its axis: `axis`, `track`, `spare`, `repeat`, `end`. A line comes with the starts of its fields and their number.
 ghost use mathlib.Core.Path.{_≡_};
-ghost use Rattle.text.specs.Split.{split};
+ghost use Rattle.text.specs.Places.{fieldsBy};
 ghost use Rattle.records.specs.Fields.{ruleOf};
 ghost use Rattle.records.specs.Records.{madeAxis, axisLine, madeSizes, sizesLine, madeRepeat, repeatLine, madeEnd, endLine};
 use coordinates::refusal::UNREAD;
@@ -17,12 +17,22 @@ use records::fault::first_fault;
 use records::field::AxisField;
 use records::field::Field;
 use records::field::axis;
-use records::field::word;
+use text::fields::STARTS;
 
+// The rule, `max` or `min`.
 fn rule(f: &[u8]) -> Field
     ensures { λ r. ⌜ r ≡ ruleOf (now (f .entry)) ⌝ }
 {
-    word(b"max\tmin", 2, f)
+    if text::equal(b"max", f) {
+        return Field { fault: 0, value: 0 };
+    }
+    if text::equal(b"min", f) {
+        return Field { fault: 0, value: 1 };
+    }
+    Field {
+        fault: UNREAD,
+        value: 0,
+    }
 }
 
 fn make_axis(a: AxisField, i: InnerField, r: Field, g: SizeField) -> Record
@@ -44,19 +54,19 @@ fn make_axis(a: AxisField, i: InnerField, r: Field, g: SizeField) -> Record
 }
 
 // `axis`, axis, inner size or `-`, `max` or `min`, gap kind, gap
-pub fn axis_line(line: &[u8]) -> Record
-    ensures { λ r. ⌜ r ≡ axisLine (split 9 (now (line .entry))) ⌝ }
+pub fn axis_line(line: &[u8], starts: &[usize; STARTS], fields: usize) -> Record
+    ensures { λ r. ⌜ r ≡ axisLine (fieldsBy (now (starts .entry)) (now (line .entry)) fields) ⌝ }
 {
-    if text::parts(line, 9) != 6 {
+    if fields != 6 {
         return Record::Fault(UNREAD);
     }
-    let a = axis(text::part(line, 9, 1));
-    let i = inner(text::part(line, 9, 2));
-    let r = rule(text::part(line, 9, 3));
+    let a = axis(text::field(line, starts, 1));
+    let i = inner(text::field(line, starts, 2));
+    let r = rule(text::field(line, starts, 3));
     let g = size(
         Position::Gap,
-        text::part(line, 9, 4),
-        text::part(line, 9, 5),
+        text::field(line, starts, 4),
+        text::field(line, starts, 5),
     );
     make_axis(a, i, r, g)
 }
@@ -77,22 +87,22 @@ fn make_sizes(spare: bool, a: AxisField, min: SizeField, max: SizeField) -> Reco
 }
 
 // `track` or `spare`, axis, minimum kind, value, maximum kind, value
-pub fn sizes_line(spare: bool, line: &[u8]) -> Record
-    ensures { λ r. ⌜ r ≡ sizesLine spare (split 9 (now (line .entry))) ⌝ }
+pub fn sizes_line(spare: bool, line: &[u8], starts: &[usize; STARTS], fields: usize) -> Record
+    ensures { λ r. ⌜ r ≡ sizesLine spare (fieldsBy (now (starts .entry)) (now (line .entry)) fields) ⌝ }
 {
-    if text::parts(line, 9) != 6 {
+    if fields != 6 {
         return Record::Fault(UNREAD);
     }
-    let a = axis(text::part(line, 9, 1));
+    let a = axis(text::field(line, starts, 1));
     let min = size(
         Position::Minimum,
-        text::part(line, 9, 2),
-        text::part(line, 9, 3),
+        text::field(line, starts, 2),
+        text::field(line, starts, 3),
     );
     let max = size(
         Position::Maximum,
-        text::part(line, 9, 4),
-        text::part(line, 9, 5),
+        text::field(line, starts, 4),
+        text::field(line, starts, 5),
     );
     make_sizes(spare, a, min, max)
 }
@@ -111,14 +121,14 @@ fn make_repeat(a: AxisField, n: RepeatRecord) -> Record
 }
 
 // `repeat`, axis, count or `fill` or `fit`
-pub fn repeat_line(line: &[u8]) -> Record
-    ensures { λ r. ⌜ r ≡ repeatLine (split 9 (now (line .entry))) ⌝ }
+pub fn repeat_line(line: &[u8], starts: &[usize; STARTS], fields: usize) -> Record
+    ensures { λ r. ⌜ r ≡ repeatLine (fieldsBy (now (starts .entry)) (now (line .entry)) fields) ⌝ }
 {
-    if text::parts(line, 9) != 3 {
+    if fields != 3 {
         return Record::Fault(UNREAD);
     }
-    let a = axis(text::part(line, 9, 1));
-    let n = repetition(text::part(line, 9, 2));
+    let a = axis(text::field(line, starts, 1));
+    let n = repetition(text::field(line, starts, 2));
     make_repeat(a, n)
 }
 
@@ -134,11 +144,11 @@ fn make_end(a: AxisField) -> Record
 }
 
 // `end`, axis
-pub fn end_line(line: &[u8]) -> Record
-    ensures { λ r. ⌜ r ≡ endLine (split 9 (now (line .entry))) ⌝ }
+pub fn end_line(line: &[u8], starts: &[usize; STARTS], fields: usize) -> Record
+    ensures { λ r. ⌜ r ≡ endLine (fieldsBy (now (starts .entry)) (now (line .entry)) fields) ⌝ }
 {
-    if text::parts(line, 9) != 2 {
+    if fields != 2 {
         return Record::Fault(UNREAD);
     }
-    make_end(axis(text::part(line, 9, 1)))
+    make_end(axis(text::field(line, starts, 1)))
 }

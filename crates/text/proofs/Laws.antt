@@ -116,25 +116,9 @@ module _ (a b : List ℕ) (i : ℕ) where
   unfolding same
   same-differ h k e = rw (drop-cons a i 0 h, drop-cons b i 0 k, ne-eqb (getD a i 0) (getD b i 0) e)
 
-  pub same-short : i < length a → length b ≤ i → same (drop i a) (drop i b) ≡ false
-  unfolding same
-  same-short h k = rw (drop-cons a i 0 h, drop-of-length-le b k)
-
-  pub same-long : length a ≤ i → i < length b → same (drop i a) (drop i b) ≡ false
-  unfolding same
-  same-long h k = rw (drop-cons b i 0 k, drop-of-length-le a h)
-
   pub same-end : length a ≤ i → length b ≤ i → same (drop i a) (drop i b) ≡ true
   unfolding same
   same-end h k = rw (drop-of-length-le a h, drop-of-length-le b k)
-
--- where the first is used up, equal is that the second is too
-pub same-rest : (a b : List ℕ) (i : ℕ) → length a ≡ i → i ≤ length b → eqb i (length b) ≡ same (drop i a) (drop i b)
-same-rest a b i e h =
-    ⊎-elim
-    (λ q. eq-eqb i (length b) q ∙ sym (same-end a b i (omega arith) (omega arith)))
-    (λ q. ne-eqb i (length b) (λ z. omega arith) ∙ sym (same-long a b i (omega arith) q))
-    (eq-or-lt-of-le h)
 
 -- which part f is, from a place on; 0 past the end
 unfoldable pub indexFrom : ℕ → List ℕ → List ℕ → ℕ → ℕ

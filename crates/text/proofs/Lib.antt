@@ -2,3 +2,4 @@
 pub mod Laws
 pub mod Cut
 pub mod Which
+pub mod Places

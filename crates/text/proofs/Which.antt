@@ -28,6 +28,14 @@ same-self (x ∷ xs) = rw (eq-eqb x x refl) (same-self xs)
 pub unequal : (a b : List ℕ) → same a b ≡ false → a ≡ b → ⊥
 unequal a b e d = false≢true (sym e ∙ ap (λ (l : List ℕ). same l b) d ∙ same-self b)
 
+-- texts of other lengths are not equal
+pub same-length : (a b : List ℕ) → (length a ≡ length b → ⊥) → same a b ≡ false
+same-length a b h = go (same a b) refl
+  where
+    go : (t : Bool) → same a b ≡ t → same a b ≡ false
+    go true q = absurd (h (ap length (same-equal a b q)))
+    go false q = q
+
 -- the place found is below the number of words only where the text is that word
 pub index-word : (f : List ℕ) (ws : List (List ℕ)) → index f ws < length ws → f ≡ getD ws (index f ws) []
 unfolding index

@@ -2,7 +2,7 @@
 ghost use mathlib.Core.Path.{_≡_};
 ghost use mathlib.Core.List.{[]};
 ghost use Prim.Native.Nat.{_+_};
-ghost use lib.ListN.{length, drop, getD};
+ghost use lib.ListN.{drop, getD};
 ghost use Rattle.text.specs.Split.{before, split};
 
 // The first place from `at` on where `b` stands; the length where there is none, and `at` itself past the length.
@@ -35,19 +35,4 @@ pub fn part(s: &[u8], b: u8, k: usize) -> &[u8]
     }
     let e = find(s, at, b);
     &s[at..e]
-}
-
-// How many parts there are.
-pub fn parts(s: &[u8], b: u8) -> usize
-    ensures { λ r. ⌜ r ≡ length (split b (now (s .entry))) ⌝ }
-{
-    let mut n: usize = 1;
-    let mut i: usize = 0;
-    while i < s.len() {
-        if s[i] == b {
-            n += 1;
-        }
-        i += 1;
-    }
-    n
 }

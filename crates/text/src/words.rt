@@ -7,17 +7,17 @@ use crate::split::find;
 pub fn equal(a: &[u8], b: &[u8]) -> bool
     ensures { λ r. ⌜ r ≡ same (now (a .entry)) (now (b .entry)) ⌝ }
 {
+    if a.len() != b.len() {
+        return false;
+    }
     let mut i: usize = 0;
     while i < a.len() {
-        if i == b.len() {
-            return false;
-        }
         if a[i] != b[i] {
             return false;
         }
         i += 1;
     }
-    i == b.len()
+    true
 }
 
 // The place of f among the words, which the separator b parts; their number where it is none of them.

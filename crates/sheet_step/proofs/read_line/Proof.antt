@@ -25,7 +25,7 @@ at-stage-requires : tie.Need-at-stage-requires
 at-stage-requires c κs = search needs
 
 returns : tie.Need-returns
-returns c = let a = c .before .before .before .before .before .before .before .before .before .before .before .before .before .before .before .before .before .before .before .args in let h : PanelHeld = heldAs (a .panel) (a .reading) (a .columns .now) (a .rows .now) (a .columnmarks .now) (a .rowmarks .now) (a .columnbytes .now) (a .rowbytes .now) (a .areas .now) (a .areabytes .now) (a .placements .now) (a .placementbytes .now) in let fs = split 9 (a .line .now) in simp (c .at-stage .ensures) (line-by h fs (c .before .before .before .before .before .before .before .before .before .before .before .before .before .before .before .before .before .read-record .ensures) (c .before .before .before .before .before .before .before .before .before .before .before .before .before .before .fault-before .ensures) (c .before .before .before .panel-record .ensures) (c .before .stage .ensures) (c .before .before .first-fault .ensures))
+returns c = let a = c .before .before .before .before .before .before .before .before .before .before .before .before .before .before .before .before .before .before .before .args in let h : PanelHeld = heldAs (a .panel) (a .reading) (a .columns .now) (a .rows .now) (a .columnmarks .now) (a .rowmarks .now) (a .columnbytes .now) (a .rowbytes .now) (a .areas .now) (a .areabytes .now) (a .placements .now) (a .placementbytes .now) in let fs = split 9 (a .line .now) in simp (c .at-stage .ensures) (line-by h fs (c .before .before .before .before .before .before .before .before .before .before .before .before .before .before .before .before .before .read-record .ensures .0) (c .before .before .before .before .before .before .before .before .before .before .before .before .before .before .fault-before .ensures) (c .before .before .before .panel-record .ensures) (c .before .stage .ensures) (c .before .before .first-fault .ensures))
 
 pub read-line-spec : {M : Type 1} → statement M
 read-line-spec =

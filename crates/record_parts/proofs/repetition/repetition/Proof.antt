@@ -1,15 +1,33 @@
-use borrow.Author.Tests.{ne-eqb}
+use mathlib.Core.Path.{sym, ap, _∙_}
+use mathlib.Core.List.{[]}
+use lib.ListN.{getD}
+use Rattle.text.specs.Split.{same, index}
+use Rattle.text.proofs.Which.{same-equal}
 use Rattle.records.specs.Fields.{repetitionOf}
-use Rattle.text.specs.Split.{split, onto}
+use Rattle.records.specs.Words.{repeatWords}
 use borrow.Author.Needs.{needs}
 use Rattle.record_parts.proofs.repetition.repetition.Statement.{statement}
 use Rattle.record_parts.proofs.repetition.repetition.Tie as tie
 
-slice-aggregate-find-part : tie.Need-slice-aggregate-find-part
-slice-aggregate-find-part c = search needs
+slice-aggregate-equal : tie.Need-slice-aggregate-equal
+slice-aggregate-equal c = search needs
 
-find-part-requires : tie.Need-find-part-requires
-find-part-requires c κs = search needs
+equal-requires : tie.Need-equal-requires
+equal-requires c κs = search needs
+
+returns : tie.Need-returns
+unfolding repetitionOf index same
+returns c = ap repetitionOf (same-equal (getD repeatWords 0 []) (c .before .before .before .before .args .f .now) (sym (c .before .equal .ensures) ∙ c .if1 .taken))
+
+slice-aggregate-equal-2 : tie.Need-slice-aggregate-equal-2
+slice-aggregate-equal-2 c = search needs
+
+equal-requires-2 : tie.Need-equal-requires-2
+equal-requires-2 c κs = search needs
+
+returns-2 : tie.Need-returns-2
+unfolding repetitionOf index same
+returns-2 c = ap repetitionOf (same-equal (getD repeatWords 1 []) (c .before .before .before .before .before .before .before .args .f .now) (sym (c .before .equal2 .ensures) ∙ c .if2 .taken))
 
 count-requires : tie.Need-count-requires
 count-requires c κs = search needs
@@ -17,26 +35,21 @@ count-requires c κs = search needs
 repetition-field-requires : tie.Need-repetition-field-requires
 repetition-field-requires c κs = search needs
 
-returns : tie.Need-returns
-unfolding repetitionOf split onto
-returns c = simp (← (c .before .find-part .ensures), c .match .keys1)
-
-returns-2 : tie.Need-returns-2
-unfolding repetitionOf split onto
-returns-2 c = simp (← (c .before .find-part .ensures), c .match .keys2)
-
 returns-3 : tie.Need-returns-3
-unfolding repetitionOf split onto
-returns-3 c = simp (← (c .before .before .before .find-part .ensures), ne-eqb _ _ (c .before .before .match .rest .1), ne-eqb _ _ (c .before .before .match .rest .0 .1), ← (c .before .count .ensures)) (c .repetition-field .ensures)
+unfolding repetitionOf index
+returns-3 c =
+    simp (sym (c .before .before .before .before .before .before .equal .ensures) ∙ c .before .before .before .before .before .if1 .left, sym (c .before .before .before .equal2 .ensures) ∙ c .before .before .if2 .left, ← (c .before .count .ensures)) (c .repetition-field .ensures)
 
 pub repetition-spec : {M : Type 1} → statement M
 repetition-spec =
     tie.close
     (tie.spec
-    slice-aggregate-find-part
-    find-part-requires
+    slice-aggregate-equal
+    equal-requires
+    returns
+    slice-aggregate-equal-2
+    equal-requires-2
+    returns-2
     count-requires
     repetition-field-requires
-    returns
-    returns-2
     returns-3)

@@ -1,28 +1,50 @@
-use borrow.Author.Tests.{ne-eqb}
+use mathlib.Core.Path.{sym, ap, _∙_}
+use mathlib.Core.List.{[]}
+use lib.ListN.{getD}
+use Rattle.text.specs.Split.{same, index}
+use Rattle.text.proofs.Which.{same-equal}
 use Rattle.records.specs.Fields.{axisOf}
-use Rattle.text.specs.Split.{split, onto}
+use Rattle.records.specs.Words.{axisWords}
 use borrow.Author.Needs.{needs}
 use Rattle.records.proofs.field.axis.Statement.{statement}
 use Rattle.records.proofs.field.axis.Tie as tie
 
-slice-aggregate-find-part : tie.Need-slice-aggregate-find-part
-slice-aggregate-find-part c = search needs
+slice-aggregate-equal : tie.Need-slice-aggregate-equal
+slice-aggregate-equal c = search needs
 
-find-part-requires : tie.Need-find-part-requires
-find-part-requires c κs = search needs
+equal-requires : tie.Need-equal-requires
+equal-requires c κs = search needs
 
 returns : tie.Need-returns
-unfolding axisOf split onto
-returns c = simp (← (c .before .find-part .ensures), c .match .keys1)
+unfolding axisOf index same
+returns c = ap axisOf (same-equal (getD axisWords 0 []) (c .before .before .before .before .args .f .now) (sym (c .before .equal .ensures) ∙ c .if1 .taken))
+
+slice-aggregate-equal-2 : tie.Need-slice-aggregate-equal-2
+slice-aggregate-equal-2 c = search needs
+
+equal-requires-2 : tie.Need-equal-requires-2
+equal-requires-2 c κs = search needs
 
 returns-2 : tie.Need-returns-2
-unfolding axisOf split onto
-returns-2 c = simp (← (c .before .find-part .ensures), c .match .keys2)
+unfolding axisOf index same
+returns-2 c = ap axisOf (same-equal (getD axisWords 1 []) (c .before .before .before .before .before .before .before .args .f .now) (sym (c .before .equal2 .ensures) ∙ c .if2 .taken))
 
 returns-3 : tie.Need-returns-3
-unfolding axisOf split onto
-returns-3 c = simp (← (c .before .find-part .ensures), ne-eqb _ _ (c .match .rest .1), ne-eqb _ _ (c .match .rest .0 .1))
+unfolding axisOf index
+returns-3 c =
+    simp (
+      sym (c .before .before .before .before .equal .ensures) ∙ c .before .before .before .if1 .left,
+      sym (c .before .equal2 .ensures) ∙ c .if2 .left,
+    )
 
 pub axis-spec : {M : Type 1} → statement M
 axis-spec =
-    tie.close (tie.spec slice-aggregate-find-part find-part-requires returns returns-2 returns-3)
+    tie.close
+    (tie.spec
+    slice-aggregate-equal
+    equal-requires
+    returns
+    slice-aggregate-equal-2
+    equal-requires-2
+    returns-2
+    returns-3)

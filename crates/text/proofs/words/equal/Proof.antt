@@ -1,28 +1,26 @@
--- `text::equal` meets its contract: the two are equal where what follows `i` is. Assumes nothing.
+-- `text::equal` meets its contract: texts of one length are equal where what follows `i` is. Assumes nothing.
 use Prim.Native.Nat.{_-_, _≤_}
 use mathlib.Core.Path.{_≡_, refl, sym, _∙_}
 use native.Mathlib.Omega.{arith}
 use borrow.Author.Needs.{needs}
 use lib.ListN.{length, drop}
 use Rattle.text.specs.Split.{same}
-use Rattle.text.proofs.Laws.{same-next, same-differ, same-short, same-rest}
+use Rattle.text.proofs.Laws.{same-next, same-differ, same-end}
+use Rattle.text.proofs.Which.{same-length}
 use Rattle.text.proofs.words.equal.Statement.{statement}
 use Rattle.text.proofs.words.equal.Tie as tie
 
 abbrev Inv-loop : tie.InvT-loop
-Inv-loop a b i₀ i = (i ≤ length a) × (i ≤ length b) × (same a b ≡ same (drop i a) (drop i b))
+Inv-loop a b i₀ i = (i ≤ length a) × (same a b ≡ same (drop i a) (drop i b))
 
 abbrev μ-loop : tie.MeasureT-loop
 μ-loop a b i₀ i = length a - i
 
-loop-holds : tie.Need-loop-holds Inv-loop μ-loop
-loop-holds c = (search needs, search needs, refl)
-
 returns : tie.Need-returns Inv-loop μ-loop
-returns c =
-    let a = c .before .before .before .args in
-    let l = c .before .before .loop in
-    sym (l .inv .2 ∙ same-short (a .a .now) (a .b .now) (l .i) (omega arith) (omega arith))
+returns c = let a = c .before .args in sym (same-length (a .a .now) (a .b .now) (c .if1 .taken))
+
+loop-holds : tie.Need-loop-holds Inv-loop μ-loop
+loop-holds c = (search needs, refl)
 
 shared-slice-read-if2 : tie.Need-shared-slice-read-if2 Inv-loop μ-loop
 shared-slice-read-if2 c = omega arith
@@ -33,8 +31,8 @@ shared-slice-read-if2-2 c = omega arith
 returns-2 : tie.Need-returns-2 Inv-loop μ-loop
 returns-2 c =
     let a = c .before .before .before .before .before .before .args in
-    let l = c .before .before .before .before .before .loop in
-    sym (l .inv .2 ∙ same-differ (a .a .now) (a .b .now) (l .i) (omega arith) (omega arith) (c .if2 .taken))
+    let l = c .before .before .before .before .loop in
+    sym (l .inv .1 ∙ same-differ (a .a .now) (a .b .now) (l .i) (omega arith) (omega arith) (c .if2 .taken))
 
 add-i : tie.Need-add-i Inv-loop μ-loop
 add-i c = omega arith
@@ -45,15 +43,14 @@ loop-less c = omega arith
 loop-again : tie.Need-loop-again Inv-loop μ-loop
 loop-again c =
     let a = c .before .before .before .before .before .before .args in
-    let l = c .before .before .before .before .before .loop in
-    (omega arith, omega arith, l .inv .2 ∙ same-next (a .a .now) (a .b .now) (l .i) (omega arith) (omega arith) (c .if2 .left))
+    let l = c .before .before .before .before .loop in
+    (omega arith, l .inv .1 ∙ same-next (a .a .now) (a .b .now) (l .i) (omega arith) (omega arith) (c .if2 .left))
 
 returns-3 : tie.Need-returns-3 Inv-loop μ-loop
 returns-3 c =
-    let a = c .before .before .args in
+    let a = c .before .before .before .args in
     let l = c .before .loop in
-    let e : length (a .a .now) ≡ l .i = omega arith in
-    same-rest (a .a .now) (a .b .now) (l .i) e (l .inv .1) ∙ sym (l .inv .2)
+    sym (l .inv .1 ∙ same-end (a .a .now) (a .b .now) (l .i) (omega arith) (omega arith))
 
 pub equal-spec : {M : Type 1} → statement M
 equal-spec =
@@ -61,8 +58,8 @@ equal-spec =
     (tie.spec
     Inv-loop
     μ-loop
-    loop-holds
     returns
+    loop-holds
     shared-slice-read-if2
     shared-slice-read-if2-2
     returns-2

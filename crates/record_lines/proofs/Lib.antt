@@ -1,0 +1,2 @@
+-- Laws of a line that is cut once.
+pub mod Cuts
