@@ -60,3 +60,10 @@ pub struct Plan {
     pub written: u32,
     pub opened: u64,
 }
+
+// What is carried from record to record of an axis: its plan, and the cursor that belongs to the next record.
+pub struct TrackWalk {
+    pub axis: AxisTracks,
+    pub plan: Plan,
+    pub cursor: Cursor,
+}

@@ -7,7 +7,7 @@ use Rattle.coordinates.specs.declared.axis.Axis.{Axis}
 use Rattle.coordinates.specs.declared.axis.Axis.the-variants.{Column, Row}
 use Rattle.grid_track.specs.Records.{recordsIn}
 use Rattle.name_store.specs.LineNames.{ofAxis}
-use Rattle.track_run.specs.declared.state.FillState.{FillState}
+use Rattle.grid_track.specs.declared.TrackWalk.{TrackWalk}
 use Rattle.panel_tables.specs.declared.Panel.{Panel}
 use Rattle.panel_tables.specs.Axes.{stateIn}
 use Rattle.panel_rules.specs.Calls.{wordsIn, axisTracks}
@@ -35,7 +35,7 @@ afterAxis p Column = Size Row
 afterAxis p Row = placeFrom p 0
 
 -- record i + 1 of an axis, or what comes after the axis
-abbrev pub recordFrom : Panel → List ℕ → Axis → ℕ → FillState → AnswerLine
+abbrev pub recordFrom : Panel → List ℕ → Axis → ℕ → TrackWalk → AnswerLine
 recordFrom p words a i s =
     cond (ltb (i + 1) (recordsIn (axisTracks (stateIn p a)))) (Record a (i + 1) (carriedOn (stateIn p a) words s i)) (afterAxis p a)
 

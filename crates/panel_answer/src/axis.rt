@@ -12,11 +12,11 @@ use crate::AnswerLine;
 use crate::place::place_from;
 use coordinates::Axis;
 use grid_track::GridTrack;
+use grid_track::TrackWalk;
 use panel_grid::size::explicit_size;
 use panel_grid::track;
 use panel_tables::Panel;
 use tables::layout::AXIS_WORDS;
-use track_run::state::FillState;
 
 // The line of an axis's size.
 pub(crate) fn put_size(out: &mut [u8], panel: Panel, axis: Axis) -> usize
@@ -35,7 +35,7 @@ fn record_of(
     rowmarks: &[u8],
     axis: Axis,
     index: u32,
-    state: FillState,
+    state: TrackWalk,
 ) -> GridTrack
     ensures { λ r. ⌜ r ≡ carriedRecord (stateIn panel axis) (ofAxis axis (now (columns .entry)) (now (rows .entry))) (ofAxis axis (now (columnmarks .entry)) (now (rowmarks .entry))) state index ⌝ }
 {
@@ -56,7 +56,7 @@ pub(crate) fn put_record(
     rowmarks: &[u8],
     axis: Axis,
     index: u32,
-    state: FillState,
+    state: TrackWalk,
 ) -> usize
     ensures { λ r. ⌜ WritesLine (now (out .entry)) (recordLine index (carriedRecord (stateIn panel axis) (ofAxis axis (now (columns .entry)) (now (rows .entry))) (ofAxis axis (now (columnmarks .entry)) (now (rowmarks .entry))) state index)) (now (out .exit)) r ⌝ }
 {
@@ -113,7 +113,7 @@ pub(crate) fn next_record(
     rows: &[u64; AXIS_WORDS],
     axis: Axis,
     index: u32,
-    state: FillState,
+    state: TrackWalk,
 ) -> AnswerLine
     ensures { λ r. ⌜ r ≡ recordFrom panel (ofAxis axis (now (columns .entry)) (now (rows .entry))) axis index state ⌝ }
 {

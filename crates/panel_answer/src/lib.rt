@@ -9,18 +9,18 @@ mod axis;
 mod place;
 
 use coordinates::Axis;
+use grid_track::TrackWalk;
 use panel_tables::Panel;
 use panel_tables::area::AREA_BYTES;
 use panel_tables::area::AREA_WORDS;
 use panel_tables::placement::PLACEMENT_BYTES;
 use panel_tables::placement::PLACEMENT_WORDS;
 use tables::layout::AXIS_WORDS;
-use track_run::state::FillState;
 
 // A line of an answer: the size of an axis; a record of it, by its index and what is carried to it; a placement, by its index; none.
 pub enum AnswerLine {
     Size(Axis),
-    Record(Axis, u32, FillState),
+    Record(Axis, u32, TrackWalk),
     Place(u32),
     End,
 }

@@ -4,20 +4,20 @@ use mathlib.Core.List.{List}
 use Rattle.grid_track.specs.declared.GridTrack.{GridTrack}
 use Rattle.grid_track.specs.Records.{itemAt}
 use Rattle.grid_track.specs.Steps.{wordTotals}
-use Rattle.track_run.specs.declared.state.FillState.{FillState}
+use Rattle.grid_track.specs.declared.TrackWalk.{TrackWalk}
 use Rattle.track_run.specs.Steps.{stateAt, stateRecord, advanceOf}
 use Rattle.tables.specs.declared.AxisState.{AxisState}
 use Rattle.tables.specs.Runs.{partOf}
 use Rattle.panel_rules.specs.Calls.{axisTracks, templateIn, sparesIn}
 
 -- what is carried to record i
-abbrev pub carriedTo : AxisState → List ℕ → List ℕ → ℕ → FillState
+abbrev pub carriedTo : AxisState → List ℕ → List ℕ → ℕ → TrackWalk
 carriedTo s words items i = stateAt (axisTracks s) (templateIn s words) (itemAt items) i
 
 -- record i, by what is carried to it
-abbrev pub carriedRecord : AxisState → List ℕ → List ℕ → FillState → ℕ → GridTrack
+abbrev pub carriedRecord : AxisState → List ℕ → List ℕ → TrackWalk → ℕ → GridTrack
 carriedRecord s words items at i = stateRecord (templateIn s words) (sparesIn s words) (itemAt items) at i
 
 -- what is carried on from record i
-abbrev pub carriedOn : AxisState → List ℕ → FillState → ℕ → FillState
+abbrev pub carriedOn : AxisState → List ℕ → TrackWalk → ℕ → TrackWalk
 carriedOn s words at i = advanceOf (wordTotals (at .axis .repetitions) (partOf words 0 (s .components))) at i

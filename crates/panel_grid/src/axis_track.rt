@@ -1,7 +1,9 @@
 // The track records of one axis, from its state and its words.
 ghost use mathlib.Core.Path.{_≡_};
 ghost use Prim.Native.Nat.{min};
-ghost use Rattle.panel_rules.specs.Calls.{axisTracks, trackRecord};
+ghost use Rattle.grid_track.specs.Records.{itemAt};
+ghost use Rattle.grid_track.specs.Steps.{planOf};
+ghost use Rattle.panel_rules.specs.Calls.{axisTracks, templateIn, trackRecord};
 ghost use Rattle.panel_grid.specs.Carried.{carriedTo, carriedRecord, carriedOn};
 use crate::part::components_of;
 use crate::part::maximums_of;
@@ -10,11 +12,11 @@ use crate::part::spare_maximums_of;
 use crate::part::spare_minimums_of;
 use grid_track::AxisTracks;
 use grid_track::GridTrack;
+use grid_track::Plan;
 use grid_track::RecordAnswer;
+use grid_track::TrackWalk;
 use tables::AxisState;
-use tables::layout::AXIS_WORDS;
 use track_counts::TrackCounts;
-use track_run::state::FillState;
 
 // A count of tracks, at most 10,000.
 fn held_count(count: u32) -> u16
@@ -43,12 +45,7 @@ pub fn axis_tracks(state: AxisState) -> AxisTracks
 }
 
 // Record `index`.
-pub fn record_on(
-    state: AxisState,
-    words: &[u64; AXIS_WORDS],
-    items: &[u8],
-    index: u32,
-) -> RecordAnswer
+pub fn record_on(state: AxisState, words: &[u64], items: &[u8], index: u32) -> RecordAnswer
     ensures { λ r. ⌜ r ≡ trackRecord state (now (words .entry)) (now (items .entry)) index ⌝ }
 {
     track_rule::rule::track_record(
@@ -63,13 +60,21 @@ pub fn record_on(
     )
 }
 
+// What is worked out once for all records.
+pub fn plan_on(state: AxisState, words: &[u64], items: &[u8]) -> Plan
+    ensures { λ r. ⌜ r ≡ planOf (axisTracks state) (templateIn state (now (words .entry))) (itemAt (now (items .entry))) ⌝ }
+{
+    written_tracks::plan::make_plan(
+        components_of(state, words),
+        minimums_of(state, words),
+        maximums_of(state, words),
+        items,
+        axis_tracks(state),
+    )
+}
+
 // What is carried to record `index`.
-pub fn begin_on(
-    state: AxisState,
-    words: &[u64; AXIS_WORDS],
-    items: &[u8],
-    index: usize,
-) -> FillState
+pub fn begin_on(state: AxisState, words: &[u64], items: &[u8], index: usize) -> TrackWalk
     ensures { λ r. ⌜ r ≡ carriedTo state (now (words .entry)) (now (items .entry)) index ⌝ }
 {
     track_run::state::begin_at(
@@ -83,7 +88,7 @@ pub fn begin_on(
 }
 
 // What is carried to record 0.
-pub fn first_on(state: AxisState, words: &[u64; AXIS_WORDS], items: &[u8]) -> FillState
+pub fn first_on(state: AxisState, words: &[u64], items: &[u8]) -> TrackWalk
     ensures { λ r. ⌜ r ≡ carriedTo state (now (words .entry)) (now (items .entry)) 0 ⌝ }
 {
     begin_on(state, words, items, 0)
@@ -92,9 +97,9 @@ pub fn first_on(state: AxisState, words: &[u64; AXIS_WORDS], items: &[u8]) -> Fi
 // Record `index`, by what is carried to it.
 pub fn carried_on(
     state: AxisState,
-    words: &[u64; AXIS_WORDS],
+    words: &[u64],
     items: &[u8],
-    at: FillState,
+    at: TrackWalk,
     index: usize,
 ) -> GridTrack
     ensures { λ r. ⌜ r ≡ carriedRecord state (now (words .entry)) (now (items .entry)) at index ⌝ }
@@ -112,12 +117,7 @@ pub fn carried_on(
 }
 
 // What is carried on from record `index`.
-pub fn next_on(
-    state: AxisState,
-    words: &[u64; AXIS_WORDS],
-    at: FillState,
-    index: usize,
-) -> FillState
+pub fn next_on(state: AxisState, words: &[u64], at: TrackWalk, index: usize) -> TrackWalk
     ensures { λ r. ⌜ r ≡ carriedOn state (now (words .entry)) at index ⌝ }
 {
     track_run::state::advance(components_of(state, words), at, index)

@@ -9,10 +9,10 @@ use crate::axis_track;
 use coordinates::Axis;
 use grid_track::GridTrack;
 use grid_track::RecordAnswer;
+use grid_track::TrackWalk;
 use panel_tables::Panel;
 use panel_tables::axis::state_in;
 use tables::layout::AXIS_WORDS;
-use track_run::state::FillState;
 
 // How many records an axis has: 2N + 1.
 pub fn record_count(panel: Panel, axis: Axis) -> u32
@@ -45,7 +45,7 @@ pub fn first_record(
     rows: &[u64; AXIS_WORDS],
     axis: Axis,
     items: &[u8],
-) -> FillState
+) -> TrackWalk
     ensures { λ r. ⌜ r ≡ carriedTo (stateIn panel axis) (ofAxis axis (now (columns .entry)) (now (rows .entry))) (now (items .entry)) 0 ⌝ }
 {
     match axis {
@@ -61,7 +61,7 @@ pub fn record_in(
     rows: &[u64; AXIS_WORDS],
     axis: Axis,
     items: &[u8],
-    at: FillState,
+    at: TrackWalk,
     index: usize,
 ) -> GridTrack
     ensures { λ r. ⌜ r ≡ carriedRecord (stateIn panel axis) (ofAxis axis (now (columns .entry)) (now (rows .entry))) (now (items .entry)) at index ⌝ }
@@ -78,9 +78,9 @@ pub fn next_record(
     columns: &[u64; AXIS_WORDS],
     rows: &[u64; AXIS_WORDS],
     axis: Axis,
-    at: FillState,
+    at: TrackWalk,
     index: usize,
-) -> FillState
+) -> TrackWalk
     ensures { λ r. ⌜ r ≡ carriedOn (stateIn panel axis) (ofAxis axis (now (columns .entry)) (now (rows .entry))) at index ⌝ }
 {
     match axis {

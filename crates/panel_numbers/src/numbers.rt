@@ -2,11 +2,10 @@
 ghost use mathlib.Core.Path.{_≡_};
 ghost use Rattle.named.specs.Placements.{resolvedKindOf, resolvedNumberOf};
 ghost use Rattle.panel_numbers.specs.Answers.{counted, uncounted, placementNumbers};
-ghost use Rattle.panel_numbers.specs.Records.{kindNumber, kindWord, sizeWord};
+ghost use Rattle.panel_numbers.specs.Records.{kindNumber, sizeWord};
 use crate::CountAnswer;
 use crate::PlacementNumbers;
 use crate::axis::axis_number;
-use grid_track::GridTrack;
 use grid_track::GridTrackKind;
 use named::NonNamedGridPlacement;
 use panel_rules::PlacementAnswer;
@@ -67,26 +66,14 @@ pub fn placement_numbers(answer: PlacementAnswer) -> PlacementNumbers
     }
 }
 
-// The kind of a record.
-fn kind_number(kind: GridTrackKind) -> u64
+// The number of a record's kind.
+pub fn kind_number(kind: GridTrackKind) -> u64
     ensures { λ r. ⌜ r ≡ kindNumber kind ⌝ }
 {
     match kind {
         GridTrackKind::Track => 0,
         GridTrackKind::Gutter => 1,
     }
-}
-
-// The first word of a record: its kind, and 2 more where it is collapsed.
-pub fn kind_word(track: GridTrack) -> u64
-    ensures { λ r. ⌜ r ≡ kindWord track ⌝ }
-{
-    let kind = track.kind;
-    let number = kind_number(kind);
-    if track.collapsed {
-        return number + 2;
-    }
-    number
 }
 
 // The word of a size.

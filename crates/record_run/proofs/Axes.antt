@@ -1,7 +1,7 @@
 -- The tracks of an axis in three runs. Assumes nothing.
 use Prim.Native.Nat.{ℕ, _+_, _*_, _-_, _%_, _≤_, _<_, min}
 use native.Mathlib.Omega.{arith}
-use mathlib.Core.Path.{_≡_, refl, sym, ap, _∙_}
+use mathlib.Core.Path.{_≡_, refl, sym, ap, ap₂, _∙_}
 use mathlib.Core.List.{List}
 use mathlib.Core.Bool.{false}
 use lib.ListN.{length, getD}
@@ -16,11 +16,14 @@ use Rattle.grid_track.specs.declared.Plan.{Plan}
 use Rattle.grid_track.specs.Tracks.{autoSize}
 use Rattle.grid_track.specs.Written.{sparesOf}
 use Rattle.grid_track.specs.Records.{negativeOf, itemAt, spareAt}
-use Rattle.grid_track.specs.Steps.{wordTotals, writtenCount, cursorOf, cursorAt, writtenAt, trackAt}
+use Rattle.grid_track.specs.Steps.{wordTotals, writtenCount, cursorOf, cursorAt, writtenAt}
 use Rattle.grid_track.proofs.Words.{totals-words, spares-length, spares-none, spares-get}
 use Rattle.grid_track.proofs.AllTracks.{countIn, track-negative, track-explicit, track-past}
+use Rattle.tables.specs.declared.AxisState.{AxisState}
+use Rattle.tables.specs.Runs.{partOf}
+use Rattle.panel_rules.specs.Calls.{axisTracks, templateIn, sparesIn}
 use Rattle.record_run.specs.declared.Gutters.{Gutters}
-use Rattle.record_run.specs.Pairs.{wordOf, pairWords, joined, partPair, sparePair, templatePair, guttersOf, axisPair}
+use Rattle.record_run.specs.Pairs.{pairWords, joined, partPair, sparePair, templatePair, guttersOf, axisPair}
 use Rattle.record_run.proofs.Pairs.{three-runs, joined-same}
 
 module _ (a : AxisTracks) (p : Plan) (ws mi ma : List ℕ) (sp : List MinMax) (items : List ℕ) where
@@ -96,35 +99,56 @@ rest-tracks track count before written h k l = omega arith
 
 -- the three runs of an axis
 module _ (a : AxisTracks) (p : Plan) (ws mi ma smi sma items : List ℕ) where
-  abbrev with-gap : ℕ → Gutters
-  with-gap gap = record { gap = gap; opened = p .opened }
-
-  pub axis-runs : (gap before written first middle last track count place : ℕ) (lent once twice thrice : List ℕ) →
-      gap ≡ wordOf (a .gap) → p .written ≡ writtenCount a (wordTotals (a .repetitions) ws) →
+  pub axis-runs : (g : Gutters) (before written middle last track count place : ℕ) (lent once twice thrice : List ℕ) →
+      g ≡ guttersOf a p → p .written ≡ writtenCount a (wordTotals (a .repetitions) ws) →
       before ≡ min (negativeOf a - track) count → written ≡ min (negativeOf a + p .written - (track + before)) (count - before) →
-      first ≡ length smi - negativeOf a % length smi → middle ≡ track + before - negativeOf a → last ≡ track + before + written - (negativeOf a + p .written) →
-      once ≡ sets lent place (joined (sparePair (sparesOf smi sma) items (first + track) track (with-gap gap)) track before) →
-      twice ≡ sets once (place + 6 * before) (joined (templatePair (wordTotals (a .repetitions) ws) (templateOf ws mi ma) items middle (track + before) (with-gap gap)) (track + before) written) →
-      thrice ≡ sets twice (place + 6 * (before + written)) (joined (sparePair (sparesOf smi sma) items last (track + before + written) (with-gap gap)) (track + before + written) (count - before - written)) →
+      middle ≡ track + before - negativeOf a → last ≡ track + before + written - (negativeOf a + p .written) →
+      once ≡ sets lent place (joined (sparePair (sparesOf smi sma) items (length smi - negativeOf a % length smi + track) track g) track before) →
+      twice ≡ sets once (place + 6 * before) (joined (templatePair (wordTotals (a .repetitions) ws) (templateOf ws mi ma) items middle (track + before) g) (track + before) written) →
+      thrice ≡ sets twice (place + 6 * (before + written)) (joined (sparePair (sparesOf smi sma) items last (track + before + written) g) (track + before + written) (count - before - written)) →
       thrice ≡ sets lent place (joined (axisPair a p (templateOf ws mi ma) (sparesOf smi sma) items) track count)
-  axis-runs gap before written first middle last track count place lent once twice thrice eg ew eb et ef em el x y z =
+  axis-runs h before written middle last track count place lent once twice thrice eg ew eb et em el x y z =
       let sp = sparesOf smi sma in
       let pair = axisPair a p (templateOf ws mi ma) sp items in
       let g = guttersOf a p in
       let ns = wordTotals (a .repetitions) ws in
-      let es : first ≡ length sp - negativeOf a % length sp = ef ∙ ap (λ (n : ℕ). n - negativeOf a % n) (sym (spares-length smi sma)) in
+      let first = length smi - negativeOf a % length smi in
+      let es : first ≡ length sp - negativeOf a % length sp = ap (λ (n : ℕ). n - negativeOf a % n) (sym (spares-length smi sma)) in
       let fits = taken-fits written (negativeOf a + p .written) (track + before) (count - before) et in
       three-runs pair 6 (λ u. refl) lent once twice thrice place track count before written (taken-fits before (negativeOf a) track count eb) fits
-      (x ∙ ap (λ (n : ℕ). sets lent place (joined (sparePair sp items (first + track) track (with-gap n)) track before)) eg
-      ∙ ap (sets lent place) (joined-same (sparePair sp items (first + track) track g) pair track before (λ j h. pair-before a p ws mi ma sp items track first j es (taken-within before (negativeOf a) track count j eb h))))
-      (y ∙ ap (λ (n : ℕ). sets once (place + 6 * before) (joined (templatePair ns (templateOf ws mi ma) items middle (track + before) (with-gap n)) (track + before) written)) eg
+      (x ∙ ap (λ (n : Gutters). sets lent place (joined (sparePair sp items (first + track) track n) track before)) eg
+      ∙ ap (sets lent place) (joined-same (sparePair sp items (first + track) track g) pair track before (λ j k. pair-before a p ws mi ma sp items track first j es (taken-within before (negativeOf a) track count j eb k))))
+      (y ∙ ap (λ (n : Gutters). sets once (place + 6 * before) (joined (templatePair ns (templateOf ws mi ma) items middle (track + before) n) (track + before) written)) eg
       ∙ ap (sets once (place + 6 * before))
       (joined-same (templatePair ns (templateOf ws mi ma) items middle (track + before) g) pair (track + before) written
-      (λ j h. pair-within a p ws mi ma sp items (track + before) middle j ew em (taken-past before (negativeOf a) track count 0 eb (some-left written before count j fits h)) (taken-within written (negativeOf a + p .written) (track + before) (count - before) j et h))))
-      (z ∙ ap (λ (n : ℕ). sets twice (place + 6 * (before + written)) (joined (sparePair sp items last (track + before + written) (with-gap n)) (track + before + written) (count - before - written))) eg
+      (λ j k. pair-within a p ws mi ma sp items (track + before) middle j ew em (taken-past before (negativeOf a) track count 0 eb (some-left written before count j fits k)) (taken-within written (negativeOf a + p .written) (track + before) (count - before) j et k))))
+      (z ∙ ap (λ (n : Gutters). sets twice (place + 6 * (before + written)) (joined (sparePair sp items last (track + before + written) n) (track + before + written) (count - before - written))) eg
       ∙ ap (sets twice (place + 6 * (before + written)))
       (joined-same (sparePair sp items last (track + before + written) g) pair (track + before + written) (count - before - written)
-      (λ j h. pair-after a p ws mi ma sp items (track + before + written) last j ew el (taken-past written (negativeOf a + p .written) (track + before) (count - before) j et h))))
+      (λ j k. pair-after a p ws mi ma sp items (track + before + written) last j ew el (taken-past written (negativeOf a + p .written) (track + before) (count - before) j et k))))
+
+-- those of an axis's state
+pub pairs-written : (s : AxisState) (p : Plan) (words items : List ℕ) (a : AxisTracks) (smi sma : List ℕ) (g : Gutters) (before written middle last track count place : ℕ) (lent once twice thrice : List ℕ) →
+    a ≡ axisTracks s → smi ≡ partOf words 4160 (s .spares) → sma ≡ partOf words 4224 (s .spares) → g ≡ guttersOf (axisTracks s) p →
+    p .written ≡ writtenCount (axisTracks s) (wordTotals (s .repetitions) (partOf words 0 (s .components))) →
+    before ≡ min (negativeOf a - track) count → written ≡ min (negativeOf a + p .written - (track + before)) (count - before) →
+    middle ≡ track + before - negativeOf a → last ≡ track + before + written - (negativeOf a + p .written) →
+    once ≡ sets lent place (joined (sparePair (sparesOf smi sma) items (length smi - negativeOf a % length smi + track) track g) track before) →
+    twice ≡ sets once (place + 6 * before) (joined (templatePair (wordTotals (s .repetitions) (partOf words 0 (s .components))) (templateIn s words) items middle (track + before) g) (track + before) written) →
+    thrice ≡ sets twice (place + 6 * (before + written)) (joined (sparePair (sparesOf smi sma) items last (track + before + written) g) (track + before + written) (count - before - written)) →
+    thrice ≡ sets lent place (joined (axisPair (axisTracks s) p (templateIn s words) (sparesIn s words) items) track count)
+pairs-written s p words items a smi sma g before written middle last track count place lent once twice thrice ea ei em eg ew eb et ef el x y z =
+    let low = partOf words 4160 (s .spares) in
+    let high = partOf words 4224 (s .spares) in
+    axis-runs (axisTracks s) p (partOf words 0 (s .components)) (partOf words 64 (s .tracks)) (partOf words 2112 (s .tracks)) low high items g before written middle last track count place lent once twice thrice eg ew
+    (eb ∙ ap (λ (n : AxisTracks). min (negativeOf n - track) count) ea)
+    (et ∙ ap (λ (n : AxisTracks). min (negativeOf n + p .written - (track + before)) (count - before)) ea)
+    (ef ∙ ap (λ (n : AxisTracks). track + before - negativeOf n) ea)
+    (el ∙ ap (λ (n : AxisTracks). track + before + written - (negativeOf n + p .written)) ea)
+    (x ∙ ap₂ (λ (n : AxisTracks) (l : List ℕ). sets lent place (joined (sparePair (sparesOf l sma) items (length l - negativeOf n % length l + track) track g) track before)) ea ei
+    ∙ ap (λ (l : List ℕ). sets lent place (joined (sparePair (sparesOf low l) items (length low - negativeOf (axisTracks s) % length low + track) track g) track before)) em)
+    y
+    (z ∙ ap₂ (λ (l m : List ℕ). sets twice (place + 6 * (before + written)) (joined (sparePair (sparesOf l m) items last (track + before + written) g) (track + before + written) (count - before - written))) ei em)
 
 -- the word of an auto size
 auto-word : minMaxOf 12884901888 12884901888 ≡ autoSize

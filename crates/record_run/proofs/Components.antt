@@ -1,114 +1,157 @@
 -- Runs of tracks of a template, component by component. Assumes nothing.
-use Prim.Native.Nat.{ℕ, zero, suc, _+_, _*_, _-_, _%_, _≤_, _<_, min}
+use Prim.Native.Nat.{ℕ, _+_, _-_, _%_, _≤_, _<_, min}
 use native.Mathlib.Omega.{arith}
-use native.Mathlib.Nat.{mul-zero, add-zero}
-use native.Mathlib.Numerals.{add-one}
-use mathlib.Core.Path.{_≡_, refl, sym, ap, _∙_}
-use mathlib.Core.Logic.{⊎-elim}
+use native.Mathlib.Nat.{add-zero, mod-eq-of-lt}
+use mathlib.Core.Bool.{Bool, true, false, cond}
+use lib.Dec.{eqb}
+use borrow.Author.Tests.{eqb-false}
+use mathlib.Core.Path.{_≡_, refl, sym, ap, ap₂, subst, _∙_}
 use mathlib.Core.List.{List}
-use lib.ListN.{length, getD, drop, drop-of-length-le}
-use Rattle.explicit_grid.specs.Template.{Component, componentOf, trackAt, withTracks, templateOf}
+use lib.ListN.{length, getD, drop, length-take}
+use Rattle.explicit_grid.specs.Template.{componentOf, trackAt, templateOf}
 use Rattle.grid_track.specs.declared.WrittenTrack.{WrittenTrack}
-use Rattle.grid_track.specs.Written.{repeatsOf, written}
 use Rattle.grid_track.specs.Records.{itemAt}
-use Rattle.grid_track.specs.Steps.{wordTotal, wordTotals, sumOf, settleOf, cursorOf, noComponent, writtenIn, writtenAt}
-use Rattle.grid_track.proofs.Words.{words-length, words-drop, template-get, track-in, first-fits, length-fits}
-use Rattle.grid_track.proofs.Lists.{lt-or-ge}
-use Rattle.grid_track.proofs.Cursors.{settle-here, settle-on, no-sum, add-sum}
+use Rattle.grid_track.specs.Steps.{wordTotal, wordTotals, sumOf, cursor, cursorOf, writtenAt}
+use Rattle.tables.specs.declared.AxisState.{AxisState}
+use Rattle.tables.specs.Runs.{partOf}
+use Rattle.panel_rules.specs.Calls.{templateIn}
+use Rattle.written_tracks.specs.Repeats.{repeatedOf}
+use Rattle.written_tracks.specs.declared.Repeated.{Repeated}
+use Rattle.written_tracks.proofs.Components.{totals, totalAt, Runs, some-tracks, turn, track-here}
 use Rattle.record_run.specs.declared.Gutters.{Gutters}
-use Rattle.record_run.specs.Pairs.{pairWords, repeatedOf, partPair, templatePair}
+use Rattle.record_run.specs.declared.TemplatePart.{TemplatePart}
+use Rattle.record_run.specs.Pairs.{joined, pairWords, partPair, templatePair}
+use Rattle.record_run.specs.Parts.{componentPart, singlesOf, singlesAt, singlesPart, partAt}
+use Rattle.record_run.proofs.Singles.{single-repeated, single-start, row-one, row-fits, row-held, row-each, row-runs, row-sum}
 
-some-length : (r w o : ℕ) → o < wordTotal r w → componentOf w .length ≡ 0 → ⊥
-unfolding wordTotal
-some-length r w o h e = omega (arith, mul-zero (repeatsOf r (componentOf w .count)), ap (λ (n : ℕ). repeatsOf r (componentOf w .count) * n) e)
+-- places of the j-th of some tracks
+nth-place : (o t d j : ℕ) → o ≡ 0 → o + (t + d + j - (t + d)) ≡ j
+nth-place o t d j e = omega arith
 
--- a component that writes a track has one
-pub some-tracks : (r w o m n : ℕ) → m ≡ min (wordTotal r w - o) n → 0 < m → 0 < repeatedOf w .length
-unfolding repeatedOf
-some-tracks r w o m n e h = let z = some-length r w o (omega arith) in omega (arith, z)
+own-place : (t d j : ℕ) → 0 + (t + (d + j) + 0 - (t + (d + j))) ≡ 0
+own-place t d j = omega arith
 
--- its places are below 2^17
-pub few-tracks : (w : ℕ) → w < 18446744073709551616 → repeatedOf w .first + repeatedOf w .length < 131072
-unfolding repeatedOf
-few-tracks w h = omega (arith, first-fits w, length-fits w h)
+later : (t d j : ℕ) → t + d + j ≡ t + (d + j) + 0
+later t d j = omega arith
 
-module _ (r : ℕ) (ws : List ℕ) where
-  abbrev pub totals : List ℕ
-  totals = wordTotals r ws
+module _ (r : ℕ) (ws mi ma : List ℕ) where
+  pub pair-here : (items : List ℕ) (g : Gutters) (offset t d k o n m : ℕ) → Runs r ws (offset + d) k o n → k < length ws → m ≡ min (totalAt r ws k - o) n → (j : ℕ) → j < m →
+      partPair mi ma items (repeatedOf (getD ws k 0)) o (t + d) g (t + d + j) ≡ templatePair (totals r ws) (templateOf ws mi ma) items offset t g (t + d + j)
+  unfolding repeatedOf
+  pair-here items g offset t d k o n m h small e j less =
+      let w = getD ws k 0 in
+      let z : t + d + j - (t + d) ≡ j = omega arith in
+      let s : offset + (t + d + j - t) ≡ offset + d + j = omega arith in
+      ap (λ (i : ℕ). pairWords g (itemAt items) (t + d + j) (trackAt mi ma (componentOf w .first + (o + i) % componentOf w .length)) (repeatedOf w .fit)) z
+      ∙ sym (ap (λ (y : WrittenTrack). pairWords g (itemAt items) (t + d + j) (y .size) (y .fit))
+      (ap (λ (i : ℕ). writtenAt (templateOf ws mi ma) (cursorOf (totals r ws) i)) s ∙ track-here r ws mi ma (offset + d) k o n m h small e j less))
 
-  abbrev pub totalAt : ℕ → ℕ
-  totalAt k = wordTotal r (getD ws k 0)
+  -- a part of the template that is taken where `d` of `count` tracks are done, from track `offset` on
+  pub record Taken (offset d count k : ℕ) (x : TemplatePart) : Type 0 where
+    pub fits : x .count ≤ count - d
+    pub some : 0 < x .count → 0 < x .repeated .length
+    pub on : k < x .after .component
+    pub held : x .after .component ≤ length ws
+    pub sum : 0 < count - (d + x .count) → x .after .offset + (count - (d + x .count)) ≤ sumOf (drop (x .after .component) (totals r ws))
+    pub runs : Runs r ws (offset + (d + x .count)) (x .after .component) (x .after .offset) (count - (d + x .count))
 
-  -- n tracks of the template from track x on are those of component k and the components after it, from offset o on
-  abbrev pub Runs : ℕ → ℕ → ℕ → ℕ → Type 0
-  Runs x k o n = (j : ℕ) → j < n → cursorOf totals (x + j) ≡ settleOf (drop k totals) k (o + j)
-
-  pub runs-first : (x n : ℕ) → Runs (x + 0) 0 x n
-  unfolding cursorOf
-  runs-first x n j h = ap (λ (y : ℕ). settleOf totals 0 (y + j)) (add-zero x)
-
-  pub sum-here : (k : ℕ) → k < length ws → sumOf (drop k totals) ≡ totalAt k + sumOf (drop (suc k) totals)
-  sum-here k h = ap sumOf (words-drop r ws k h) ∙ add-sum (totalAt k) (drop (suc k) totals)
-
-  -- where tracks are left, so is a component
-  pub component-left : (k o n : ℕ) → o + n ≤ sumOf (drop k totals) → 0 < n → k < length ws
-  component-left k o n h some = ⊎-elim (λ (g : k < length ws). g) (λ (g : length ws ≤ k). absurd (omega (arith, past k g))) (lt-or-ge k (length ws))
-    where
-      past : (k : ℕ) → length ws ≤ k → sumOf (drop k totals) ≡ 0
-      past k g = ap sumOf (drop-of-length-le totals {i = k} (omega (arith, words-length r ws))) ∙ no-sum
-
-  -- past the tracks that are taken of component k
-  pub runs-on : (x k o n m : ℕ) → Runs x k o n → k < length ws → m ≡ min (totalAt k - o) n → Runs (x + m) (suc k) (o - totalAt k) (n - m)
-  runs-on x k o n m h small e j less =
-      let ns = drop (suc k) totals in
-      let s : x + m + j ≡ x + (m + j) = omega arith in
-      let y : o + (m + j) - totalAt k ≡ o - totalAt k + j = omega arith in
-      let z : totalAt k ≤ o + (m + j) = omega arith in
-      ap (cursorOf totals) s ∙ h (m + j) (omega arith) ∙ ap (λ (l : List ℕ). settleOf l k (o + (m + j))) (words-drop r ws k small)
-      ∙ settle-on (totalAt k) ns k (o + (m + j)) z ∙ ap (settleOf ns (suc k)) y
-
-  pub sum-on : (k o n m : ℕ) → (0 < n → o + n ≤ sumOf (drop k totals)) → k < length ws → m ≡ min (totalAt k - o) n → 0 < n - m →
-      o - totalAt k + (n - m) ≤ sumOf (drop (suc k) totals)
-  sum-on k o n m h small e left = let g = h (omega arith) in omega (arith, sum-here k small)
-
-  -- a turn of the loop over the components
-  pub turn : (offset d count k o m after tracks : ℕ) → tracks ≡ totalAt k → m ≡ min (tracks - o) (count - d) → after ≡ o - tracks → k < length ws →
-      (0 < count - d → o + (count - d) ≤ sumOf (drop k totals)) → Runs (offset + d) k o (count - d) →
-      (0 < count - (d + m) → after + (count - (d + m)) ≤ sumOf (drop (k + 1) totals)) × Runs (offset + (d + m)) (k + 1) after (count - (d + m))
-  turn offset d count k o m after tracks e f h small sum runs =
-      let z : count - (d + m) ≡ count - d - m = omega arith in
-      let s : offset + (d + m) ≡ offset + d + m = omega arith in
-      let g : m ≡ min (totalAt k - o) (count - d) = f ∙ ap (λ (n : ℕ). min (n - o) (count - d)) e in
-      rw (h, e, z, s, add-one k) (sum-on k o (count - d) m sum small g, runs-on (offset + d) k o (count - d) m runs small g)
-
-  -- the tracks that are taken of it
-  module _ (mi ma : List ℕ) where
-    at-cursor : (k o : ℕ) → k < length ws → o < totalAt k →
-        writtenAt (templateOf ws mi ma) (record { component = k; offset = o }) ≡ written (componentOf (getD ws k 0) .count) (trackAt mi ma (componentOf (getD ws k 0) .first + o % componentOf (getD ws k 0) .length))
-    at-cursor k o h less =
-        ap (λ (x : Component). writtenIn x o) (template-get ws mi ma k noComponent h) ∙ track-in mi ma (getD ws k 0) o (some-length r (getD ws k 0) o less)
-
-    track-here : (x k o n m : ℕ) → Runs x k o n → k < length ws → m ≡ min (totalAt k - o) n → (j : ℕ) → j < m →
-        writtenAt (templateOf ws mi ma) (cursorOf totals (x + j))
-        ≡ written (componentOf (getD ws k 0) .count) (trackAt mi ma (componentOf (getD ws k 0) .first + (o + j) % componentOf (getD ws k 0) .length))
-    track-here x k o n m h small e j less =
-        let here : o + j < totalAt k = omega arith in
-        ap (writtenAt (templateOf ws mi ma))
-        (h j (omega arith) ∙ ap (λ (l : List ℕ). settleOf l k (o + j)) (words-drop r ws k small) ∙ settle-here (totalAt k) (drop (suc k) totals) k (o + j) here)
-        ∙ at-cursor k (o + j) small here
-
-    pub fit-here : (x k o n m : ℕ) → Runs x k o n → k < length ws → m ≡ min (totalAt k - o) n → (j : ℕ) → j < m →
-        writtenAt (templateOf ws mi ma) (cursorOf totals (x + j)) .fit ≡ repeatedOf (getD ws k 0) .fit
-    unfolding repeatedOf
-    fit-here x k o n m h small e j less = ap (λ (y : WrittenTrack). y .fit) (track-here x k o n m h small e j less)
-
-    pub pair-here : (items : List ℕ) (g : Gutters) (offset t d k o n m : ℕ) → Runs (offset + d) k o n → k < length ws → m ≡ min (totalAt k - o) n → (j : ℕ) → j < m →
-        partPair mi ma items (repeatedOf (getD ws k 0)) o (t + d) g (t + d + j) ≡ templatePair totals (templateOf ws mi ma) items offset t g (t + d + j)
-    unfolding repeatedOf
-    pair-here items g offset t d k o n m h small e j less =
+  module _ (offset d count k o : ℕ) (small : k < length ws) (sum : 0 < count - d → o + (count - d) ≤ sumOf (drop k (totals r ws))) (runs : Runs r ws (offset + d) k o (count - d)) where
+    component-taken : (x : TemplatePart) → x ≡ componentPart r (getD ws k 0) (cursor k o) (count - d) → Taken offset d count k x
+    unfolding componentPart
+    component-taken x e =
         let w = getD ws k 0 in
-        let z : t + d + j - (t + d) ≡ j = omega arith in
-        let s : offset + (t + d + j - t) ≡ offset + d + j = omega arith in
-        ap (λ (i : ℕ). pairWords g (itemAt items) (t + d + j) (trackAt mi ma (componentOf w .first + (o + i) % componentOf w .length)) (repeatedOf w .fit)) z
-        ∙ sym (ap (λ (y : WrittenTrack). pairWords g (itemAt items) (t + d + j) (y .size) (y .fit))
-        (ap (λ (i : ℕ). writtenAt (templateOf ws mi ma) (cursorOf totals i)) s ∙ track-here (offset + d) k o n m h small e j less))
+        let m = min (wordTotal r w - o) (count - d) in
+        let on = turn r ws offset d count k o m (o - wordTotal r w) (wordTotal r w) refl refl refl small sum runs in
+        subst (Taken offset d count k) (sym e)
+        (record {
+          fits = omega arith;
+          some = some-tracks r w o m (count - d) refl;
+          on = omega arith;
+          held = omega (arith, small);
+          sum = on .0;
+          runs = on .1;
+        })
+
+    component-pair : (items : List ℕ) (g : Gutters) (t : ℕ) (x : TemplatePart) → x ≡ componentPart r (getD ws k 0) (cursor k o) (count - d) → (j : ℕ) → j < x .count →
+        partPair mi ma items (x .repeated) o (t + d) g (t + d + j) ≡ templatePair (totals r ws) (templateOf ws mi ma) items offset t g (t + d + j)
+    unfolding componentPart
+    component-pair items g t x e j less =
+        let w = getD ws k 0 in
+        let z : j < min (wordTotal r w - o) (count - d) = subst (λ (y : TemplatePart). j < y .count) e less in
+        ap (λ (y : TemplatePart). partPair mi ma items (y .repeated) o (t + d) g (t + d + j)) e
+        ∙ pair-here items g offset t d k o (count - d) (min (wordTotal r w - o) (count - d)) runs small refl j z
+
+    module _ (m : ℕ) (first : ℕ) (none : o ≡ 0) (some : m ≡ 0 → ⊥) (row : m ≡ singlesOf first (drop k ws) (count - d)) where
+      at-start : Runs r ws (offset + d) k 0 (count - d)
+      at-start = subst (λ (n : ℕ). Runs r ws (offset + d) k n (count - d)) none runs
+
+      singles-taken : (x : TemplatePart) → x ≡ singlesPart first (cursor k o) m → Taken offset d count k x
+      singles-taken x e =
+          let n = count - d in
+          let z : count - (d + m) ≡ n - m = omega arith in
+          let s : offset + (d + m) ≡ offset + d + m = omega arith in
+          let sums : 0 < n → 0 + n ≤ sumOf (drop k (totals r ws)) = subst (λ (i : ℕ). 0 < n → i + n ≤ sumOf (drop k (totals r ws))) none sum in
+          subst (Taken offset d count k) (sym e)
+          (record {
+            fits = row-fits r ws k first n m row small;
+            some = λ h. h;
+            on = omega (arith, some);
+            held = row-held r ws k first n m row small;
+            sum = rw z (row-sum r ws k first n m row small sums m (omega arith));
+            runs = rw (z, s) (row-runs r ws k first n m row small (offset + d) at-start m (omega arith));
+          })
+
+      singles-pair : (items : List ℕ) (g : Gutters) (t : ℕ) (x : TemplatePart) → x ≡ singlesPart first (cursor k o) m → (j : ℕ) → j < x .count →
+          partPair mi ma items (x .repeated) o (t + d) g (t + d + j) ≡ templatePair (totals r ws) (templateOf ws mi ma) items offset t g (t + d + j)
+      singles-pair items g t x e j less =
+          let n = count - d in
+          let h : j < m = subst (λ (y : TemplatePart). j < y .count) e less in
+          let single = row-each r ws k first n m row small j h in
+          let u : t + d + j ≡ t + (d + j) + 0 = later t d j in
+          let place : first + (o + (t + d + j - (t + d))) % m ≡ first + j + (0 + (t + (d + j) + 0 - (t + (d + j)))) % 1 =
+          ap (λ (y : ℕ). first + y % m) (nth-place o t d j none) ∙ ap (λ (y : ℕ). first + y) (mod-eq-of-lt h) ∙ sym (ap (λ (y : ℕ). first + j + y % 1) (own-place t d j) ∙ add-zero (first + j)) in
+          let there : Runs r ws (offset + (d + j)) (k + j) 0 (n - j) =
+          let s : offset + (d + j) ≡ offset + d + j = omega arith in rw s (row-runs r ws k first n m row small (offset + d) at-start j (omega arith)) in
+          ap (λ (y : TemplatePart). partPair mi ma items (y .repeated) o (t + d) g (t + d + j)) e
+          ∙ ap₂ (λ (y v : ℕ). pairWords g (itemAt items) v (trackAt mi ma y) false) place u
+          ∙ ap (λ (y : Repeated). partPair mi ma items y 0 (t + (d + j)) g (t + (d + j) + 0)) (sym (single-repeated (first + j) (getD ws (k + j) 0) single))
+          ∙ pair-here items g offset t (d + j) (k + j) 0 (n - j) 1 there (omega (arith, h, row-held r ws k first n m row small)) (row-one r ws k first n m row small j h) 0 (omega arith)
+          ∙ ap (templatePair (totals r ws) (templateOf ws mi ma) items offset t g) (sym u)
+
+    pub taken : (x : TemplatePart) → x ≡ partAt r ws (cursor k o) (count - d) → Taken offset d count k x
+    unfolding partAt
+    taken x = go (eqb (singlesAt ws (cursor k o) (count - d)) 0) refl
+      where
+        go : (b : Bool) → eqb (singlesAt ws (cursor k o) (count - d)) 0 ≡ b →
+            x ≡ cond b (componentPart r (getD ws k 0) (cursor k o) (count - d)) (singlesPart (repeatedOf (getD ws k 0) .first) (cursor k o) (singlesAt ws (cursor k o) (count - d))) → Taken offset d count k x
+        go true z e = component-taken x e
+        go false z e =
+            let some = eqb-false (singlesAt ws (cursor k o) (count - d)) 0 z in
+            let start = single-start ws k o (count - d) (singlesAt ws (cursor k o) (count - d)) refl some in
+            singles-taken (singlesAt ws (cursor k o) (count - d)) (repeatedOf (getD ws k 0) .first) (start .0) some (start .1) x e
+
+    pub taken-pair : (items : List ℕ) (g : Gutters) (t : ℕ) (x : TemplatePart) → x ≡ partAt r ws (cursor k o) (count - d) → (j : ℕ) → j < x .count →
+        partPair mi ma items (x .repeated) o (t + d) g (t + d + j) ≡ templatePair (totals r ws) (templateOf ws mi ma) items offset t g (t + d + j)
+    unfolding partAt
+    taken-pair items g t x = go (eqb (singlesAt ws (cursor k o) (count - d)) 0) refl
+      where
+        go : (b : Bool) → eqb (singlesAt ws (cursor k o) (count - d)) 0 ≡ b →
+            x ≡ cond b (componentPart r (getD ws k 0) (cursor k o) (count - d)) (singlesPart (repeatedOf (getD ws k 0) .first) (cursor k o) (singlesAt ws (cursor k o) (count - d))) →
+            (j : ℕ) → j < x .count → partPair mi ma items (x .repeated) o (t + d) g (t + d + j) ≡ templatePair (totals r ws) (templateOf ws mi ma) items offset t g (t + d + j)
+        go true z e = component-pair items g t x e
+        go false z e =
+            let some = eqb-false (singlesAt ws (cursor k o) (count - d)) 0 z in
+            let start = single-start ws k o (count - d) (singlesAt ws (cursor k o) (count - d)) refl some in
+            singles-pair (singlesAt ws (cursor k o) (count - d)) (repeatedOf (getD ws k 0) .first) (start .0) some (start .1) items g t x e
+
+-- the parts of an axis's words
+pub part-few : (words : List ℕ) (o n : ℕ) → length (partOf words o n) ≤ n
+part-few words o n = omega (arith, length-take n (drop o words))
+
+module _ (s : AxisState) (words ws mi ma : List ℕ) (e : ws ≡ partOf words 0 (s .components)) (f : mi ≡ partOf words 64 (s .tracks)) (h : ma ≡ partOf words 2112 (s .tracks)) where
+  pub in-parts : (items : List ℕ) (offset t n : ℕ) (g : Gutters) →
+      joined (templatePair (totals (s .repetitions) ws) (templateOf ws mi ma) items offset t g) t n
+      ≡ joined (templatePair (wordTotals (s .repetitions) (partOf words 0 (s .components))) (templateIn s words) items offset t g) t n
+  in-parts items offset t n g =
+      ap₂ (λ (x y : List ℕ). joined (templatePair (totals (s .repetitions) x) (templateOf x y ma) items offset t g) t n) e f
+      ∙ ap (λ (y : List ℕ). joined (templatePair (totals (s .repetitions) (partOf words 0 (s .components))) (templateOf (partOf words 0 (s .components)) (partOf words 64 (s .tracks)) y) items offset t g) t n) h

@@ -8,12 +8,12 @@ use mathlib.Core.Bool.{Bool, cond, not, _&&_, _||_}
 use lib.Dec.{leb}
 use mathlib.Core.List.{List, [], _∷_, _++_, append-assoc, append-nil}
 use lib.ListN.{length, getD, set, length-append, length-set}
-use lib.Seq.{sets, length-sets}
+use lib.Seq.{sets}
 use Rattle.sizing.specs.declared.MinMax.{MinMax}
 use Rattle.sizing.specs.Words.{minMaxOf}
 use Rattle.grid_track.specs.Records.{itemAt}
 use Rattle.record_run.specs.declared.Gutters.{Gutters}
-use Rattle.record_run.specs.declared.Repeated.{Repeated}
+use Rattle.written_tracks.specs.declared.Repeated.{Repeated}
 use Rattle.record_run.specs.Pairs.{wordOf, recordNumbers, pairWords, joined, partPair}
 
 -- one run after another
@@ -41,11 +41,11 @@ put-two l once twice place a b three e f =
     f ∙ ap₂ (λ (x : List ℕ) (n : ℕ). sets x (place + n) b) e (sym three) ∙ sym (sets-on l place a b)
 
 pub put-pair : (g : Gutters) (item : ℕ → Bool) (t : ℕ) (size : MinMax) (fit : Bool) (l once twice : List ℕ) (place : ℕ) (closed shut : Bool) (low high : ℕ) →
-    closed ≡ (fit && not (item t)) → shut ≡ (closed || leb (g .opened) (suc t)) → low ≡ wordOf (size .min) → high ≡ wordOf (size .max) →
+    closed ≡ (fit && not (item t)) → shut ≡ (closed || leb (g .opened) (t + 1)) → low ≡ wordOf (size .min) → high ≡ wordOf (size .max) →
     once ≡ sets l place (recordNumbers 0 closed low high) → twice ≡ sets once (place + 3) (recordNumbers 1 shut (g .gap) (g .gap)) →
     twice ≡ sets l place (pairWords g item t size fit)
 put-pair g item t size fit l once twice place closed shut low high e f m n x y =
-    put-two l once twice place (recordNumbers 0 closed low high) (recordNumbers 1 shut (g .gap) (g .gap)) refl x y ∙ rw (f, e, m, n)
+    put-two l once twice place (recordNumbers 0 closed low high) (recordNumbers 1 shut (g .gap) (g .gap)) refl x y ∙ rw (f, e, m, n, add-one t)
 
 module _ (pair : ℕ → List ℕ) where
   pub joined-none : (t : ℕ) → joined pair t 0 ≡ []

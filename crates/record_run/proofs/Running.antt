@@ -5,11 +5,10 @@ use mathlib.Core.Logic.{⊎-elim}
 use mathlib.Core.Bool.{Bool, true, false, _||_}
 use mathlib.Core.List.{List, [], _∷_, _++_, append-assoc}
 use native.Mathlib.Nat.{add-assoc}
-use native.Mathlib.Numerals.{add-one, add-two}
 use native.Mathlib.Omega.{arith}
 use borrow.Author.Tests.{le-leb, lt-leb, eq-eqb, ne-eqb}
-use lib.Dec.{ltb, leb}
-use lib.ListN.{length, set, length-set}
+use lib.Dec.{ltb, leb, eqb}
+use lib.ListN.{length}
 use lib.Seq.{sets}
 use Rattle.sizing.specs.declared.MinMax.{MinMax}
 use Rattle.sizing.specs.declared.Sizing.{Sizing}
@@ -25,19 +24,22 @@ use Rattle.grid_track.specs.declared.RecordAnswer.{RecordAnswer}
 use Rattle.grid_track.specs.Records.{tracksIn, recordsIn, itemAt, closedBy}
 use Rattle.grid_track.specs.declared.AxisTracks.{AxisTracks}
 use Rattle.grid_track.specs.declared.Plan.{Plan}
-use Rattle.grid_track.specs.Tracks.{gutterOf, trackOf}
+use Rattle.grid_track.specs.Tracks.{gridTrack, gutterOf, trackOf}
 use Rattle.grid_track.specs.declared.Cursor.{Cursor}
-use Rattle.grid_track.specs.Steps.{wordTotals, writtenCount, cursorAt, trackAt, planOf, recordWith, recordOf}
+use Rattle.grid_track.specs.Steps.{wordTotals, writtenCount, cursorAt, trackAt, planOf, trackWith, pairWith, recordWith, recordOf}
+use Rattle.grid_track.specs.declared.WrittenTrack.{WrittenTrack}
 use Rattle.grid_track.proofs.Lists.{lt-or-ge}
 use Rattle.grid_track.proofs.Words.{totals-words}
-use Rattle.grid_track.proofs.RecordList.{plan-written, record-later, record-of}
+use Rattle.grid_track.proofs.RecordList.{plan-written, record-first, record-later, record-of}
 use Rattle.track_run.proofs.Filling.{state-record}
 use Rattle.tables.specs.declared.AxisState.{AxisState}
+use Rattle.tables.specs.Runs.{partOf}
+use Rattle.track_run.specs.Steps.{stateRecord}
 use Rattle.panel_rules.specs.Calls.{axisTracks, templateIn, sparesIn}
 use Rattle.panel_grid.proofs.Carried.{carried-answer}
-use Rattle.record_run.specs.Pairs.{recordNumbers, joined, axisPair}
+use Rattle.record_run.specs.Pairs.{recordNumbers, joined, axisPair, recordAt}
 use Rattle.record_run.proofs.Pairs.{joined-none, joined-one, three-runs}
-use Rattle.panel_numbers.specs.Records.{kindNumber, kindWord, sizeWord, recordWords, runWords, runRefusal, runCount}
+use Rattle.panel_numbers.specs.Records.{kindNumber, sizeWord, recordWords, runWords, runRefusal, runCount}
 
 -- ---- which records there are and fit
 
@@ -73,20 +75,6 @@ module _ (s : AxisState) (tracks : ℕ) (known : tracks ≡ tracksIn (axisTracks
     where
       smaller-first : (a b n : ℕ) → b ≡ n → a ≤ b → a ≡ min a n
       smaller-first a b n e h = omega arith
-
--- ---- the words that the loop leaves
-
--- the places of a record's words
-pub second-place : (l : List ℕ) (place k : ℕ) → place + 3 ≤ length l → place + 1 < length (set l place k)
-second-place l place k h = rw (length-set l place k) (omega arith)
-
-pub third-place : (l : List ℕ) (place k low : ℕ) → place + 3 ≤ length l → place + 2 < length (set (set l place k) (place + 1) low)
-third-place l place k low h = rw (length-set (set l place k) (place + 1) low, length-set l place k) (omega arith)
-
--- the words one by one, and with those of the records after it
-pub put-three : (l : List ℕ) (place : ℕ) (r : GridTrack) (k low high : ℕ) → k ≡ kindWord r → low ≡ sizeWord (r .size .min) → high ≡ sizeWord (r .size .max) →
-    set (set (set l place k) (place + 1) low) (place + 2) high ≡ sets l place (recordWords r)
-put-three l place r k low high e f g = rw (e, f, g, add-one place, add-two place)
 
 -- there are at most 60,001 records
 pub few-records : (s : AxisState) → recordsIn (axisTracks s) ≤ 60001
@@ -200,13 +188,63 @@ pub planned-count : (a : AxisTracks) (ws mi ma : List ℕ) (item : ℕ → Bool)
 planned-count a ws mi ma item p e = ap (λ (q : Plan). q .written) e ∙ (plan-written a (templateOf ws mi ma) [] item ∙ ap (writtenCount a) (totals-words (a .repetitions) ws mi ma))
 
 -- one record, by its cursor
-pub edge-words : (a : AxisTracks) (ws mi ma : List ℕ) (sp : List MinMax) (items : List ℕ) (p : Plan) (u : Cursor) (r : GridTrack) (index count : ℕ) →
+pub edge-record : (a : AxisTracks) (ws mi ma : List ℕ) (sp : List MinMax) (items : List ℕ) (p : Plan) (u : Cursor) (r : GridTrack) (index : ℕ) →
     p ≡ planOf a (templateOf ws mi ma) (itemAt items) → u ≡ cursorAt a (wordTotals (a .repetitions) ws) ((index - 1) / 2) →
-    r ≡ recordWith a p (templateOf ws mi ma) sp (itemAt items) u index → count ≡ 1 → recordWords r ≡ joined (wordsAt a (templateOf ws mi ma) sp items) index count
-edge-words a ws mi ma sp items p u r index count e f g one =
-    let cs = templateOf ws mi ma in
-    ap recordWords (g ∙ record-of a cs sp (itemAt items) index p u e (f ∙ ap (λ (ns : List ℕ). cursorAt a ns ((index - 1) / 2)) (sym (totals-words (a .repetitions) ws mi ma))))
-    ∙ sym (joined-one (wordsAt a cs sp items) index) ∙ ap (joined (wordsAt a cs sp items) index) (sym one)
+    r ≡ recordWith a p (templateOf ws mi ma) sp (itemAt items) u index → r ≡ recordOf a (templateOf ws mi ma) sp (itemAt items) index
+edge-record a ws mi ma sp items p u r index e f g =
+    g ∙ record-of a (templateOf ws mi ma) sp (itemAt items) index p u e (f ∙ ap (λ (ns : List ℕ). cursorAt a ns ((index - 1) / 2)) (sym (totals-words (a .repetitions) ws mi ma)))
+
+-- its words, from its kind, whether it is collapsed, and its sizes
+abbrev numbersOf : GridTrack → List ℕ
+numbersOf r = recordNumbers (kindNumber (r .kind)) (r .collapsed) (sizeWord (r .size .min)) (sizeWord (r .size .max))
+
+made-words : (kind : GridTrackKind) (size : MinMax) (closed : Bool) → numbersOf (gridTrack kind size closed) ≡ recordWords (gridTrack kind size closed)
+made-words kind size true = ap (λ (n : ℕ). (kindNumber kind + 2) ∷ n ∷ n ∷ []) zero-word
+made-words kind size false = refl
+
+pub edge-words : (a : AxisTracks) (p : Plan) (cs : List Component) (sp : List MinMax) (item : ℕ → Bool) (u : Cursor) (r : GridTrack) (i : ℕ) → r ≡ recordWith a p cs sp item u i → numbersOf r ≡ recordWords r
+edge-words a p cs sp item u r zero e = rw e (made-words Gutter (record { min = a .gap; max = a .gap }) true)
+edge-words a p cs sp item u r (suc i) e = rw e (go (eqb (suc i % 2) 0))
+  where
+    x : WrittenTrack
+    x = trackWith a (p .written) cs sp u (i / 2)
+
+    go : (b : Bool) → let y = pairWith (a .gap) b x (closedBy item x (i / 2)) (leb (p .opened) (suc i / 2)) in numbersOf y ≡ recordWords y
+    go true = made-words Gutter (record { min = a .gap; max = a .gap }) (closedBy item x (i / 2) || leb (p .opened) (suc i / 2))
+    go false = made-words Track (x .size) (closedBy item x (i / 2))
+
+-- the first gutter
+pub first-words : (a : AxisTracks) (cs : List Component) (sp : List MinMax) (items : List ℕ) (index : ℕ) → index ≡ 0 → recordNumbers 1 true 0 0 ≡ wordsAt a cs sp items index
+first-words a cs sp items index e = rw e (gutter-words (a .gap) true ∙ ap recordWords (sym (record-first a cs sp (itemAt items))))
+
+pub kind-fits : (kind : GridTrackKind) (n : ℕ) → n ≡ kindNumber kind → n ≤ 1
+kind-fits Track n e = omega (arith, e)
+kind-fits Gutter n e = omega (arith, e)
+
+-- a record of an axis's state, by what is carried to it
+pub record-written : (s : AxisState) (words items : List ℕ) (p : Plan) (index : ℕ) (a : AxisTracks) (ws : List ℕ) (u : Cursor) (r : GridTrack) (k low high : ℕ) (lent after : List ℕ) (place : ℕ) →
+    p ≡ planOf (axisTracks s) (templateIn s words) (itemAt items) → a ≡ axisTracks s → ws ≡ partOf words 0 (s .components) → u ≡ cursorAt a (wordTotals (a .repetitions) ws) ((index - 1) / 2) →
+    r ≡ stateRecord (templateIn s words) (sparesIn s words) (itemAt items) (record { axis = a; plan = p; cursor = u }) index →
+    k ≡ kindNumber (r .kind) → low ≡ sizeWord (r .size .min) → high ≡ sizeWord (r .size .max) →
+    after ≡ sets lent place (recordNumbers k (r .collapsed) low high) → after ≡ sets lent place (recordAt s words items index)
+unfolding stateRecord
+record-written s words items p index a ws u r k low high lent after place ep ea ew eu er ek el eh e =
+    let cs = templateIn s words in
+    let sp = sparesIn s words in
+    let cursor : u ≡ cursorAt (axisTracks s) (wordTotals (s .repetitions) (partOf words 0 (s .components))) ((index - 1) / 2) =
+    eu ∙ ap₂ (λ (x : AxisTracks) (l : List ℕ). cursorAt x (wordTotals (x .repetitions) l) ((index - 1) / 2)) ea ew in
+    let made : r ≡ recordWith (axisTracks s) p cs sp (itemAt items) u index = er ∙ ap (λ (x : AxisTracks). recordWith x p cs sp (itemAt items) u index) ea in
+    let same : recordNumbers k (r .collapsed) low high ≡ numbersOf r =
+    ap₂ (λ (x y : ℕ). recordNumbers x (r .collapsed) y high) ek el ∙ ap (recordNumbers (kindNumber (r .kind)) (r .collapsed) (sizeWord (r .size .min))) eh in
+    e ∙ ap (sets lent place)
+    (same ∙ edge-words (axisTracks s) p cs sp (itemAt items) u r index made
+    ∙ ap recordWords (edge-record (axisTracks s) (partOf words 0 (s .components)) (partOf words 64 (s .tracks)) (partOf words 2112 (s .tracks)) sp items p u r index ep cursor made))
+
+-- the one record of an edge
+pub edge-one : (f : ℕ → List ℕ) (lent after : List ℕ) (place first count : ℕ) → count ≤ 1 → (count ≡ 0 → ⊥) → after ≡ sets lent place (f first) → after ≡ sets lent place (joined f first count)
+edge-one f lent after place first count h some e =
+    let one : 1 ≡ count = omega arith in
+    e ∙ ap (sets lent place) (sym (joined-one f first) ∙ ap (joined f first) one)
 
 -- the records of an axis's state
 pub run-words : (s : AxisState) (words items : List ℕ) (first n : ℕ) → first + n ≤ recordsIn (axisTracks s) → tracksIn (axisTracks s) ≤ length items →

@@ -1,3 +1,3 @@
 -- What the contracts of a run of records cite.
 pub mod Pairs
-pub mod Plans
+pub mod Parts

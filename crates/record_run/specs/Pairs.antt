@@ -7,14 +7,16 @@ use lib.ListN.{getD}
 use Rattle.sizing.specs.declared.Sizing.{Sizing}
 use Rattle.sizing.specs.declared.MinMax.{MinMax}
 use Rattle.sizing.specs.Words.{sizeWordOf, kindOf, bitsOf, minMaxOf}
-use Rattle.explicit_grid.specs.Template.{Component, componentOf}
+use Rattle.explicit_grid.specs.Template.{Component}
 use Rattle.grid_track.specs.declared.AxisTracks.{AxisTracks}
 use Rattle.grid_track.specs.declared.Plan.{Plan}
-use Rattle.grid_track.specs.Written.{isFit}
 use Rattle.grid_track.specs.Records.{itemAt, spareAt}
-use Rattle.grid_track.specs.Steps.{cursorOf, writtenAt, trackAt}
+use Rattle.grid_track.specs.Steps.{cursorOf, writtenAt, trackAt, recordOf}
+use Rattle.tables.specs.declared.AxisState.{AxisState}
+use Rattle.panel_rules.specs.Calls.{axisTracks, templateIn, sparesIn}
+use Rattle.panel_numbers.specs.Records.{recordWords}
 use Rattle.record_run.specs.declared.Gutters.{Gutters}
-use Rattle.record_run.specs.declared.Repeated.{Repeated}
+use Rattle.written_tracks.specs.declared.Repeated.{Repeated}
 
 -- the word of a size
 abbrev pub wordOf : Sizing → ℕ
@@ -34,11 +36,6 @@ pairWords g item t size fit =
 unfoldable pub joined : (ℕ → List ℕ) → ℕ → ℕ → List ℕ
 joined list t zero = []
 joined list t (suc n) = list t ++ joined list (suc t) n
-
--- the tracks of a component
-unfoldable pub repeatedOf : ℕ → Repeated
-unfolding componentOf
-repeatedOf w = record { first = componentOf w .first; length = componentOf w .length; fit = isFit (componentOf w .count) }
 
 -- track u of tracks that repeat, where track t is at `offset`
 abbrev pub partPair : List ℕ → List ℕ → List ℕ → Repeated → ℕ → ℕ → Gutters → ℕ → List ℕ
@@ -63,3 +60,7 @@ guttersOf a p = record { gap = wordOf (a .gap); opened = p .opened }
 -- track u of an axis
 abbrev pub axisPair : AxisTracks → Plan → List Component → List MinMax → List ℕ → ℕ → List ℕ
 axisPair a p cs sp items u = pairWords (guttersOf a p) (itemAt items) u (trackAt a cs sp u .size) (trackAt a cs sp u .fit)
+
+-- the words of record i of an axis
+abbrev pub recordAt : AxisState → List ℕ → List ℕ → ℕ → List ℕ
+recordAt s words items i = recordWords (recordOf (axisTracks s) (templateIn s words) (sparesIn s words) (itemAt items) i)

@@ -1,96 +1,79 @@
 // A run of the tracks of an axis: those before the grid, those of the template, and the rest.
 ghost use mathlib.Core.Path.{_≡_};
-ghost use Prim.Native.Nat.{_+_, _*_, _-_, _%_, _≤_, _<_};
+ghost use Prim.Native.Nat.{_+_, _*_, _≤_, _<_};
 ghost use lib.ListN.{length};
 ghost use lib.Seq.{sets};
-ghost use Rattle.explicit_grid.specs.Template.{templateOf};
-ghost use Rattle.grid_track.specs.Written.{sparesOf};
 ghost use Rattle.grid_track.specs.Steps.{wordTotals, writtenCount};
-ghost use Rattle.record_run.specs.Pairs.{joined, axisPair};
+ghost use Rattle.tables.specs.Runs.{partOf};
+ghost use Rattle.panel_rules.specs.Calls.{axisTracks, templateIn, sparesIn};
+ghost use Rattle.record_run.specs.Pairs.{joined, guttersOf, axisPair};
 use crate::Gutters;
-use crate::count::before_end;
-use crate::count::past_end;
+use crate::Stretch;
+use crate::implicit::write_negative;
 use crate::implicit::write_spares;
 use crate::size::word_of;
 use crate::template::write_template;
-use grid_track::AxisTracks;
 use grid_track::Plan;
+use panel_grid::axis_track::axis_tracks;
+use panel_grid::part::spare_maximums_of;
+use panel_grid::part::spare_minimums_of;
+use tables::AxisState;
+use written_tracks::count::before_end;
+use written_tracks::count::past_end;
 
-// The spare size of the first of so many tracks before the grid, so that the last takes the last one.
-fn first_spare(spares: usize, negative: u64) -> u64
-    ensures { λ r. ⌜ r ≡ spares - negative % spares ⌝ }
+// What the gutters of an axis share.
+fn gutters_of(state: AxisState, plan: Plan) -> Gutters
+    ensures { λ r. ⌜ r ≡ guttersOf (axisTracks state) plan ⌝ }
 {
-    if spares == 0 {
-        return 0;
+    Gutters {
+        gap: word_of(sizing::word::sizing_of(state.gap)),
+        opened: plan.opened,
     }
-    spares as u64 - negative % spares as u64
 }
 
-// Writes `count` tracks of an axis from `track` on, with the gutters after them.
+// Writes a stretch of the tracks of an axis, with the gutters after them.
 pub(crate) fn write_pairs(
-    components: &[u64],
-    minimums: &[u64],
-    maximums: &[u64],
-    spare_minimums: &[u64],
-    spare_maximums: &[u64],
+    state: AxisState,
+    tables: &[u64],
     items: &[u8],
-    axis: AxisTracks,
     plan: Plan,
-    track: usize,
-    count: usize,
+    tracks: Stretch,
     words: &mut [u64],
-    place: usize,
 )
-    requires { ⌜ plan .written ≡ writtenCount axis (wordTotals (axis .repetitions) (now components)) ⌝ }
-    requires { ⌜ track + count < 4294967296 ⌝ }
-    requires { ⌜ place + 6 * count ≤ length (now words) ⌝ }
-    ensures { λ _. ⌜ now (words .exit) ≡ sets (now (words .entry)) place (joined (axisPair axis plan (templateOf (now (components .entry)) (now (minimums .entry)) (now (maximums .entry))) (sparesOf (now («spare_minimums» .entry)) (now («spare_maximums» .entry))) (now (items .entry))) track count) ⌝ }
+    requires { ⌜ plan .written ≡ writtenCount (axisTracks state) (wordTotals (state .repetitions) (partOf (now tables) 0 (state .components))) ⌝ }
+    requires { ⌜ tracks .first + tracks .count < 4294967296 ⌝ }
+    requires { ⌜ tracks .place + 6 * tracks .count ≤ length (now words) ⌝ }
+    ensures { λ _. ⌜ now (words .exit) ≡ sets (now (words .entry)) (tracks .place) (joined (axisPair (axisTracks state) plan (templateIn state (now (tables .entry))) (sparesIn state (now (tables .entry))) (now (items .entry))) (tracks .first) (tracks .count)) ⌝ }
 {
+    let axis = axis_tracks(state);
     let counts = axis.counts;
     let negative = counts.negative_implicit as u64;
     let end = negative + plan.written as u64;
-    let gap = axis.gap;
-    let gutters = Gutters {
-        gap: word_of(gap),
-        opened: plan.opened,
+    let gutters = gutters_of(state, plan);
+    let minimums = spare_minimums_of(state, tables);
+    let maximums = spare_maximums_of(state, tables);
+    let before = before_end(negative, tracks.first as u64, tracks.count);
+    let early = Stretch {
+        first: tracks.first,
+        count: before,
+        place: tracks.place,
     };
-    let before = before_end(negative, track as u64, count);
-    write_spares(
-        spare_minimums,
-        spare_maximums,
-        items,
-        first_spare(spare_minimums.len(), negative) + track as u64,
-        gutters,
-        track,
-        before,
-        words,
-        place,
-    );
-    let first = track + before;
-    let written = before_end(end, first as u64, count - before);
-    write_template(
-        components,
-        minimums,
-        maximums,
-        items,
-        axis.repetitions,
-        past_end(negative, first as u64),
-        gutters,
+    write_negative(minimums, maximums, items, negative, gutters, early, words);
+    let first = tracks.first + before;
+    let written = before_end(end, first as u64, tracks.count - before);
+    let middle = Stretch {
         first,
-        written,
-        words,
-        place + 6 * before,
-    );
+        count: written,
+        place: tracks.place + 6 * before,
+    };
+    let offset = past_end(negative, first as u64);
+    write_template(state, tables, items, offset, gutters, middle, words);
     let next = first + written;
-    write_spares(
-        spare_minimums,
-        spare_maximums,
-        items,
-        past_end(end, next as u64),
-        gutters,
-        next,
-        count - before - written,
-        words,
-        place + 6 * (before + written),
-    );
+    let late = Stretch {
+        first: next,
+        count: tracks.count - before - written,
+        place: tracks.place + 6 * (before + written),
+    };
+    let passed = past_end(end, next as u64);
+    write_spares(minimums, maximums, items, passed, gutters, late, words);
 }

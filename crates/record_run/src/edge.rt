@@ -3,72 +3,87 @@ ghost use mathlib.Core.Path.{_≡_};
 ghost use Prim.Native.Nat.{_+_, _*_, _-_, _%_, _≤_, _<_, min};
 ghost use lib.ListN.{length};
 ghost use lib.Seq.{sets};
-ghost use Rattle.explicit_grid.specs.Template.{templateOf};
-ghost use Rattle.grid_track.specs.Written.{sparesOf};
 ghost use Rattle.grid_track.specs.Records.{itemAt};
-ghost use Rattle.grid_track.specs.Steps.{planOf, recordOf};
-ghost use Rattle.record_run.specs.Pairs.{joined};
-ghost use Rattle.panel_numbers.specs.Records.{recordWords};
+ghost use Rattle.grid_track.specs.Steps.{planOf};
+ghost use Rattle.panel_rules.specs.Calls.{axisTracks, templateIn, sparesIn};
+ghost use Rattle.record_run.specs.Pairs.{joined, recordAt};
+use crate::Stretch;
 use crate::axis::write_pairs;
-use crate::plan::make_plan;
-use grid_track::AxisTracks;
-use grid_track::GridTrack;
+use crate::pair::GUTTER;
+use crate::pair::put_record;
 use grid_track::Plan;
-use panel_numbers::numbers::kind_word;
+use grid_track::TrackWalk;
+use panel_grid::axis_track::axis_tracks;
+use panel_grid::axis_track::carried_on;
+use panel_grid::axis_track::plan_on;
+use panel_grid::part::components_of;
+use panel_numbers::numbers::kind_number;
 use panel_numbers::numbers::size_word;
+use tables::AxisState;
 use track_rule::rule::cursor_at;
-use track_rule::rule::record_with;
 
-// Writes a record at a place.
-fn put_record(words: &mut [u64], place: usize, track: GridTrack)
-    requires { ⌜ place + 3 ≤ length (now words) ⌝ }
-    ensures { λ _. ⌜ now (words .exit) ≡ sets (now (words .entry)) place (recordWords track) ⌝ }
-{
-    let size = track.size;
-    let minimum = size.min;
-    let maximum = size.max;
-    words[place] = kind_word(track);
-    words[place + 1] = size_word(minimum);
-    words[place + 2] = size_word(maximum);
-}
-
-// Writes record `index` at a place, or nothing where the count is 0.
-fn write_edge(
-    components: &[u64],
-    minimums: &[u64],
-    maximums: &[u64],
-    spare_minimums: &[u64],
-    spare_maximums: &[u64],
+// Writes record `index` at a place.
+fn write_record(
+    state: AxisState,
+    tables: &[u64],
     items: &[u8],
-    axis: AxisTracks,
     plan: Plan,
     index: usize,
-    count: usize,
     words: &mut [u64],
     place: usize,
 )
-    requires { ⌜ plan ≡ planOf axis (templateOf (now components) (now minimums) (now maximums)) (itemAt (now items)) ⌝ }
-    requires { ⌜ count ≤ 1 ⌝ }
-    requires { ⌜ place + 3 * count ≤ length (now words) ⌝ }
-    ensures { λ _. ⌜ now (words .exit) ≡ sets (now (words .entry)) place (joined (λ i. recordWords (recordOf axis (templateOf (now (components .entry)) (now (minimums .entry)) (now (maximums .entry))) (sparesOf (now («spare_minimums» .entry)) (now («spare_maximums» .entry))) (itemAt (now (items .entry))) i)) index count) ⌝ }
+    requires { ⌜ plan ≡ planOf (axisTracks state) (templateIn state (now tables)) (itemAt (now items)) ⌝ }
+    requires { ⌜ place + 3 ≤ length (now words) ⌝ }
+    ensures { λ _. ⌜ now (words .exit) ≡ sets (now (words .entry)) place (recordAt state (now (tables .entry)) (now (items .entry)) index) ⌝ }
 {
-    if count == 0 {
+    let axis = axis_tracks(state);
+    let cursor = cursor_at(components_of(state, tables), axis, index as u64);
+    let at = TrackWalk { axis, plan, cursor };
+    let track = carried_on(state, tables, items, at, index);
+    let kind = track.kind;
+    let size = track.size;
+    let minimum = size.min;
+    let maximum = size.max;
+    put_record(
+        words,
+        place,
+        kind_number(kind),
+        track.collapsed,
+        size_word(minimum),
+        size_word(maximum),
+    );
+}
+
+// Writes at most one record. The first gutter is always collapsed.
+fn write_edge(
+    state: AxisState,
+    tables: &[u64],
+    items: &[u8],
+    plan: Plan,
+    records: Stretch,
+    words: &mut [u64],
+)
+    requires { ⌜ plan ≡ planOf (axisTracks state) (templateIn state (now tables)) (itemAt (now items)) ⌝ }
+    requires { ⌜ records .count ≤ 1 ⌝ }
+    requires { ⌜ records .place + 3 * records .count ≤ length (now words) ⌝ }
+    ensures { λ _. ⌜ now (words .exit) ≡ sets (now (words .entry)) (records .place) (joined (recordAt state (now (tables .entry)) (now (items .entry))) (records .first) (records .count)) ⌝ }
+{
+    if records.count == 0 {
         return;
     }
-    let at = cursor_at(components, axis, index as u64);
-    let track = record_with(
-        components,
-        minimums,
-        maximums,
-        spare_minimums,
-        spare_maximums,
+    if records.first == 0 {
+        put_record(words, records.place, GUTTER, true, 0, 0);
+        return;
+    }
+    write_record(
+        state,
+        tables,
         items,
-        axis,
         plan,
-        at,
-        index as u64,
+        records.first,
+        words,
+        records.place,
     );
-    put_record(words, place, track);
 }
 
 // How many of `count` records from one on come before a track: 1 where that one is a gutter.
@@ -86,65 +101,37 @@ fn head_count(first: usize, count: usize) -> usize
 
 // Writes `count` records of an axis from `first` on.
 pub(crate) fn write_axis(
-    components: &[u64],
-    minimums: &[u64],
-    maximums: &[u64],
-    spare_minimums: &[u64],
-    spare_maximums: &[u64],
+    state: AxisState,
+    tables: &[u64],
     items: &[u8],
-    axis: AxisTracks,
     first: usize,
     count: usize,
     words: &mut [u64],
 )
     requires { ⌜ first + count < 4294967296 ⌝ }
     requires { ⌜ 3 * count ≤ length (now words) ⌝ }
-    ensures { λ _. ⌜ now (words .exit) ≡ sets (now (words .entry)) 0 (joined (λ i. recordWords (recordOf axis (templateOf (now (components .entry)) (now (minimums .entry)) (now (maximums .entry))) (sparesOf (now («spare_minimums» .entry)) (now («spare_maximums» .entry))) (itemAt (now (items .entry))) i)) first count) ⌝ }
+    ensures { λ _. ⌜ now (words .exit) ≡ sets (now (words .entry)) 0 (joined (recordAt state (now (tables .entry)) (now (items .entry))) first count) ⌝ }
 {
-    let plan = make_plan(components, minimums, maximums, items, axis);
+    let plan = plan_on(state, tables, items);
     let head = head_count(first, count);
-    write_edge(
-        components,
-        minimums,
-        maximums,
-        spare_minimums,
-        spare_maximums,
-        items,
-        axis,
-        plan,
+    let start = Stretch {
         first,
-        head,
-        words,
-        0,
-    );
+        count: head,
+        place: 0,
+    };
+    write_edge(state, tables, items, plan, start, words);
     let pairs = (count - head) / 2;
-    write_pairs(
-        components,
-        minimums,
-        maximums,
-        spare_minimums,
-        spare_maximums,
-        items,
-        axis,
-        plan,
-        (first + head) / 2,
-        pairs,
-        words,
-        3 * head,
-    );
+    let middle = Stretch {
+        first: (first + head) / 2,
+        count: pairs,
+        place: 3 * head,
+    };
+    write_pairs(state, tables, items, plan, middle, words);
     let done = head + 2 * pairs;
-    write_edge(
-        components,
-        minimums,
-        maximums,
-        spare_minimums,
-        spare_maximums,
-        items,
-        axis,
-        plan,
-        first + done,
-        count - done,
-        words,
-        3 * done,
-    );
+    let rest = Stretch {
+        first: first + done,
+        count: count - done,
+        place: 3 * done,
+    };
+    write_edge(state, tables, items, plan, rest, words);
 }

@@ -11,6 +11,7 @@ ghost use Rattle.panel_numbers.specs.Records.{runWords, runRefusal, runCount, W
 use coordinates::Axis;
 use coordinates::refusal::COUNT;
 use coordinates::refusal::SHORT;
+use grid_track::Cursor;
 use panel_grid::axis_track::axis_tracks;
 use panel_numbers::CountAnswer;
 use panel_numbers::numbers::counted;
@@ -18,21 +19,16 @@ use panel_numbers::numbers::uncounted;
 use panel_tables::Panel;
 use tables::AxisState;
 use tables::layout::AXIS_WORDS;
-use tables::layout::MAXIMUMS;
-use tables::layout::MINIMUMS;
-use tables::layout::SPARE_MAXIMUMS;
-use tables::layout::SPARE_MINIMUMS;
-use tables::layout::words_part;
+use written_tracks::Repeated;
 use written_tracks::plan::track_count;
 
 mod axis;
-mod count;
 mod edge;
 mod implicit;
 mod pair;
 mod part;
-mod plan;
 mod size;
+mod taken;
 mod template;
 
 use edge::write_axis;
@@ -43,17 +39,31 @@ pub(crate) struct Gutters {
     pub opened: u64,
 }
 
-// Tracks that repeat: the place of the first in the tables of sizes, how many there are, and whether `fit` writes them.
-pub(crate) struct Repeated {
-    pub first: u64,
-    pub length: u64,
+// A stretch of tracks or records to write: the first, how many, and the place of their words.
+pub(crate) struct Stretch {
+    pub first: usize,
+    pub count: usize,
+    pub place: usize,
+}
+
+// A track to write: its number, the place of its size in the tables, and whether `fit` writes it.
+pub(crate) struct PlacedTrack {
+    pub number: u64,
+    pub size: u64,
     pub fit: bool,
+}
+
+// Tracks of the template to write next: those that repeat, how many of them, and where the template goes on.
+pub(crate) struct TemplatePart {
+    pub repeated: Repeated,
+    pub count: usize,
+    pub after: Cursor,
 }
 
 // Writes so many records from one on.
 fn write_records(
     state: AxisState,
-    tables: &[u64; AXIS_WORDS],
+    tables: &[u64],
     items: &[u8],
     first: usize,
     count: usize,
@@ -64,18 +74,7 @@ fn write_records(
     requires { ⌜ 3 * count ≤ length (now words) ⌝ }
     ensures { λ _. ⌜ now (words .exit) ≡ sets (now (words .entry)) 0 (runWords state (now (tables .entry)) (now (items .entry)) first count) ⌝ }
 {
-    write_axis(
-        words_part(tables, 0, state.components),
-        words_part(tables, MINIMUMS, state.tracks),
-        words_part(tables, MAXIMUMS, state.tracks),
-        words_part(tables, SPARE_MINIMUMS, state.spares),
-        words_part(tables, SPARE_MAXIMUMS, state.spares),
-        items,
-        axis_tracks(state),
-        first,
-        count,
-        words,
-    );
+    write_axis(state, tables, items, first, count, words);
 }
 
 // What a run is refused by.
@@ -107,7 +106,7 @@ fn run_count(state: AxisState, lent: usize, first: u32) -> usize
 // Writes the records of one axis from `first` on.
 fn write_on(
     state: AxisState,
-    tables: &[u64; AXIS_WORDS],
+    tables: &[u64],
     items: &[u8],
     first: u32,
     words: &mut [u64],
@@ -123,7 +122,7 @@ fn write_on(
     counted(count as u64)
 }
 
-// The same, of an axis of a panel.
+// Writes the records of an axis of a panel from `first` on, as many as there are and as fit.
 pub fn write_run(
     panel: Panel,
     columns: &[u64; AXIS_WORDS],

@@ -5,8 +5,10 @@ ghost use lib.ListN.{length};
 ghost use lib.Seq.{sets};
 ghost use Rattle.record_run.specs.Pairs.{joined, partPair};
 use crate::Gutters;
-use crate::Repeated;
+use crate::PlacedTrack;
+use crate::Stretch;
 use crate::pair::put_pair;
+use written_tracks::Repeated;
 
 // The place of an offset among so many that repeat, most often the offset itself.
 fn inner_of(offset: u64, length: u64) -> u64
@@ -30,7 +32,7 @@ fn next_of(inner: u64, length: u64) -> u64
     inner + 1
 }
 
-// Writes `count` tracks from `track` on with the gutters after them: the sizes of tracks that repeat, from `offset` on.
+// Writes a stretch of tracks with the gutters after them: the sizes of tracks that repeat, from `offset` on.
 pub(crate) fn write_part(
     minimums: &[u64],
     maximums: &[u64],
@@ -38,32 +40,37 @@ pub(crate) fn write_part(
     part: Repeated,
     offset: u64,
     gutters: Gutters,
-    track: usize,
-    count: usize,
+    tracks: Stretch,
     words: &mut [u64],
-    place: usize,
 )
-    requires { ⌜ (0 < count → 0 < part .length) ⌝ }
+    requires { ⌜ (0 < tracks .count → 0 < part .length) ⌝ }
     requires { ⌜ part .first + part .length < 18446744073709551616 ⌝ }
-    requires { ⌜ track + count < 4294967296 ⌝ }
-    requires { ⌜ place + 6 * count ≤ length (now words) ⌝ }
-    ensures { λ _. ⌜ now (words .exit) ≡ sets (now (words .entry)) place (joined (partPair (now (minimums .entry)) (now (maximums .entry)) (now (items .entry)) part offset track gutters) track count) ⌝ }
+    requires { ⌜ tracks .first + tracks .count < 4294967296 ⌝ }
+    requires { ⌜ tracks .place + 6 * tracks .count ≤ length (now words) ⌝ }
+    ensures { λ _. ⌜ now (words .exit) ≡ sets (now (words .entry)) (tracks .place) (joined (partPair (now (minimums .entry)) (now (maximums .entry)) (now (items .entry)) part offset (tracks .first) gutters) (tracks .first) (tracks .count)) ⌝ }
 {
+    let count = tracks.count;
     if count == 0 {
         return;
     }
-    let first = part.first;
     let length = part.length;
+    let size = part.first;
+    let fit = part.fit;
+    let first = tracks.first;
+    let place = tracks.place;
     let mut inner = inner_of(offset, length);
     let mut i: usize = 0;
     while i < count {
+        let track = PlacedTrack {
+            number: (first + i) as u64,
+            size: size + inner,
+            fit,
+        };
         put_pair(
             minimums,
             maximums,
             items,
-            first + inner,
-            part.fit,
-            track + i,
+            track,
             gutters,
             words,
             place + 6 * i,

@@ -3,70 +3,67 @@ ghost use mathlib.Core.Path.{_≡_};
 ghost use Prim.Native.Nat.{_+_, _*_, _≤_, _<_};
 ghost use lib.ListN.{length};
 ghost use lib.Seq.{sets};
-ghost use Rattle.explicit_grid.specs.Template.{templateOf};
 ghost use Rattle.grid_track.specs.Steps.{wordTotals, sumOf};
-ghost use Rattle.record_run.specs.Pairs.{joined, templatePair, repeatedOf};
+ghost use Rattle.tables.specs.Runs.{partOf};
+ghost use Rattle.panel_rules.specs.Calls.{templateIn};
+ghost use Rattle.record_run.specs.Pairs.{joined, templatePair};
 use crate::Gutters;
-use crate::Repeated;
-use crate::count::before_end;
-use crate::count::past_end;
+use crate::Stretch;
 use crate::part::write_part;
-use written_tracks::cursor::is_fit;
-use written_tracks::cursor::total;
+use crate::taken::part_at;
+use grid_track::Cursor;
+use panel_grid::part::components_of;
+use panel_grid::part::maximums_of;
+use panel_grid::part::minimums_of;
+use tables::AxisState;
 
-// The tracks of a component.
-pub(crate) fn repeated_of(word: u64) -> Repeated
-    ensures { λ r. ⌜ r ≡ repeatedOf word ⌝ }
-{
-    let component = explicit_grid::component::component_of(word);
-    let count = component.count;
-    Repeated {
-        first: component.first,
-        length: component.length,
-        fit: is_fit(count),
-    }
-}
-
-// Writes `count` tracks from `track` on with the gutters after them: those of the template from its track `offset` on.
+// Writes a stretch of tracks with the gutters after them: those of the template from its track `offset` on.
 pub(crate) fn write_template(
-    components: &[u64],
-    minimums: &[u64],
-    maximums: &[u64],
+    state: AxisState,
+    tables: &[u64],
     items: &[u8],
-    repetitions: u32,
     offset: u64,
     gutters: Gutters,
-    track: usize,
-    count: usize,
+    tracks: Stretch,
     words: &mut [u64],
-    place: usize,
 )
-    requires { ⌜ (0 < count → offset + count ≤ sumOf (wordTotals repetitions (now components))) ⌝ }
-    requires { ⌜ track + count < 4294967296 ⌝ }
-    requires { ⌜ place + 6 * count ≤ length (now words) ⌝ }
-    ensures { λ _. ⌜ now (words .exit) ≡ sets (now (words .entry)) place (joined (templatePair (wordTotals repetitions (now (components .entry))) (templateOf (now (components .entry)) (now (minimums .entry)) (now (maximums .entry))) (now (items .entry)) offset track gutters) track count) ⌝ }
+    requires { ⌜ (0 < tracks .count → offset + tracks .count ≤ sumOf (wordTotals (state .repetitions) (partOf (now tables) 0 (state .components)))) ⌝ }
+    requires { ⌜ tracks .first + tracks .count < 4294967296 ⌝ }
+    requires { ⌜ tracks .place + 6 * tracks .count ≤ length (now words) ⌝ }
+    ensures { λ _. ⌜ now (words .exit) ≡ sets (now (words .entry)) (tracks .place) (joined (templatePair (wordTotals (state .repetitions) (partOf (now (tables .entry)) 0 (state .components))) (templateIn state (now (tables .entry))) (now (items .entry)) offset (tracks .first) gutters) (tracks .first) (tracks .count)) ⌝ }
 {
+    let components = components_of(state, tables);
+    let minimums = minimums_of(state, tables);
+    let maximums = maximums_of(state, tables);
+    let mut component: usize = 0;
     let mut at = offset;
-    let mut component = 0;
     let mut done: usize = 0;
-    while done < count {
-        let word = components[component];
-        let tracks = total(word, repetitions);
-        let written = before_end(tracks, at, count - done);
+    while done < tracks.count {
+        let cursor = Cursor {
+            component,
+            offset: at,
+        };
+        let left = tracks.count - done;
+        let part = part_at(components, state.repetitions, cursor, left);
+        let repeated = part.repeated;
+        let after = part.after;
+        let stretch = Stretch {
+            first: tracks.first + done,
+            count: part.count,
+            place: tracks.place + 6 * done,
+        };
         write_part(
             minimums,
             maximums,
             items,
-            repeated_of(word),
+            repeated,
             at,
             gutters,
-            track + done,
-            written,
+            stretch,
             words,
-            place + 6 * done,
         );
-        at = past_end(tracks, at);
-        component += 1;
-        done += written;
+        component = after.component;
+        at = after.offset;
+        done += part.count;
     }
 }

@@ -1,2 +1,3 @@
 // The rule for one track record.
+pub mod collapse;
 pub mod rule;

@@ -1,18 +1,20 @@
 // The rule for one record.
 ghost use mathlib.Core.Path.{_≡_};
-ghost use mathlib.Core.Bool.{_||_, cond};
+ghost use mathlib.Core.Bool.{cond};
 ghost use Prim.Native.Nat.{_-_, _/_};
 ghost use Rattle.explicit_grid.specs.Template.{templateOf};
 ghost use Rattle.grid_track.specs.Written.{sparesOf};
 ghost use Rattle.grid_track.specs.Records.{itemAt, recordAnswerOf};
 ghost use Rattle.grid_track.specs.Steps.{trackWith, wordTotals, cursorAt, recordWith};
 ghost use Rattle.grid_track.specs.declared.TrackSource.the-variants.{Area, Positive};
+use crate::collapse::gutter_collapses;
+use crate::collapse::track_collapses;
 use grid_track::AxisTracks;
 use grid_track::Cursor;
 use grid_track::GridTrack;
-use grid_track::Plan;
 use grid_track::RecordAnswer;
 use grid_track::TrackSource;
+use grid_track::TrackWalk;
 use grid_track::WrittenTrack;
 
 // A track that only an area makes, or one after the grid.
@@ -26,19 +28,19 @@ fn positive_source(area: bool) -> TrackSource
 }
 
 // Track `index`, with the cursor that belongs to it.
-pub fn track_with(
+fn track_with(
     components: &[u64],
     minimums: &[u64],
     maximums: &[u64],
     spare_minimums: &[u64],
     spare_maximums: &[u64],
-    axis: AxisTracks,
-    written: u32,
-    at: Cursor,
+    at: TrackWalk,
     index: u64,
 ) -> WrittenTrack
-    ensures { λ r. ⌜ r ≡ trackWith axis written (templateOf (now (components .entry)) (now (minimums .entry)) (now (maximums .entry))) (sparesOf (now («spare_minimums» .entry)) (now («spare_maximums» .entry))) at index ⌝ }
+    ensures { λ r. ⌜ r ≡ trackWith (at .axis) (at .plan .written) (templateOf (now (components .entry)) (now (minimums .entry)) (now (maximums .entry))) (sparesOf (now («spare_minimums» .entry)) (now («spare_maximums» .entry))) (at .cursor) index ⌝ }
 {
+    let axis = at.axis;
+    let plan = at.plan;
     let counts = axis.counts;
     let before = counts.negative_implicit as u64;
     if index < before {
@@ -49,9 +51,10 @@ pub fn track_with(
             index as u16,
         );
     }
-    let end = before + written as u64;
+    let end = before + plan.written as u64;
     if index < end {
-        return written_tracks::cursor::written_at(components, minimums, maximums, at);
+        let cursor = at.cursor;
+        return written_tracks::cursor::written_at(components, minimums, maximums, cursor);
     }
     let source = positive_source(index < before + counts.explicit as u64);
     let size = grid_track::implicit::spare_at(spare_minimums, spare_maximums, index - end);
@@ -62,13 +65,7 @@ pub fn track_with(
     }
 }
 
-fn either(x: bool, y: bool) -> bool
-    ensures { λ r. ⌜ r ≡ (x || y) ⌝ }
-{
-    if x { true } else { y }
-}
-
-// Record `index`, with the cursor that belongs to its track.
+// Record `index`, by what is carried to it.
 pub fn record_with(
     components: &[u64],
     minimums: &[u64],
@@ -76,13 +73,13 @@ pub fn record_with(
     spare_minimums: &[u64],
     spare_maximums: &[u64],
     items: &[u8],
-    axis: AxisTracks,
-    plan: Plan,
-    at: Cursor,
+    at: TrackWalk,
     index: u64,
 ) -> GridTrack
-    ensures { λ r. ⌜ r ≡ recordWith axis plan (templateOf (now (components .entry)) (now (minimums .entry)) (now (maximums .entry))) (sparesOf (now («spare_minimums» .entry)) (now («spare_maximums» .entry))) (itemAt (now (items .entry))) at index ⌝ }
+    ensures { λ r. ⌜ r ≡ recordWith (at .axis) (at .plan) (templateOf (now (components .entry)) (now (minimums .entry)) (now (maximums .entry))) (sparesOf (now («spare_minimums» .entry)) (now («spare_maximums» .entry))) (itemAt (now (items .entry))) (at .cursor) index ⌝ }
 {
+    let axis = at.axis;
+    let plan = at.plan;
     let gap = axis.gap;
     if index == 0 {
         return grid_track::grid_track::gutter(gap, true);
@@ -94,17 +91,16 @@ pub fn record_with(
         maximums,
         spare_minimums,
         spare_maximums,
-        axis,
-        plan.written,
         at,
         t,
     );
-    let closed = written_tracks::plan::collapses(items, track, t);
+    let collapsed = track_collapses(items, track.fit, t);
     if index % 2 == 0 {
-        return grid_track::grid_track::gutter(gap, either(closed, plan.opened <= index / 2));
+        let shut = gutter_collapses(collapsed, plan.opened, index / 2);
+        return grid_track::grid_track::gutter(gap, shut);
     }
     let size = track.size;
-    grid_track::grid_track::track(size, closed)
+    grid_track::grid_track::track(size, collapsed)
 }
 
 // The cursor that belongs to record `index`.
@@ -156,7 +152,7 @@ pub fn track_record(
         return grid_track::grid_track::refused_record(coordinates::refusal::SHORT);
     }
     let plan = written_tracks::plan::make_plan(components, minimums, maximums, items, axis);
-    let at = cursor_at(components, axis, index as u64);
+    let cursor = cursor_at(components, axis, index as u64);
     let track = record_with(
         components,
         minimums,
@@ -164,9 +160,7 @@ pub fn track_record(
         spare_minimums,
         spare_maximums,
         items,
-        axis,
-        plan,
-        at,
+        TrackWalk { axis, plan, cursor },
         index as u64,
     );
     let refusal = coordinates::refusal::no_refusal();

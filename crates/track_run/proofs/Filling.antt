@@ -26,12 +26,12 @@ use Rattle.grid_track.proofs.Words.{totals-words}
 use Rattle.grid_track.proofs.Cursors.{next-cursor}
 use Rattle.grid_track.proofs.RecordList.{record-same, records-length, record-of}
 use Rattle.grid_track.proofs.Lines.{line-record}
-use Rattle.track_run.specs.declared.state.FillState.{FillState}
+use Rattle.grid_track.specs.declared.TrackWalk.{TrackWalk}
 use Rattle.track_run.specs.Run.{runAfter, zeroRecords}
 use Rattle.track_run.specs.Steps.{fillCount, filledTo, stateAt, stateRecord, advanceOf}
 
 module _ (a : AxisTracks) (cs : List Component) (item : ℕ → Bool) where
-  abbrev state : Plan → Cursor → FillState
+  abbrev state : Plan → Cursor → TrackWalk
   state p u = record { axis = a; plan = p; cursor = u }
 
   pub state-of : (i : ℕ) (p : Plan) (u : Cursor) → p ≡ planOf a cs item → u ≡ cursorAt a (totalsOf (a .repetitions) cs) ((i - 1) / 2) → state p u ≡ stateAt a cs item i
@@ -49,7 +49,7 @@ module _ (a : AxisTracks) (cs : List Component) (item : ℕ → Bool) where
   next-state ns same i h =
       let r = totalsOf (a .repetitions) cs in
       let m = negativeOf a in
-      let at : ℕ → FillState = λ t. state (planOf a cs item) (cursorOf r t) in
+      let at : ℕ → TrackWalk = λ t. state (planOf a cs item) (cursorOf r t) in
       let k : (i + 1 - 1) / 2 ≡ i / 2 = omega arith in
       rw k
       (⊎-elim

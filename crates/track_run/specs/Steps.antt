@@ -11,7 +11,7 @@ use Rattle.grid_track.specs.declared.AxisTracks.{AxisTracks}
 use Rattle.grid_track.specs.declared.Cursor.{Cursor}
 use Rattle.grid_track.specs.Records.{listed, negativeOf, tracksIn, recordsIn}
 use Rattle.grid_track.specs.Steps.{totalsOf, cursorOf, nextOf, cursorAt, planOf, recordWith, recordOf}
-use Rattle.track_run.specs.declared.state.FillState.{FillState}
+use Rattle.grid_track.specs.declared.TrackWalk.{TrackWalk}
 
 -- how many records are written
 unfoldable pub fillCount : AxisTracks → ℕ → ℕ → ℕ
@@ -22,17 +22,17 @@ abbrev pub filledTo : AxisTracks → List Component → List MinMax → (ℕ →
 filledTo a cs sp item n run = listed (recordOf a cs sp item) n ++ drop n run
 
 -- what the loop carries at record i
-unfoldable pub stateAt : AxisTracks → List Component → (ℕ → Bool) → ℕ → FillState
+unfoldable pub stateAt : AxisTracks → List Component → (ℕ → Bool) → ℕ → TrackWalk
 unfolding planOf totalsOf cursorOf
 stateAt a cs item i = record { axis = a; plan = planOf a cs item; cursor = cursorAt a (totalsOf (a .repetitions) cs) ((i - 1) / 2) }
 
-unfoldable pub stateRecord : List Component → List MinMax → (ℕ → Bool) → FillState → ℕ → GridTrack
+unfoldable pub stateRecord : List Component → List MinMax → (ℕ → Bool) → TrackWalk → ℕ → GridTrack
 stateRecord cs sp item s i = recordWith (s .axis) (s .plan) cs sp item (s .cursor) i
 
-abbrev pub moved : FillState → Cursor → FillState
+abbrev pub moved : TrackWalk → Cursor → TrackWalk
 moved s u = record { axis = s .axis; plan = s .plan; cursor = u }
 
 -- one record further
-unfoldable pub advanceOf : List ℕ → FillState → ℕ → FillState
+unfoldable pub advanceOf : List ℕ → TrackWalk → ℕ → TrackWalk
 unfolding nextOf
 advanceOf ns s i = cond (eqb (i % 2) 1) s (cond (ltb i (2 * negativeOf (s .axis) + 2)) s (moved s (nextOf ns (s .cursor))))

@@ -8,16 +8,8 @@ ghost use Rattle.track_run.specs.Run.{refusedFill, fillAnswerOf};
 ghost use Rattle.track_run.specs.Steps.{fillCount, stateAt, stateRecord, advanceOf};
 use crate::FillAnswer;
 use grid_track::AxisTracks;
-use grid_track::Cursor;
 use grid_track::GridTrack;
-use grid_track::Plan;
-
-// An axis with its plan, and the cursor that belongs to the next record.
-pub struct FillState {
-    pub axis: AxisTracks,
-    pub plan: Plan,
-    pub cursor: Cursor,
-}
+use grid_track::TrackWalk;
 
 // How many records are written: none where the run or the items are too short.
 pub fn fill_count(lent: usize, items: usize, axis: AxisTracks) -> usize
@@ -65,12 +57,12 @@ pub fn begin_at(
     items: &[u8],
     axis: AxisTracks,
     index: usize,
-) -> FillState
+) -> TrackWalk
     ensures { λ r. ⌜ r ≡ stateAt axis (templateOf (now (components .entry)) (now (minimums .entry)) (now (maximums .entry))) (itemAt (now (items .entry))) index ⌝ }
 {
     let plan = written_tracks::plan::make_plan(components, minimums, maximums, items, axis);
     let cursor = track_rule::rule::cursor_at(components, axis, index as u64);
-    FillState { axis, plan, cursor }
+    TrackWalk { axis, plan, cursor }
 }
 
 // The state at record 0.
@@ -80,7 +72,7 @@ pub fn begin(
     maximums: &[u64],
     items: &[u8],
     axis: AxisTracks,
-) -> FillState
+) -> TrackWalk
     ensures { λ r. ⌜ r ≡ stateAt axis (templateOf (now (components .entry)) (now (minimums .entry)) (now (maximums .entry))) (itemAt (now (items .entry))) 0 ⌝ }
 {
     begin_at(components, minimums, maximums, items, axis, 0)
@@ -94,14 +86,11 @@ pub fn record_at(
     spare_minimums: &[u64],
     spare_maximums: &[u64],
     items: &[u8],
-    at: FillState,
+    at: TrackWalk,
     index: usize,
 ) -> GridTrack
     ensures { λ r. ⌜ r ≡ stateRecord (templateOf (now (components .entry)) (now (minimums .entry)) (now (maximums .entry))) (sparesOf (now («spare_minimums» .entry)) (now («spare_maximums» .entry))) (itemAt (now (items .entry))) at index ⌝ }
 {
-    let axis = at.axis;
-    let plan = at.plan;
-    let cursor = at.cursor;
     track_rule::rule::record_with(
         components,
         minimums,
@@ -109,15 +98,13 @@ pub fn record_at(
         spare_minimums,
         spare_maximums,
         items,
-        axis,
-        plan,
-        cursor,
+        at,
         index as u64,
     )
 }
 
 // The state of record `index` + 1 from that of record `index`: the cursor moves after each gutter from the template's first track on.
-pub fn advance(components: &[u64], at: FillState, index: usize) -> FillState
+pub fn advance(components: &[u64], at: TrackWalk, index: usize) -> TrackWalk
     ensures { λ r. ⌜ r ≡ advanceOf (wordTotals (at .axis .repetitions) (now (components .entry))) at index ⌝ }
 {
     let axis = at.axis;
@@ -131,7 +118,7 @@ pub fn advance(components: &[u64], at: FillState, index: usize) -> FillState
     let plan = at.plan;
     let cursor = at.cursor;
     let next = written_tracks::cursor::next(components, axis.repetitions, cursor);
-    FillState {
+    TrackWalk {
         axis,
         plan,
         cursor: next,

@@ -18,13 +18,13 @@ same-length : tie.Need-same-length
 same-length c = search needs
 
 returns : tie.Need-returns
-returns c = rw (c .before .before .before .before .enum-told .given .1) (c .before .before .write-on .ensures)
+returns c = rw (c .before .before .before .before .before .enum-told .given .1) (c .before .before .write-on .ensures)
 
 same-length-2 : tie.Need-same-length-2
 same-length-2 c = search needs
 
 returns-2 : tie.Need-returns-2
-returns-2 c = rw (c .before .before .before .before .enum-told2 .given .1) (c .before .before .write-on2 .ensures)
+returns-2 c = rw (c .before .before .before .before .before .enum-told2 .given .1) (c .before .before .write-on2 .ensures)
 
 pub write-run-spec : {M : Type 1} → statement M
 write-run-spec =

@@ -56,7 +56,7 @@ use Rattle.grid_track.specs.Written.{sparesOf}
 use Rattle.grid_track.specs.Records.{itemAt}
 use Rattle.grid_track.specs.Steps.{wordTotals, recordOf}
 use Rattle.track_run.specs.declared.FillAnswer.{FillAnswer}
-use Rattle.track_run.specs.declared.state.FillState.{FillState}
+use Rattle.grid_track.specs.declared.TrackWalk.{TrackWalk}
 use Rattle.track_run.specs.Run.{fillAnswerOf}
 use Rattle.track_run.specs.Steps.{fillCount, filledTo, stateAt, stateRecord, advanceOf}
 use Rattle.track_run.proofs.Filling.{filled-length, filled-next, filled-run, count-within, state-record, advanced}
@@ -64,8 +64,8 @@ use Rattle.grid_track.proofs.GridTrack as T
 use Rattle.grid_track.proofs.GridTrack.Laws as T′
 use Rattle.grid_track.proofs.AxisTracks as P
 use Rattle.grid_track.proofs.AxisTracks.Laws as P′
-use Rattle.track_run.proofs.state.FillState as G
-use Rattle.track_run.proofs.state.FillState.Laws as G′
+use Rattle.grid_track.proofs.TrackWalk as G
+use Rattle.grid_track.proofs.TrackWalk.Laws as G′
 use Rattle.track_run.proofs.FillAnswer as F
 use Rattle.track_run.proofs.FillAnswer.Laws as F′
 use Rattle.track_run.proofs.state.record_at as record-at
@@ -194,13 +194,13 @@ module _ {M : Type 1} (𝓤 : URA M) (H : Heap 𝓤) (A : Atoms 𝓤) (at-mem : 
   Advance = tripleOf 𝓤 H A advance.signature (advance.spec 𝓤 H A at-mem run)
 
   -- what each callee ensures of its result
-  made-of : (κA κB κC κD κE κF : Lft) (yA yB yC yD yE yF : RefT (List ℕ)) (g : FillState) (i : ℕ) (r : GridTrack) → ent 𝓤 (ensured 𝓤 H A record-at.ended (record-at.clauses 𝓤 H A at-mem run) (κA, (κB, (κC, (κD, (κE, (κF, tt)))))) (yA, (yB, (yC, (yD, (yE, (yF, (g, (i, tt)))))))) tt r) (fact 𝓤 (r ≡ stateRecord (templateOf (yA .now) (yB .now) (yC .now)) (sparesOf (yD .now) (yE .now)) (itemAt (yF .now)) g i))
+  made-of : (κA κB κC κD κE κF : Lft) (yA yB yC yD yE yF : RefT (List ℕ)) (g : TrackWalk) (i : ℕ) (r : GridTrack) → ent 𝓤 (ensured 𝓤 H A record-at.ended (record-at.clauses 𝓤 H A at-mem run) (κA, (κB, (κC, (κD, (κE, (κF, tt)))))) (yA, (yB, (yC, (yD, (yE, (yF, (g, (i, tt)))))))) tt r) (fact 𝓤 (r ≡ stateRecord (templateOf (yA .now) (yB .now) (yC .now)) (sparesOf (yD .now) (yE .now)) (itemAt (yF .now)) g i))
   made-of κA κB κC κD κE κF yA yB yC yD yE yF g i r = exE 𝓤 _ (λ ws. snd∗ 𝓤 (sem 𝓤 H A (lasts record-at.ended (κA, (κB, (κC, (κD, (κE, (κF, tt)))))) (yA, (yB, (yC, (yD, (yE, (yF, (g, (i, tt)))))))) ws)) (fact 𝓤 (r ≡ stateRecord (templateOf (yA .now) (yB .now) (yC .now)) (sparesOf (yD .now) (yE .now)) (itemAt (yF .now)) g i)))
 
-  begun-of : (κA κB κC κF : Lft) (yA yB yC yF : RefT (List ℕ)) (p : AxisTracks) (r : FillState) → ent 𝓤 (ensured 𝓤 H A begin.ended (begin.clauses 𝓤 H A at-mem run) (κA, (κB, (κC, (κF, tt)))) (yA, (yB, (yC, (yF, (p, tt))))) tt r) (fact 𝓤 (r ≡ stateAt p (templateOf (yA .now) (yB .now) (yC .now)) (itemAt (yF .now)) 0))
+  begun-of : (κA κB κC κF : Lft) (yA yB yC yF : RefT (List ℕ)) (p : AxisTracks) (r : TrackWalk) → ent 𝓤 (ensured 𝓤 H A begin.ended (begin.clauses 𝓤 H A at-mem run) (κA, (κB, (κC, (κF, tt)))) (yA, (yB, (yC, (yF, (p, tt))))) tt r) (fact 𝓤 (r ≡ stateAt p (templateOf (yA .now) (yB .now) (yC .now)) (itemAt (yF .now)) 0))
   begun-of κA κB κC κF yA yB yC yF p r = exE 𝓤 _ (λ ws. snd∗ 𝓤 (sem 𝓤 H A (lasts begin.ended (κA, (κB, (κC, (κF, tt)))) (yA, (yB, (yC, (yF, (p, tt))))) ws)) (fact 𝓤 (r ≡ stateAt p (templateOf (yA .now) (yB .now) (yC .now)) (itemAt (yF .now)) 0)))
 
-  gone-of : (κA : Lft) (yA : RefT (List ℕ)) (g : FillState) (i : ℕ) (r : FillState) → ent 𝓤 (ensured 𝓤 H A advance.ended (advance.clauses 𝓤 H A at-mem run) (κA, tt) (yA, (g, (i, tt))) tt r) (fact 𝓤 (r ≡ advanceOf (wordTotals (g .axis .repetitions) (yA .now)) g i))
+  gone-of : (κA : Lft) (yA : RefT (List ℕ)) (g : TrackWalk) (i : ℕ) (r : TrackWalk) → ent 𝓤 (ensured 𝓤 H A advance.ended (advance.clauses 𝓤 H A at-mem run) (κA, tt) (yA, (g, (i, tt))) tt r) (fact 𝓤 (r ≡ advanceOf (wordTotals (g .axis .repetitions) (yA .now)) g i))
   gone-of κA yA g i r = exE 𝓤 _ (λ ws. snd∗ 𝓤 (sem 𝓤 H A (lasts advance.ended (κA, tt) (yA, (g, (i, tt))) ws)) (fact 𝓤 (r ≡ advanceOf (wordTotals (g .axis .repetitions) (yA .now)) g i)))
 
   counted-of : (m k : ℕ) (p : AxisTracks) (r : ℕ) → ent 𝓤 (ensured 𝓤 H A fill-count.ended (fill-count.clauses 𝓤 H A at-mem run) tt (m, (k, (p, tt))) tt r) (fact 𝓤 (r ≡ fillCount p m k))
@@ -299,10 +299,10 @@ module _ {M : Type 1} (𝓤 : URA M) (H : Heap 𝓤) (A : Atoms 𝓤) (W : Given
       nothing ! $ move ! (10 ∷ 0 ∷ []) $ join ! $ move ! (9 ∷ 0 ∷ []) $ join ! $ move ! (8 ∷ 0 ∷ []) $ join ! $ move ! (7 ∷ 0 ∷ []) $ join ! $ move ! (6 ∷ 0 ∷ []) $ join ! $ move ! (5 ∷ 0 ∷ []) $ join ! $ move ! (4 ∷ 0 ∷ []) $ join ! $ frame ! $ move ! (1 ∷ 2 ∷ []) $ fjoin ! $ pureI ! (at-slice R (x (Z n)) (s ∷ [])) (tt, (tt, tt)) (ap (λ (m : ℕ). sliceVal (b, o) m ∷ []) (sym len), subst (Room R) (sym len) room) $ fjoin ! $ nothing ! $ owned ! Q (Is Q) (LL.makes P.the-type P′.the-plain 𝓤 H A) p _ p-is $ fjoin ! $ move ! (8 ∷ 0 ∷ []) $ fjoin ! $ move ! (7 ∷ 0 ∷ []) $ fjoin ! $ move ! (6 ∷ 0 ∷ []) $ fjoin ! $ move ! (5 ∷ 0 ∷ []) $ fjoin ! $ move ! (4 ∷ 0 ∷ []) $ fjoin ! $ move ! (3 ∷ 0 ∷ []) $ fjoin ! $ move ! (1 ∷ 0 ∷ []) $ fjoin ! $ done !
 
   -- what each callee's triple binds outside, and what it asks
-  abbrev to-record-at : FillState → Val → ℕ → RecordAt 𝓤 H A at-mem run .Ghost
+  abbrev to-record-at : TrackWalk → Val → ℕ → RecordAt 𝓤 H A at-mem run .Ghost
   to-record-at g gv i = (((κA, (κB, (κC, (κD, (κE, (κF, tt)))))), (qA, (qB, (qC, (qD, (qE, (qF, tt)))))), tt, (yA, (yB, (yC, (yD, (yE, (yF, (g, (i, tt)))))))), (vA ∷ [], (vB ∷ [], (vC ∷ [], (vD ∷ [], (vE ∷ [], (vF ∷ [], (gv ∷ [], (vint w64 i ∷ [], tt))))))))), tt)
 
-  goes-record-at : (g : FillState) (gv : Val) → Is K g (gv ∷ []) → (i : ℕ) → i < 2 ^ 64 → ent 𝓤 (⋆ 𝓤 H A (‵ (flft κA qA) ∷ ‵ (flft κB qB) ∷ ‵ (flft κC qC) ∷ ‵ (flft κD qD) ∷ ‵ (flft κE qE) ∷ ‵ (flft κF qF) ∷ ‵ IA ∷ ‵ IB ∷ ‵ IC ∷ ‵ ID ∷ ‵ IE ∷ ‵ IF ∷ [])) (RecordAt 𝓤 H A at-mem run .pre (to-record-at g gv i))
+  goes-record-at : (g : TrackWalk) (gv : Val) → Is K g (gv ∷ []) → (i : ℕ) → i < 2 ^ 64 → ent 𝓤 (⋆ 𝓤 H A (‵ (flft κA qA) ∷ ‵ (flft κB qB) ∷ ‵ (flft κC qC) ∷ ‵ (flft κD qD) ∷ ‵ (flft κE qE) ∷ ‵ (flft κF qF) ∷ ‵ IA ∷ ‵ IB ∷ ‵ IC ∷ ‵ ID ∷ ‵ IE ∷ ‵ IF ∷ [])) (RecordAt 𝓤 H A at-mem run .pre (to-record-at g gv i))
   goes-record-at g gv g-is i fits =
       qed W (‵ (flft κA qA) ∷ ‵ (flft κB qB) ∷ ‵ (flft κC qC) ∷ ‵ (flft κD qD) ∷ ‵ (flft κE qE) ∷ ‵ (flft κF qF) ∷ ‵ IA ∷ ‵ IB ∷ ‵ IC ∷ ‵ ID ∷ ‵ IE ∷ ‵ IF ∷ []) ∵ nothing ! $ owned ! usize (Is usize) (uint-makes 𝓤 H A W w64) i _ (refl, fits) $ fjoin ! $ owned ! K (Is K) (LL.makes G.the-type G′.the-plain 𝓤 H A) g _ g-is $ fjoin ! $ move ! (12 ∷ 0 ∷ []) $ fjoin ! $ move ! (11 ∷ 0 ∷ []) $ fjoin ! $ move ! (10 ∷ 0 ∷ []) $ fjoin ! $ move ! (9 ∷ 0 ∷ []) $ fjoin ! $ move ! (8 ∷ 0 ∷ []) $ fjoin ! $ move ! (7 ∷ 0 ∷ []) $ fjoin ! $ nothing ! $ move ! (7 ∷ 0 ∷ []) $ join ! $ move ! (6 ∷ 0 ∷ []) $ join ! $ move ! (5 ∷ 0 ∷ []) $ join ! $ move ! (4 ∷ 0 ∷ []) $ join ! $ move ! (3 ∷ 0 ∷ []) $ join ! $ move ! (2 ∷ 0 ∷ []) $ join ! $ join ! $ nothing ! $ move ! (1 ∷ 0 ∷ []) $ done !
 
@@ -313,10 +313,10 @@ module _ {M : Type 1} (𝓤 : URA M) (H : Heap 𝓤) (A : Atoms 𝓤) (W : Given
   goes-begin =
       qed W (‵ (flft κA qA) ∷ ‵ (flft κB qB) ∷ ‵ (flft κC qC) ∷ ‵ (flft κF qF) ∷ ‵ IA ∷ ‵ IB ∷ ‵ IC ∷ ‵ IF ∷ []) ∵ nothing ! $ owned ! Q (Is Q) (LL.makes P.the-type P′.the-plain 𝓤 H A) p _ p-is $ fjoin ! $ move ! (8 ∷ 0 ∷ []) $ fjoin ! $ move ! (7 ∷ 0 ∷ []) $ fjoin ! $ move ! (6 ∷ 0 ∷ []) $ fjoin ! $ move ! (5 ∷ 0 ∷ []) $ fjoin ! $ nothing ! $ move ! (5 ∷ 0 ∷ []) $ join ! $ move ! (4 ∷ 0 ∷ []) $ join ! $ move ! (3 ∷ 0 ∷ []) $ join ! $ move ! (2 ∷ 0 ∷ []) $ join ! $ join ! $ nothing ! $ move ! (1 ∷ 0 ∷ []) $ done !
 
-  abbrev to-advance : FillState → Val → ℕ → Advance 𝓤 H A at-mem run .Ghost
+  abbrev to-advance : TrackWalk → Val → ℕ → Advance 𝓤 H A at-mem run .Ghost
   to-advance g gv i = (((κA, tt), (qA, tt), tt, (yA, (g, (i, tt))), (vA ∷ [], (gv ∷ [], (vint w64 i ∷ [], tt)))), tt)
 
-  goes-advance : (g : FillState) (gv : Val) → Is K g (gv ∷ []) → (i : ℕ) → i < 2 ^ 64 → ent 𝓤 (⋆ 𝓤 H A (‵ (flft κA qA) ∷ ‵ IA ∷ [])) (Advance 𝓤 H A at-mem run .pre (to-advance g gv i))
+  goes-advance : (g : TrackWalk) (gv : Val) → Is K g (gv ∷ []) → (i : ℕ) → i < 2 ^ 64 → ent 𝓤 (⋆ 𝓤 H A (‵ (flft κA qA) ∷ ‵ IA ∷ [])) (Advance 𝓤 H A at-mem run .pre (to-advance g gv i))
   goes-advance g gv g-is i fits =
       qed W (‵ (flft κA qA) ∷ ‵ IA ∷ []) ∵ nothing ! $ owned ! usize (Is usize) (uint-makes 𝓤 H A W w64) i _ (refl, fits) $ fjoin ! $ owned ! K (Is K) (LL.makes G.the-type G′.the-plain 𝓤 H A) g _ g-is $ fjoin ! $ move ! (2 ∷ 0 ∷ []) $ fjoin ! $ nothing ! $ move ! (2 ∷ 0 ∷ []) $ join ! $ join ! $ nothing ! $ move ! (1 ∷ 0 ∷ []) $ done !
 
@@ -367,10 +367,10 @@ module _ {M : Type 1} (𝓤 : URA M) (H : Heap 𝓤) (A : Atoms 𝓤) (W : Given
   abbrev Upto : Type 0
   Upto = (i : ℕ) × (i ≤ n) × (gv : Val) × Is K (stateAt p cs item i) (gv ∷ [])
 
-  abbrev now-at : Upto → FillState
+  abbrev now-at : Upto → TrackWalk
   now-at i = stateAt p cs item (i .0)
 
-  abbrev gone : Upto → FillState
+  abbrev gone : Upto → TrackWalk
   gone i = advanceOf (wordTotals (now-at i .axis .repetitions) (yA .now)) (now-at i) (i .0)
 
   abbrev Nearer : Upto → Upto → Type 0
@@ -428,7 +428,7 @@ module _ {M : Type 1} (𝓤 : URA M) (H : Heap 𝓤) (A : Atoms 𝓤) (W : Given
         split ! $ split ! $ move ! (1 ∷ []) $ split ! $ move ! (1 ∷ []) $ split ! $ move ! (1 ∷ []) $ split ! $ move ! (1 ∷ []) $ split ! $ move ! (1 ∷ []) $ split ! $ move ! (1 ∷ []) $ drop ! $ move ! (6 ∷ 13 ∷ 14 ∷ 15 ∷ 5 ∷ 4 ∷ 3 ∷ 2 ∷ 1 ∷ 0 ∷ 12 ∷ 11 ∷ 10 ∷ 9 ∷ 8 ∷ 7 ∷ []) $ peeks ! R (Is R) (shows 𝓤 H A R) r (v ∷ []) (λ is.
         land ! (from ! (stop !)) (init ! 22 refl (LL.lawful T.the-type T′.the-laws 𝓤 H A W .typed r _ is .0)) $ assigns ! (bin ! (load ! (from ! (stop !)) (look ! 18 refl)) (lit ! tt) (record { fits = offset-fits less })) (from ! (stop !)) (init ! 23 refl (tt, record { fits = offset-fits less })) $ assigns ! (bin ! (load ! (from ! (fld ! refl (stop !))) (look-in ! 25 (sub ! 0 refl (whole !)))) (load ! (from ! (stop !)) (look ! 23 refl)) tt) (from ! (stop !)) (init ! 24 refl (tt, tt)) $ rewrite ! 24 (λ (k : ℕ). ‵ (fat fullShare tyPtr l₁₇ 0 (vptr b k))) (sym (place-is 20 o (i .0))) refl $ move ! (1 ∷ 2 ∷ 3 ∷ []) $ opens-slice ! tt R (Z (i .0)) b o $ elem-out ! R (Is R) (shows 𝓤 H A R) (LL.vals T.the-type T′.the-laws) (LL.tells T.the-type T′.the-laws) fullShare (Z (i .0)) (i .0) (recordOf p cs sp item 0) b o (inside less) (λ _.
         assigns ! (of-opd ! (load ! (from ! (stop !)) (look ! 25 refl))) (from ! (hop ! (look ! 27 refl) (stop !))) (store-raw ! 0 refl (LL.lawful T.the-type T′.the-laws 𝓤 H A W .typed r _ is .0)) $ move ! (1 ∷ []) $ drop ! $ move ! (0 ∷ 5 ∷ []) $ elem-put ! R fullShare (Z (i .0)) (i .0) r (v ∷ []) b o (inside less) $ closes-slice ! tt R (Z (i .0)) (set (Z (i .0)) (i .0) r) (length-set (Z (i .0)) (i .0) r) b o $ rewrite ! 0 (λ (l : List GridTrack). ‵ (fobs γ (codedHoleys R .code (heres R l)))) (stored less r e) refl $ rewrite ! 1 (λ (l : List GridTrack). ‵ (fbor κ (Held R (length l) b o γ))) (stored less r e) refl $ move ! (9 ∷ []) $ use1 W (‵ IA ⊛ ‵ IA) (shr-slice-copy 𝓤 H A W (named 1) κA u64 .twice yA (vA ∷ [])) $ split ! $ move ! (5 ∷ 0 ∷ []) $ join ! $ use1 W (raw (Advance 𝓤 H A at-mem run .pre (to-advance (now-at i) (i .2) (i .0)))) (goes-advance (now-at i) (i .2) (i .3) (i .0) (fits i)) $ calls-at ! (fmOf 𝓤 H (W .laws) 𝓣) (Advance 𝓤 H A at-mem run) known-advance (to-advance (now-at i) (i .2) (i .0)) (and-then ! (load ! (from ! (stop !)) (look ! 25 refl)) (and-then ! (load ! (from ! (stop !)) (look ! 16 refl)) (and-then ! (load ! (from ! (stop !)) (look ! 17 refl)) (no-more !)))) (λ v₂.
-        use1 W (later (some (λ (r₂ : FillState). ((‵ (flft κA qA) ⊛ ‵ ftrue) ⊛ ‵ (K .own r₂ (v₂ ∷ []))) ⊛ raw (ensured 𝓤 H A advance.ended (advance.clauses 𝓤 H A at-mem run) (κA, tt) (yA, (now-at i, (i .0, tt))) tt r₂)))) (id⊢ 𝓤 _) $ await ! tt $ pick ! (λ r₂.
+        use1 W (later (some (λ (r₂ : TrackWalk). ((‵ (flft κA qA) ⊛ ‵ ftrue) ⊛ ‵ (K .own r₂ (v₂ ∷ []))) ⊛ raw (ensured 𝓤 H A advance.ended (advance.clauses 𝓤 H A at-mem run) (κA, tt) (yA, (now-at i, (i .0, tt))) tt r₂)))) (id⊢ 𝓤 _) $ await ! tt $ pick ! (λ r₂.
         split ! $ move ! (1 ∷ []) $ use1 W (raw (fact 𝓤 (r₂ ≡ gone i))) (gone-of 𝓤 H A at-mem run κA yA (now-at i) (i .0) r₂) $ heard ! (r₂ ≡ gone i) (λ e₂.
         split ! $ split ! $ move ! (1 ∷ []) $ drop ! $ move ! (1 ∷ 3 ∷ 4 ∷ 5 ∷ 0 ∷ 6 ∷ 7 ∷ 8 ∷ 9 ∷ 10 ∷ 2 ∷ []) $ peeks ! K (Is K) (shows 𝓤 H A K) r₂ (v₂ ∷ []) (λ is₂. drop ! $ land ! (from ! (stop !)) (store ! 16 refl (LL.lawful G.the-type G′.the-laws 𝓤 H A W .typed r₂ _ is₂ .0)) $ assigns-last ! (bin ! (load ! (from ! (stop !)) (look ! 17 refl)) (lit ! tt) (record { fits = fits (onward less r₂ v₂ e₂ is₂) })) (from ! (stop !)) (store ! 17 refl (tt, record { fits = fits (onward less r₂ v₂ e₂ is₂) })) $ forget ! 20 refl $ forget ! 21 refl $ forget ! 22 refl $ forget ! 23 refl $ again ! Nearer At i (onward less r₂ v₂ e₂ is₂) (add-one-dec n (i .0) (ltb→lt (i .0) n less))))))))))))
         (λ over. jumps ! $ forget ! 20 refl $
@@ -438,11 +438,11 @@ module _ {M : Type 1} (𝓤 : URA M) (H : Heap 𝓤) (A : Atoms 𝓤) (W : Given
         fits : (j : Upto) → j .0 < 2 ^ 64
         fits j = lt-of-le-of-lt (j .1) n-fits
 
-        onward : T (ltb (i .0) n) → (r : FillState) (v : Val) → r ≡ gone i → Is K r (v ∷ []) → Upto
+        onward : T (ltb (i .0) n) → (r : TrackWalk) (v : Val) → r ≡ gone i → Is K r (v ∷ []) → Upto
         onward less r v e is =
             let h = ltb→lt (i .0) n less in
             let k = n-fits in
-            (i .0 + 1, add-one-le h, v, subst (λ (g : FillState). Is K g (v ∷ [])) (e ∙ advanced p (yA .now) (yB .now) (yC .now) item (i .0) (omega arith)) is)
+            (i .0 + 1, add-one-le h, v, subst (λ (g : TrackWalk). Is K g (v ∷ [])) (e ∙ advanced p (yA .now) (yB .now) (yC .now) item (i .0) (omega arith)) is)
 
         below : T (ltb (i .0) n) → i .0 < length xs
         below less = lt-of-lt-of-le (ltb→lt (i .0) n less) within
@@ -478,11 +478,11 @@ module _ {M : Type 1} (𝓤 : URA M) (H : Heap 𝓤) (A : Atoms 𝓤) (W : Given
         land ! (from ! (stop !)) (init ! 16 refl (uint-lawful 𝓤 H A W w64 .typed r _ is .0)) $
         rewrite ! 16 (λ (u : Val). ‵ (fat fullShare word l₉ 0 u)) (ap only (is .0) ∙ ap (vint w64) e) refl $
         move ! (45 ∷ []) $ use1 W (‵ IA ⊛ ‵ IA) (shr-slice-copy 𝓤 H A W (named 1) κA u64 .twice yA (vA ∷ [])) $ split ! $ move ! (47 ∷ []) $ use1 W (‵ IB ⊛ ‵ IB) (shr-slice-copy 𝓤 H A W (named 2) κB u64 .twice yB (vB ∷ [])) $ split ! $ move ! (49 ∷ []) $ use1 W (‵ IC ⊛ ‵ IC) (shr-slice-copy 𝓤 H A W (named 3) κC u64 .twice yC (vC ∷ [])) $ split ! $ move ! (53 ∷ []) $ use1 W (‵ IF ⊛ ‵ IF) (shr-slice-copy 𝓤 H A W (named 6) κF u8 .twice yF (vF ∷ [])) $ split ! $ move ! (2 ∷ 0 ∷ []) $ join ! $ move ! (3 ∷ 0 ∷ []) $ join ! $ move ! (4 ∷ 0 ∷ []) $ join ! $ move ! (49 ∷ 0 ∷ []) $ join ! $ move ! (46 ∷ 0 ∷ []) $ join ! $ move ! (45 ∷ 0 ∷ []) $ join ! $ move ! (44 ∷ 0 ∷ []) $ join ! $ use1 W (raw (Begin 𝓤 H A at-mem run .pre to-begin)) goes-begin $ calls-at ! (fmOf 𝓤 H (W .laws) 𝓣) (Begin 𝓤 H A at-mem run) known-begin to-begin (and-then ! (load ! (from ! (stop !)) (look ! 35 refl)) (and-then ! (load ! (from ! (stop !)) (look ! 33 refl)) (and-then ! (load ! (from ! (stop !)) (look ! 31 refl)) (and-then ! (load ! (from ! (stop !)) (look ! 25 refl)) (and-then ! (load ! (from ! (stop !)) (look ! 23 refl)) (no-more !)))))) (λ v₂.
-        use1 W (later (some (λ (r₂ : FillState). ((‵ (flft κA qA) ⊛ (‵ (flft κB qB) ⊛ (‵ (flft κC qC) ⊛ (‵ (flft κF qF) ⊛ ‵ ftrue)))) ⊛ ‵ (K .own r₂ (v₂ ∷ []))) ⊛ raw (ensured 𝓤 H A begin.ended (begin.clauses 𝓤 H A at-mem run) (κA, (κB, (κC, (κF, tt)))) (yA, (yB, (yC, (yF, (p, tt))))) tt r₂)))) (id⊢ 𝓤 _) $ await ! tt $ pick ! (λ r₂.
+        use1 W (later (some (λ (r₂ : TrackWalk). ((‵ (flft κA qA) ⊛ (‵ (flft κB qB) ⊛ (‵ (flft κC qC) ⊛ (‵ (flft κF qF) ⊛ ‵ ftrue)))) ⊛ ‵ (K .own r₂ (v₂ ∷ []))) ⊛ raw (ensured 𝓤 H A begin.ended (begin.clauses 𝓤 H A at-mem run) (κA, (κB, (κC, (κF, tt)))) (yA, (yB, (yC, (yF, (p, tt))))) tt r₂)))) (id⊢ 𝓤 _) $ await ! tt $ pick ! (λ r₂.
         split ! $ move ! (1 ∷ []) $ use1 W (raw (fact 𝓤 (r₂ ≡ stateAt p cs item 0))) (begun-of 𝓤 H A at-mem run κA κB κC κF yA yB yC yF p r₂) $ heard ! (r₂ ≡ stateAt p cs item 0) (λ e₂.
         split ! $ split ! $ move ! (1 ∷ []) $ split ! $ move ! (1 ∷ []) $ split ! $ move ! (1 ∷ []) $ split ! $ move ! (1 ∷ []) $ drop ! $ move ! (4 ∷ []) $ peeks ! K (Is K) (shows 𝓤 H A K) r₂ (v₂ ∷ []) (λ is₂. drop ! $ land ! (from ! (stop !)) (init ! 22 refl (LL.lawful G.the-type G′.the-laws 𝓤 H A W .typed r₂ _ is₂ .0)) $
         assigns ! (of-opd ! (lit ! tt)) (from ! (stop !)) (init ! 20 refl (tt, record { fits = lit< tt })) $ forget ! 18 refl $ forget ! 16 refl $
-        keep ! (44 ∷ 45 ∷ 46 ∷ 3 ∷ 2 ∷ 1 ∷ 47 ∷ 48 ∷ 0 ∷ 7 ∷ 6 ∷ 5 ∷ 49 ∷ 50 ∷ 4 ∷ 24 ∷ 22 ∷ 20 ∷ 18 ∷ 16 ∷ 14 ∷ 12 ∷ 10 ∷ 8 ∷ 40 ∷ 38 ∷ 36 ∷ 34 ∷ 32 ∷ 30 ∷ 28 ∷ 26 ∷ 42 ∷ 43 ∷ 41 ∷ 39 ∷ 37 ∷ 35 ∷ 33 ∷ 31 ∷ 29 ∷ 27 ∷ 25 ∷ 23 ∷ 21 ∷ 19 ∷ 17 ∷ 15 ∷ 13 ∷ 11 ∷ 9 ∷ []) $ by ! (starts v₂ (subst (λ (g : FillState). Is K g (v₂ ∷ [])) e₂ is₂))))))))))
+        keep ! (44 ∷ 45 ∷ 46 ∷ 3 ∷ 2 ∷ 1 ∷ 47 ∷ 48 ∷ 0 ∷ 7 ∷ 6 ∷ 5 ∷ 49 ∷ 50 ∷ 4 ∷ 24 ∷ 22 ∷ 20 ∷ 18 ∷ 16 ∷ 14 ∷ 12 ∷ 10 ∷ 8 ∷ 40 ∷ 38 ∷ 36 ∷ 34 ∷ 32 ∷ 30 ∷ 28 ∷ 26 ∷ 42 ∷ 43 ∷ 41 ∷ 39 ∷ 37 ∷ 35 ∷ 33 ∷ 31 ∷ 29 ∷ 27 ∷ 25 ∷ 23 ∷ 21 ∷ 19 ∷ 17 ∷ 15 ∷ 13 ∷ 11 ∷ 9 ∷ []) $ by ! (starts v₂ (subst (λ (g : TrackWalk). Is K g (v₂ ∷ [])) e₂ is₂))))))))))
 
   opened : ent 𝓤 (sem 𝓤 H A (owns (MutSlice (named 0) κ R ∷ ShrSlice (named 1) κA u64 ∷ ShrSlice (named 2) κB u64 ∷ ShrSlice (named 3) κC u64 ∷ ShrSlice (named 4) κD u64 ∷ ShrSlice (named 5) κE u64 ∷ ShrSlice (named 6) κF u8 ∷ Q ∷ []) a vals)) (⋆ 𝓤 H A (‵ (fobs γ (codedHoleys R .code (heres R xs))) ∷ ‵ (fbor κ (Held R (length xs) b o γ)) ∷ ‵ IA ∷ ‵ IB ∷ ‵ IC ∷ ‵ ID ∷ ‵ IE ∷ ‵ IF ∷ []))
   opened = qed W (‵ (owns (MutSlice (named 0) κ R ∷ ShrSlice (named 1) κA u64 ∷ ShrSlice (named 2) κB u64 ∷ ShrSlice (named 3) κC u64 ∷ ShrSlice (named 4) κD u64 ∷ ShrSlice (named 5) κE u64 ∷ ShrSlice (named 6) κF u8 ∷ Q ∷ []) a vals) ∷ []) ∵ fsplit ! $ fsplit ! $ move ! (1 ∷ []) $ fsplit ! $ move ! (3 ∷ []) $ fsplit ! $ move ! (1 ∷ []) $ fsplit ! $ move ! (1 ∷ []) $ fsplit ! $ move ! (1 ∷ []) $ fsplit ! $ move ! (1 ∷ []) $ fsplit ! $ move ! (1 ∷ []) $ fsplit ! $ keep ! (7 ∷ 8 ∷ 6 ∷ 5 ∷ 4 ∷ 3 ∷ 2 ∷ 0 ∷ []) $ done !

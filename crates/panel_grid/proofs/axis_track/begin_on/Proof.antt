@@ -18,7 +18,7 @@ begin-at-requires : tie.Need-begin-at-requires
 begin-at-requires c κs = search needs
 
 returns : tie.Need-returns
-returns c = rw (c .begin-at .ensures, c .before .axis-tracks .ensures, c .before .before .maximums-of .ensures, c .before .before .before .before .minimums-of .ensures, c .before .before .before .before .before .before .components-of .ensures)
+returns c = rw (c .begin-at .ensures, c .before .axis-tracks .ensures, c .before .before .maximums-of .ensures, c .before .before .before .minimums-of .ensures, c .before .before .before .before .components-of .ensures)
 
 pub begin-on-spec : {M : Type 1} → statement M
 begin-on-spec =

@@ -21,7 +21,7 @@ record-at-requires : tie.Need-record-at-requires
 record-at-requires c κs = search needs
 
 returns : tie.Need-returns
-returns c = rw (c .record-at .ensures, c .before .spare-maximums-of .ensures, c .before .before .before .spare-minimums-of .ensures, c .before .before .before .before .before .maximums-of .ensures, c .before .before .before .before .before .before .before .minimums-of .ensures, c .before .before .before .before .before .before .before .before .before .components-of .ensures)
+returns c = rw (c .record-at .ensures, c .before .spare-maximums-of .ensures, c .before .before .spare-minimums-of .ensures, c .before .before .before .maximums-of .ensures, c .before .before .before .before .minimums-of .ensures, c .before .before .before .before .before .components-of .ensures)
 
 pub carried-on-spec : {M : Type 1} → statement M
 carried-on-spec =

@@ -26,7 +26,7 @@ track-record-requires c κs = search needs
 
 returns : tie.Need-returns
 unfolding trackRecord
-returns c = rw (c .track-record .ensures, c .before .axis-tracks .ensures, c .before .before .spare-maximums-of .ensures, c .before .before .before .before .spare-minimums-of .ensures, c .before .before .before .before .before .before .maximums-of .ensures, c .before .before .before .before .before .before .before .before .minimums-of .ensures, c .before .before .before .before .before .before .before .before .before .before .components-of .ensures)
+returns c = rw (c .track-record .ensures, c .before .axis-tracks .ensures, c .before .before .spare-maximums-of .ensures, c .before .before .before .spare-minimums-of .ensures, c .before .before .before .before .maximums-of .ensures, c .before .before .before .before .before .minimums-of .ensures, c .before .before .before .before .before .before .components-of .ensures)
 
 pub record-on-spec : {M : Type 1} → statement M
 record-on-spec =

@@ -15,10 +15,10 @@ carried-on-requires-2 : tie.Need-carried-on-requires-2
 carried-on-requires-2 c κs = search needs
 
 returns : tie.Need-returns
-returns c = rw (c .before .enum-told .given .1) (c .carried-on .ensures)
+returns c = rw (c .before .before .enum-told .given .1) (c .carried-on .ensures)
 
 returns-2 : tie.Need-returns-2
-returns-2 c = rw (c .before .enum-told2 .given .1) (c .carried-on2 .ensures)
+returns-2 c = rw (c .before .before .enum-told2 .given .1) (c .carried-on2 .ensures)
 
 pub record-in-spec : {M : Type 1} → statement M
 record-in-spec =

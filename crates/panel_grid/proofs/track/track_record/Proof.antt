@@ -15,10 +15,10 @@ record-on-requires-2 : tie.Need-record-on-requires-2
 record-on-requires-2 c κs = search needs
 
 returns : tie.Need-returns
-returns c = rw (c .before .enum-told .given .1) (c .record-on .ensures)
+returns c = rw (c .before .before .enum-told .given .1) (c .record-on .ensures)
 
 returns-2 : tie.Need-returns-2
-returns-2 c = rw (c .before .enum-told2 .given .1) (c .record-on2 .ensures)
+returns-2 c = rw (c .before .before .enum-told2 .given .1) (c .record-on2 .ensures)
 
 pub track-record-spec : {M : Type 1} → statement M
 track-record-spec =

@@ -6,8 +6,8 @@ use borrow.Author.Needs.{needs}
 use Rattle.record_run.proofs.pair.put_pair.Statement.{statement}
 use Rattle.record_run.proofs.pair.put_pair.Tie as tie
 
-is-closed-requires : tie.Need-is-closed-requires
-is-closed-requires c κs = search needs
+track-collapses-requires : tie.Need-track-collapses-requires
+track-collapses-requires c κs = search needs
 
 size-at-requires : tie.Need-size-at-requires
 size-at-requires c κs = search needs
@@ -18,8 +18,11 @@ size-at-requires-2 c κs = search needs
 put-record-requires : tie.Need-put-record-requires
 put-record-requires c κs = search needs
 
-is-shut-requires : tie.Need-is-shut-requires
-is-shut-requires c κs = search needs
+add-gutter-collapses : tie.Need-add-gutter-collapses
+add-gutter-collapses c = search needs
+
+gutter-collapses-requires : tie.Need-gutter-collapses-requires
+gutter-collapses-requires c κs = search needs
 
 add-put-record : tie.Need-add-put-record
 add-put-record c = search needs
@@ -32,21 +35,22 @@ same-length c = search needs
 
 returns : tie.Need-returns
 returns c =
-    let a = c .before .before .before .before .before .before .before .before .before .before .before .before .before .before .before .before .args in
-    let size = minMaxOf (getD (a .minimums .now) (a .at) 0) (getD (a .maximums .now) (a .at) 0) in
-    put-pair (a .gutters) (itemAt (a .items .now)) (a .track) size (a .fit) (a .words .now) (c .before .before .before .before .before .before .before .put-record .last .0) (c .before .before .put-record2 .last .0) (a .place)
-    (c .before .before .before .before .before .before .before .before .before .before .before .is-closed .result) (c .before .before .before .before .is-shut .result) (c .before .before .before .before .before .before .before .before .before .size-at .result) (c .before .before .before .before .before .before .before .before .size-at2 .result)
-    (c .before .before .before .before .before .before .before .before .before .before .before .is-closed .ensures) (c .before .before .before .before .is-shut .ensures) (c .before .before .before .before .before .before .before .before .before .size-at .ensures) (c .before .before .before .before .before .before .before .before .size-at2 .ensures) (c .before .before .before .before .before .before .before .put-record .ensures) (c .before .before .put-record2 .ensures)
+    let a = c .before .before .before .before .before .before .before .before .before .before .before .before .before .before .before .before .before .args in
+    let size = minMaxOf (getD (a .minimums .now) (a .track .size) 0) (getD (a .maximums .now) (a .track .size) 0) in
+    put-pair (a .gutters) (itemAt (a .items .now)) (a .track .number) size (a .track .fit) (a .words .now) (c .before .before .before .before .before .before .before .before .put-record .last .0) (c .before .before .put-record2 .last .0) (a .place)
+    (c .before .before .before .before .before .before .before .before .before .before .before .before .track-collapses .result) (c .before .before .before .before .gutter-collapses .result) (c .before .before .before .before .before .before .before .before .before .before .size-at .result) (c .before .before .before .before .before .before .before .before .before .size-at2 .result)
+    (c .before .before .before .before .before .before .before .before .before .before .before .before .track-collapses .ensures) (c .before .before .before .before .gutter-collapses .ensures) (c .before .before .before .before .before .before .before .before .before .before .size-at .ensures) (c .before .before .before .before .before .before .before .before .before .size-at2 .ensures) (c .before .before .before .before .before .before .before .before .put-record .ensures) (c .before .before .put-record2 .ensures)
 
 pub put-pair-spec : {M : Type 1} → statement M
 put-pair-spec =
     tie.close
     (tie.spec
-    is-closed-requires
+    track-collapses-requires
     size-at-requires
     size-at-requires-2
     put-record-requires
-    is-shut-requires
+    add-gutter-collapses
+    gutter-collapses-requires
     add-put-record
     put-record-requires-2
     same-length

@@ -44,7 +44,7 @@ same-length c = search needs
 returns : tie.Need-returns
 returns c =
     let a = c .before .before .before .before .args in
-    put-three (a .words .now) (a .place) (a .kind) (a .closed) (a .low) (a .high) (c .before .before .kind-word .result) (c .before .open-word .result) (c .open-word2 .result)
+    put-three (a .words .now) (a .place) (a .kind) (a .collapsed) (a .low) (a .high) (c .before .before .kind-word .result) (c .before .open-word .result) (c .open-word2 .result)
     (c .before .before .kind-word .ensures) (c .before .open-word .ensures) (c .open-word2 .ensures)
 
 pub put-record-spec : {M : Type 1} → statement M

@@ -18,30 +18,30 @@ sub-t c = search needs
 track-with-requires : tie.Need-track-with-requires
 track-with-requires c κs = search needs
 
-collapses-requires : tie.Need-collapses-requires
-collapses-requires c κs = search needs
+track-collapses-requires : tie.Need-track-collapses-requires
+track-collapses-requires c κs = search needs
 
-either-requires : tie.Need-either-requires
-either-requires c κs = search needs
+gutter-collapses-requires : tie.Need-gutter-collapses-requires
+gutter-collapses-requires c κs = search needs
 
 gutter-requires-2 : tie.Need-gutter-requires-2
 gutter-requires-2 c κs = search needs
 
 returns-2 : tie.Need-returns-2
 returns-2 c =
-    let g = c .before .before .before .before .before .before .before .before .before .before .before .before .before .args in
-    gutter-record (g .axis) (g .plan) (templateOf (g .components .now) (g .minimums .now) (g .maximums .now)) (sparesOf (g .spare-minimums .now) (g .spare-maximums .now)) (itemAt (g .items .now)) (g .at) (g .index) (c .before .before .before .before .before .before .if1 .left)
-    (c .before .before .before .before .before .track-with .result) (c .before .before .before .before .collapses .result) (c .before .before .before .before .before .track-with .ensures) (c .before .before .before .before .collapses .ensures)
-    (c .gutter2 .result) (c .before .either .result) (c .before .before .before .if2 .taken) (c .before .either .ensures) (c .gutter2 .ensures)
+    let a = c .before .before .before .before .before .before .before .before .before .before .before .before .before .before .args in
+    gutter-record (a .at .axis) (a .at .plan) (templateOf (a .components .now) (a .minimums .now) (a .maximums .now)) (sparesOf (a .spare-minimums .now) (a .spare-maximums .now)) (itemAt (a .items .now)) (a .at .cursor) (a .index) (c .before .before .before .before .before .if1 .left)
+    (c .before .before .before .before .track-with .result) (c .before .before .before .track-collapses .result) (c .before .before .before .before .track-with .ensures) (c .before .before .before .track-collapses .ensures)
+    (c .gutter2 .result) (c .before .gutter-collapses .result) (c .before .before .if2 .taken) (c .before .gutter-collapses .ensures) (c .gutter2 .ensures)
 
 track-requires : tie.Need-track-requires
 track-requires c κs = search needs
 
 returns-3 : tie.Need-returns-3
 returns-3 c =
-    let g = c .before .before .before .before .before .before .before .before .before .before .before .before .args in
-    track-record (g .axis) (g .plan) (templateOf (g .components .now) (g .minimums .now) (g .maximums .now)) (sparesOf (g .spare-minimums .now) (g .spare-maximums .now)) (itemAt (g .items .now)) (g .at) (g .index) (c .before .before .before .before .before .if1 .left)
-    (c .before .before .before .before .track-with .result) (c .before .before .before .collapses .result) (c .before .before .before .before .track-with .ensures) (c .before .before .before .collapses .ensures)
+    let a = c .before .before .before .before .before .before .before .before .before .before .before .before .before .before .args in
+    track-record (a .at .axis) (a .at .plan) (templateOf (a .components .now) (a .minimums .now) (a .maximums .now)) (sparesOf (a .spare-minimums .now) (a .spare-maximums .now)) (itemAt (a .items .now)) (a .at .cursor) (a .index) (c .before .before .before .before .before .if1 .left)
+    (c .before .before .before .before .track-with .result) (c .before .before .before .track-collapses .result) (c .before .before .before .before .track-with .ensures) (c .before .before .before .track-collapses .ensures)
     (c .track .result) (c .before .before .if2 .left) (c .track .ensures)
 
 pub record-with-spec : {M : Type 1} → statement M
@@ -52,8 +52,8 @@ record-with-spec =
     returns
     sub-t
     track-with-requires
-    collapses-requires
-    either-requires
+    track-collapses-requires
+    gutter-collapses-requires
     gutter-requires-2
     returns-2
     track-requires

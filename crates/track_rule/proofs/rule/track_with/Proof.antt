@@ -18,7 +18,10 @@ negative-at-requires : tie.Need-negative-at-requires
 negative-at-requires c κs = search needs
 
 returns : tie.Need-returns
-returns c = let a = c .before .before .before .before .before .before .before .before .before .args in rw (lt-ltb (a .index) (a .axis .counts .«negative_implicit») (c .before .if1 .taken)) (c .negative-at .ensures)
+returns c = let a = c .before .before .before .before .before .before .before .before .before .before .before .args in rw (lt-ltb (a .index) (a .at .axis .counts .«negative_implicit») (c .before .if1 .taken)) (c .negative-at .ensures)
+
+cast-end : tie.Need-cast-end
+cast-end c = search needs
 
 add-end : tie.Need-add-end
 add-end c = search needs
@@ -27,7 +30,10 @@ written-at-requires : tie.Need-written-at-requires
 written-at-requires c κs = search needs
 
 returns-2 : tie.Need-returns-2
-returns-2 c = let a = c .before .before .before .before .before .before .before .before .before .before .args in rw (le-ltb (a .index) (a .axis .counts .«negative_implicit») (c .before .before .if1 .left), lt-ltb (a .index) (a .axis .counts .«negative_implicit» + a .written) (c .before .if2 .taken)) (c .written-at .ensures)
+returns-2 c =
+    let a = c .before .before .before .before .before .before .before .before .before .before .before .before .before .before .args in
+    let m = a .at .axis .counts .«negative_implicit» in
+    rw (le-ltb (a .index) m (c .before .before .before .before .if1 .left), lt-ltb (a .index) (m + a .at .plan .written) (c .before .before .if2 .taken)) (c .written-at .ensures)
 
 cast-positive-source : tie.Need-cast-positive-source
 cast-positive-source c = search needs
@@ -43,8 +49,9 @@ spare-at-requires c κs = search needs
 
 returns-3 : tie.Need-returns-3
 returns-3 c =
-    let a = c .before .before .before .before .before .before .before .before .before .before .before .before .args in
-    rw (le-ltb (a .index) (a .axis .counts .«negative_implicit») (c .before .before .before .before .if1 .left), le-ltb (a .index) (a .axis .counts .«negative_implicit» + a .written) (c .before .before .before .if2 .left))
+    let a = c .before .before .before .before .before .before .before .before .before .before .before .before .before .before .before .args in
+    let m = a .at .axis .counts .«negative_implicit» in
+    rw (le-ltb (a .index) m (c .before .before .before .before .before .if1 .left), le-ltb (a .index) (m + a .at .plan .written) (c .before .before .before .if2 .left))
     (ap₂ (λ (x : TrackSource) (y : MinMax). implicit x y) (c .before .positive-source .ensures) (c .spare-at .ensures))
 
 pub track-with-spec : {M : Type 1} → statement M
@@ -55,6 +62,7 @@ track-with-spec =
     cast-negative-at
     negative-at-requires
     returns
+    cast-end
     add-end
     written-at-requires
     returns-2

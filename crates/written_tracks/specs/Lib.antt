@@ -1,0 +1,3 @@
+-- What the contracts on written-out tracks cite.
+pub mod Repeats
+pub mod Plans
