@@ -1,6 +1,6 @@
 //! The stages by the calls of the proved library.
 use crate::answers::{Answers, End};
-use crate::palgwern::{Axis, End as PanelEnd, Panel, Placement, State, ENTRIES, PLACEMENT_NUMBERS, RECORD_WORDS};
+use crate::palgwern::{Axis, End as PanelEnd, Panel, Placement, State, LINE_NAME_RUN, PLACEMENT_RUN, RECORD_WORDS};
 use std::hint::black_box;
 
 const AXES: [Axis; 2] = [Axis::Columns, Axis::Rows];
@@ -8,9 +8,9 @@ const AXES: [Axis; 2] = [Axis::Columns, Axis::Rows];
 /// A panel, room for its records, placements and line names, and the same panel before its names were entered.
 pub(crate) struct Ours {
     panel: Panel,
-    words: [Vec<u64>; 2],
-    numbers: Vec<i32>,
-    listed: Vec<u64>,
+    records: [Vec<u64>; 2],
+    numbers: [i32; PLACEMENT_RUN],
+    names: [u64; LINE_NAME_RUN],
     nameless: Panel,
     before: State,
     entries: Vec<(Axis, u32, Vec<u8>)>,
@@ -38,9 +38,9 @@ impl Ours {
     pub(crate) fn new(sheet: &str, nameless: &str) -> Ours {
         let read = |text: &str| Panel::read(text.as_bytes()).unwrap_or_else(|refusal| panic!("{refusal}"));
         let (panel, nameless) = (read(sheet), read(nameless));
-        let words = AXES.map(|axis| vec![0; panel.record_count(axis) * RECORD_WORDS]);
-        let numbers = vec![0; panel.placements() as usize * PLACEMENT_NUMBERS];
-        Ours { entries: entries(&panel), words, numbers, listed: vec![0; ENTRIES], before: nameless.state(), panel, nameless }
+        let records = AXES.map(|axis| vec![0; panel.record_count(axis) * RECORD_WORDS]);
+        let (numbers, names) = ([0; PLACEMENT_RUN], [0; LINE_NAME_RUN]);
+        Ours { entries: entries(&panel), records, numbers, names, before: nameless.state(), panel, nameless }
     }
 
     /// The stored explicit size of both axes: reading the sheet worked it out.
@@ -63,15 +63,15 @@ impl Ours {
     }
 
     pub(crate) fn records(&mut self) {
-        for (axis, words) in AXES.into_iter().zip(&mut self.words) {
-            black_box(self.panel.write_records(axis, self.panel.items(axis), 0, words)).ok();
+        for (axis, records) in AXES.into_iter().zip(&mut self.records) {
+            black_box(self.panel.write_records(axis, self.panel.items(axis), 0, records)).ok();
         }
     }
 
     pub(crate) fn line_names(&mut self) {
         for axis in AXES {
-            let written = self.panel.write_line_names(axis, &mut self.listed).unwrap_or(0);
-            self.listed[..written].iter().for_each(|word| _ = black_box(self.panel.name_at(axis, *word)));
+            let written = self.panel.write_line_names(axis, &mut self.names).unwrap_or(0);
+            self.names[..written].iter().for_each(|word| _ = black_box(self.panel.name_at(axis, *word)));
         }
     }
 
@@ -91,22 +91,22 @@ impl Ours {
     /// What the panel answers.
     pub(crate) fn answers(&mut self) -> Answers {
         self.records();
-        answers(&self.panel, &self.words)
+        answers(&self.panel, &self.records)
     }
 
     /// What the panel answers whose names were entered by calls.
     pub(crate) fn entered_answers(&mut self) -> Answers {
         self.names();
-        answers(&self.nameless, &self.words)
+        answers(&self.nameless, &self.records)
     }
 }
 
-fn answers(panel: &Panel, words: &[Vec<u64>; 2]) -> Answers {
+fn answers(panel: &Panel, records: &[Vec<u64>; 2]) -> Answers {
     let lists = |axis| panel.line_names(axis).into_iter().map(|names| names.into_iter().map(<[u8]>::to_vec).collect()).collect();
     Answers {
         sizes: AXES.map(|axis| panel.size(axis)).map(|size| (size.repetitions, size.explicit)),
         names: AXES.map(lists),
         placements: panel.resolved().into_iter().map(placement).collect(),
-        records: words.clone(),
+        records: records.clone(),
     }
 }

@@ -1,16 +1,16 @@
 /* Palgwern's calls for C: a panel sheet read, names entered, placements, line names and track records answered.
  *
  * Link target/staticlib/libpanel_c.a (x86-64 Linux), which `rt staticlib panel_c` writes. Every call is proved to end and to
- * answer as its contract in crates/panel_c/src/lib.rt says, whatever the panel and the tables hold. What C must ensure:
+ * answer as its contract in crates/panel_c/src/lib.rt says, whatever the panel and what is lent hold. What C must ensure:
  *
  * - stack: 512 KiB of room for palgwern_read_sheet, 192 KiB for palgwern_line_names, 64 KiB for each
  *   other call (`bindings/test` measures them);
- * - memory: every array and store that is lent is initialized, whatever it holds, and not null; an array has the length that is
- *   stated here, a pointer with a length has so many elements, and one of length 0 still points somewhere;
+ * - memory: everything that is lent is initialized, whatever it holds, and not null; an array has the length that is stated here,
+ *   a pointer with a length has so many elements, and one of length 0 still points somewhere;
  * - no overlap: what a call may write (no `const`) is part of nothing else that is lent to it, and nobody else reads or writes it
  *   meanwhile. There is no other state: calls on different panels can run at the same time;
- * - on the panel: hand each call the panel that the last one gave and the tables and stores that it left. Others are answered
- *   too, but then they describe nothing.
+ * - on the panel: hand each call the panel that the last one gave and the words, bytes and stores that it left. Others are
+ *   answered too, but then they describe nothing.
  *
  * A call that refuses leaves everything lent as it was.
  */
@@ -53,15 +53,31 @@ enum palgwern_limit {
     PALGWERN_PLACEMENT_NUMBERS = 6    /* numbers of a resolved placement in a run */
 };
 
-/* Lengths of the arrays and stores that are lent. */
+/* Lengths of the arrays that are lent, and of the regions that they are made of. */
 enum palgwern_length {
-    PALGWERN_AXIS_WORDS = 12480,     /* columns, rows: components, track sizes, spare sizes, name records, name entries */
-    PALGWERN_AXIS_MARKS = 30000,     /* columnmarks, rowmarks: a byte for each track, not 0 where it holds an item */
-    PALGWERN_AREA_WORDS = 128,       /* areas: edges, then names */
-    PALGWERN_AREA_BYTES = 2048,      /* areabytes: the bytes of their names */
-    PALGWERN_PLACEMENT_WORDS = 512,  /* placements: two words each */
-    PALGWERN_PLACEMENT_BYTES = 16384, /* placementbytes: the bytes of their names */
-    PALGWERN_STORE_BYTES = 32768     /* columnstore, rowstore: the bytes of line names; at least so many, else 10 */
+    PALGWERN_PANEL_WORDS = 25600,     /* words: the columns', the rows', those of areas and of placements */
+    PALGWERN_PANEL_BYTES = 78432,     /* bytes: item marks of the columns and of the rows, names of areas and of placements */
+    PALGWERN_STORE_BYTES = 32768,     /* columnstore, rowstore: the bytes of line names; at least so many, else 10 */
+    PALGWERN_PLACEMENT_RUN = 1536,    /* numbers of a run of placements: six for each that a panel can have */
+    PALGWERN_LINE_NAME_RUN = 4096,    /* names of a run of line names: a word for each entry that an axis can have */
+    PALGWERN_AXIS_WORDS = 12480,      /* of an axis: components, track sizes, spare sizes, name records, name entries */
+    PALGWERN_AREA_WORDS = 128,        /* edges, then names */
+    PALGWERN_PLACEMENT_WORDS = 512,   /* two words each */
+    PALGWERN_AXIS_MARKS = 30000,      /* a byte for each track of an axis, not 0 where it holds an item */
+    PALGWERN_AREA_BYTES = 2048,       /* the bytes of the names of areas */
+    PALGWERN_PLACEMENT_BYTES = 16384  /* the bytes of the names of placements */
+};
+
+/* Where the regions start: four of the words, four of the bytes. */
+enum palgwern_start {
+    PALGWERN_COLUMNS_START = 0,
+    PALGWERN_ROWS_START = 12480,
+    PALGWERN_AREAS_START = 24960,
+    PALGWERN_PLACEMENTS_START = 25088,
+    PALGWERN_COLUMN_MARKS_START = 0,
+    PALGWERN_ROW_MARKS_START = 30000,
+    PALGWERN_AREA_NAMES_START = 60000,
+    PALGWERN_PLACEMENT_NAMES_START = 62048
 };
 
 enum palgwern_axis_number { PALGWERN_COLUMNS = 0, PALGWERN_ROWS = 1 };
@@ -131,16 +147,13 @@ typedef struct palgwern_placement_answer {
 /* The panel that a sheet describes. Refuses by 1 to 8 with the line (0: too long; the line after the last: what the whole sheet
  * says), then by 10 for a short store. */
 palgwern_panel_answer palgwern_read_sheet(
-    const uint8_t *sheet, size_t sheet_bytes,
-    uint64_t columns[PALGWERN_AXIS_WORDS], uint64_t rows[PALGWERN_AXIS_WORDS],
-    uint8_t columnmarks[PALGWERN_AXIS_MARKS], uint8_t rowmarks[PALGWERN_AXIS_MARKS],
-    uint64_t areas[PALGWERN_AREA_WORDS], uint8_t areabytes[PALGWERN_AREA_BYTES],
-    uint64_t placements[PALGWERN_PLACEMENT_WORDS], uint8_t placementbytes[PALGWERN_PLACEMENT_BYTES],
+    const uint8_t *sheet, size_t sheet_bytes, uint64_t words[PALGWERN_PANEL_WORDS], uint8_t bytes[PALGWERN_PANEL_BYTES],
     uint8_t *columnstore, size_t columnstore_bytes, uint8_t *rowstore, size_t rowstore_bytes);
 
-/* The panel with one more line and name entered in an axis. Refuses by 2, 4, 8, then 10. */
+/* The panel with one more line and name entered in an axis. The words of the other axis, of areas and of placements stay as they
+ * are, and so does the other store. Refuses by 2, 4, 8, then 10. */
 palgwern_panel_answer palgwern_enter_name(
-    palgwern_panel panel, uint64_t columns[PALGWERN_AXIS_WORDS], uint64_t rows[PALGWERN_AXIS_WORDS],
+    palgwern_panel panel, uint64_t words[PALGWERN_PANEL_WORDS],
     uint8_t *columnstore, size_t columnstore_bytes, uint8_t *rowstore, size_t rowstore_bytes,
     uint32_t axis, uint32_t line, const uint8_t *name, size_t name_bytes);
 
@@ -155,106 +168,94 @@ palgwern_count_answer palgwern_record_count(palgwern_panel panel, uint32_t axis)
 
 /* Placement `index`, from 0, with its names resolved. Refuses by 4 (no such placement), then 10. */
 palgwern_placement_answer palgwern_resolve_placement(
-    palgwern_panel panel, const uint64_t columns[PALGWERN_AXIS_WORDS], const uint64_t rows[PALGWERN_AXIS_WORDS],
+    palgwern_panel panel, const uint64_t words[PALGWERN_PANEL_WORDS], const uint8_t bytes[PALGWERN_PANEL_BYTES],
     const uint8_t *columnstore, size_t columnstore_bytes, const uint8_t *rowstore, size_t rowstore_bytes,
-    const uint64_t areas[PALGWERN_AREA_WORDS], const uint8_t areabytes[PALGWERN_AREA_BYTES],
-    const uint64_t placements[PALGWERN_PLACEMENT_WORDS], const uint8_t placementbytes[PALGWERN_PLACEMENT_BYTES],
     uint32_t index);
 
-/* Placements from `first` on with their names resolved, as many as there are and as fit in `numbers`, six numbers each in the order
- * of palgwern_placement_answer; answers how many. The same answers as one by one, but the names are grouped once for all,
- * so hand over a run for all. Refuses by 4 (`first` is no placement), then by 10 (a short store, or fewer than six numbers). */
+/* Placements from `first` on with their names resolved, as many as there are and as fit in `numbers` (all that a sheet gives), six
+ * numbers each in the order of palgwern_placement_answer; answers how many. Numbers past them stay as they are. The same answers as
+ * one by one, but the names are grouped once for all. Refuses by 4 (`first` is no placement), then by 10 (a short store). */
 palgwern_count_answer palgwern_resolve_placements(
-    palgwern_panel panel, const uint64_t columns[PALGWERN_AXIS_WORDS], const uint64_t rows[PALGWERN_AXIS_WORDS],
+    palgwern_panel panel, const uint64_t words[PALGWERN_PANEL_WORDS], const uint8_t bytes[PALGWERN_PANEL_BYTES],
     const uint8_t *columnstore, size_t columnstore_bytes, const uint8_t *rowstore, size_t rowstore_bytes,
-    const uint64_t areas[PALGWERN_AREA_WORDS], const uint8_t areabytes[PALGWERN_AREA_BYTES],
-    const uint64_t placements[PALGWERN_PLACEMENT_WORDS], const uint8_t placementbytes[PALGWERN_PLACEMENT_BYTES],
-    uint32_t first, int32_t *numbers, size_t numbers_length);
+    uint32_t first, int32_t numbers[PALGWERN_PLACEMENT_RUN]);
 
 /* Where a name of a line (from 1) of an axis lies in the axis's store, by its place from 0. Length 0: that line and place hold
- * none, or a store is short. Offset and length stay within the store. */
+ * none. Offset and length stay within the store. Refuses by 4 (no axis), then by 10 (a short store). */
 palgwern_name_answer palgwern_line_name(
-    palgwern_panel panel, const uint64_t columns[PALGWERN_AXIS_WORDS], const uint64_t rows[PALGWERN_AXIS_WORDS],
+    palgwern_panel panel, const uint64_t words[PALGWERN_PANEL_WORDS],
     const uint8_t *columnstore, size_t columnstore_bytes, const uint8_t *rowstore, size_t rowstore_bytes,
     uint32_t axis, uint32_t line, uint32_t place);
 
 /* All line names of an axis: one list for each explicit line after the other, in entry order, a name once. A word for each name: its
- * line (from 1), its offset in the axis's store times 2^16, and its length times 2^32. Answers how many words are written, never
- * more than the axis has entries, so that PALGWERN_ENTRIES are always enough; words past them stay as they are. Offset and length
- * stay within the store. Refuses by 4 (no axis, or an explicit count above 10,000, which no sheet gives), then by 10 (a short store,
- * or fewer words than entries). */
+ * line (from 1), its offset in the axis's store times 2^16, and its length times 2^32. Answers how many words are written to
+ * `names`; words past them stay as they are. Offset and length stay within the store. Refuses by 4 (no axis, or an explicit count
+ * above 10,000, which no sheet gives), then by 10 (a short store). */
 palgwern_count_answer palgwern_line_names(
-    palgwern_panel panel, const uint64_t columns[PALGWERN_AXIS_WORDS], const uint64_t rows[PALGWERN_AXIS_WORDS],
+    palgwern_panel panel, const uint64_t words[PALGWERN_PANEL_WORDS],
     const uint8_t *columnstore, size_t columnstore_bytes, const uint8_t *rowstore, size_t rowstore_bytes,
-    uint32_t axis, uint64_t *words, size_t words_length);
+    uint32_t axis, uint64_t names[PALGWERN_LINE_NAME_RUN]);
 
 /* The parts of a word of palgwern_line_names. */
 static inline uint32_t palgwern_word_line(uint64_t word) { return word & 0xffff; }
 static inline uint32_t palgwern_word_offset(uint64_t word) { return word >> 16 & 0xffff; }
 static inline uint32_t palgwern_word_length(uint64_t word) { return word >> 32 & 0xff; }
 
-/* Records of an axis from `first` on, as many as there are and as fit in `words`, three words each; answers how many. `items` has
- * a byte for each track, not 0 where it holds an item: the marks that the sheet left, or others. Refuses by 4 (`first` is no
- * record), then by 10 (fewer item bytes than tracks, or fewer than three words). Time is linear in the axis, so hand over a run
- * for all. */
+/* Records of an axis from `first` on, as many as there are and as fit in `records`, three words each; answers how many. `items`
+ * has a byte for each track, not 0 where it holds an item: the marks that the sheet left, or others. Refuses by 4 (no axis, or
+ * `first` is no record), then by 10 (fewer item bytes than tracks, or words for no record). Time is linear in the axis, so hand
+ * over a run for all. */
 palgwern_count_answer palgwern_records(
-    palgwern_panel panel, const uint64_t columns[PALGWERN_AXIS_WORDS], const uint64_t rows[PALGWERN_AXIS_WORDS],
-    uint32_t axis, const uint8_t *items, size_t items_bytes, uint32_t first, uint64_t *words, size_t words_length);
+    palgwern_panel panel, const uint64_t words[PALGWERN_PANEL_WORDS],
+    uint32_t axis, const uint8_t *items, size_t items_bytes, uint32_t first, uint64_t *records, size_t records_length);
 
 /* ---- all that is lent, in one struct, and the calls on it */
 
 typedef struct palgwern_tables {
-    uint64_t columns[PALGWERN_AXIS_WORDS];
-    uint64_t rows[PALGWERN_AXIS_WORDS];
-    uint64_t areas[PALGWERN_AREA_WORDS];
-    uint64_t placements[PALGWERN_PLACEMENT_WORDS];
-    uint8_t columnmarks[PALGWERN_AXIS_MARKS];
-    uint8_t rowmarks[PALGWERN_AXIS_MARKS];
-    uint8_t areabytes[PALGWERN_AREA_BYTES];
-    uint8_t placementbytes[PALGWERN_PLACEMENT_BYTES];
+    uint64_t words[PALGWERN_PANEL_WORDS];
+    uint8_t bytes[PALGWERN_PANEL_BYTES];
     uint8_t columnstore[PALGWERN_STORE_BYTES];
     uint8_t rowstore[PALGWERN_STORE_BYTES];
 } palgwern_tables;
 
 static inline palgwern_panel_answer palgwern_tables_read(palgwern_tables *t, const void *sheet, size_t bytes) {
-    return palgwern_read_sheet((const uint8_t *)sheet, bytes, t->columns, t->rows, t->columnmarks, t->rowmarks, t->areas,
-        t->areabytes, t->placements, t->placementbytes, t->columnstore, sizeof t->columnstore, t->rowstore, sizeof t->rowstore);
+    return palgwern_read_sheet((const uint8_t *)sheet, bytes, t->words, t->bytes, t->columnstore, sizeof t->columnstore, t->rowstore,
+        sizeof t->rowstore);
 }
 
 static inline palgwern_panel_answer palgwern_tables_enter(palgwern_tables *t, palgwern_panel panel, uint32_t axis, uint32_t line,
     const void *name, size_t bytes) {
-    return palgwern_enter_name(panel, t->columns, t->rows, t->columnstore, sizeof t->columnstore, t->rowstore, sizeof t->rowstore,
-        axis, line, (const uint8_t *)name, bytes);
+    return palgwern_enter_name(panel, t->words, t->columnstore, sizeof t->columnstore, t->rowstore, sizeof t->rowstore, axis, line,
+        (const uint8_t *)name, bytes);
 }
 
 static inline palgwern_placement_answer palgwern_tables_placement(const palgwern_tables *t, palgwern_panel panel, uint32_t index) {
-    return palgwern_resolve_placement(panel, t->columns, t->rows, t->columnstore, sizeof t->columnstore, t->rowstore,
-        sizeof t->rowstore, t->areas, t->areabytes, t->placements, t->placementbytes, index);
+    return palgwern_resolve_placement(panel, t->words, t->bytes, t->columnstore, sizeof t->columnstore, t->rowstore,
+        sizeof t->rowstore, index);
 }
 
 static inline palgwern_count_answer palgwern_tables_placements(const palgwern_tables *t, palgwern_panel panel, uint32_t first,
-    int32_t *numbers, size_t length) {
-    return palgwern_resolve_placements(panel, t->columns, t->rows, t->columnstore, sizeof t->columnstore, t->rowstore,
-        sizeof t->rowstore, t->areas, t->areabytes, t->placements, t->placementbytes, first, numbers, length);
+    int32_t numbers[PALGWERN_PLACEMENT_RUN]) {
+    return palgwern_resolve_placements(panel, t->words, t->bytes, t->columnstore, sizeof t->columnstore, t->rowstore,
+        sizeof t->rowstore, first, numbers);
 }
 
 static inline palgwern_count_answer palgwern_tables_names(const palgwern_tables *t, palgwern_panel panel, uint32_t axis,
-    uint64_t *words, size_t length) {
-    return palgwern_line_names(panel, t->columns, t->rows, t->columnstore, sizeof t->columnstore, t->rowstore, sizeof t->rowstore,
-        axis, words, length);
+    uint64_t names[PALGWERN_LINE_NAME_RUN]) {
+    return palgwern_line_names(panel, t->words, t->columnstore, sizeof t->columnstore, t->rowstore, sizeof t->rowstore, axis, names);
 }
 
 static inline palgwern_name_answer palgwern_tables_name(const palgwern_tables *t, palgwern_panel panel, uint32_t axis,
     uint32_t line, uint32_t place) {
-    return palgwern_line_name(panel, t->columns, t->rows, t->columnstore, sizeof t->columnstore, t->rowstore, sizeof t->rowstore,
-        axis, line, place);
+    return palgwern_line_name(panel, t->words, t->columnstore, sizeof t->columnstore, t->rowstore, sizeof t->rowstore, axis, line,
+        place);
 }
 
 /* with the sheet's item marks */
 static inline palgwern_count_answer palgwern_tables_records(const palgwern_tables *t, palgwern_panel panel, uint32_t axis,
-    uint32_t first, uint64_t *words, size_t length) {
-    const uint8_t *items = axis == PALGWERN_ROWS ? t->rowmarks : t->columnmarks;
-    return palgwern_records(panel, t->columns, t->rows, axis, items, PALGWERN_AXIS_MARKS, first, words, length);
+    uint32_t first, uint64_t *records, size_t length) {
+    const uint8_t *items = t->bytes + (axis == PALGWERN_ROWS ? PALGWERN_ROW_MARKS_START : PALGWERN_COLUMN_MARKS_START);
+    return palgwern_records(panel, t->words, axis, items, PALGWERN_AXIS_MARKS, first, records, length);
 }
 
 #ifdef __cplusplus

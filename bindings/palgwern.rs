@@ -6,14 +6,29 @@
 #![allow(dead_code)]
 use std::fmt;
 
-/// Lengths of the buffers that are lent, as in `palgwern.h`.
-pub const AXIS_WORDS: usize = 12_480;
-pub const AXIS_MARKS: usize = 30_000;
-pub const AREA_WORDS: usize = 128;
-pub const AREA_BYTES: usize = 2_048;
-pub const PLACEMENT_WORDS: usize = 512;
-pub const PLACEMENT_BYTES: usize = 16_384;
+/// Lengths of the arrays that are lent, as in `palgwern.h`.
+pub const PANEL_WORDS: usize = 25_600;
+pub const PANEL_BYTES: usize = 78_432;
 pub const STORE_BYTES: usize = 32_768;
+/// The numbers of a run of placements, and the words of a run of line names.
+pub const PLACEMENT_RUN: usize = 1_536;
+pub const LINE_NAME_RUN: usize = 4_096;
+/// Where the regions of the words start, and their lengths.
+pub const COLUMNS_START: usize = 0;
+pub const ROWS_START: usize = 12_480;
+pub const AREAS_START: usize = 24_960;
+pub const PLACEMENTS_START: usize = 25_088;
+pub const AXIS_WORDS: usize = 12_480;
+pub const AREA_WORDS: usize = 128;
+pub const PLACEMENT_WORDS: usize = 512;
+/// Where the regions of the bytes start, and their lengths.
+pub const COLUMN_MARKS_START: usize = 0;
+pub const ROW_MARKS_START: usize = 30_000;
+pub const AREA_NAMES_START: usize = 60_000;
+pub const PLACEMENT_NAMES_START: usize = 62_048;
+pub const AXIS_MARKS: usize = 30_000;
+pub const AREA_BYTES: usize = 2_048;
+pub const PLACEMENT_BYTES: usize = 16_384;
 /// The most name entries of an axis.
 pub const ENTRIES: usize = 4_096;
 /// The words of a record.
@@ -102,41 +117,35 @@ pub mod raw {
 
     extern "C" {
         pub fn palgwern_read_sheet(
-            sheet: *const u8, sheet_bytes: usize, columns: *mut [u64; AXIS_WORDS], rows: *mut [u64; AXIS_WORDS],
-            columnmarks: *mut [u8; AXIS_MARKS], rowmarks: *mut [u8; AXIS_MARKS], areas: *mut [u64; AREA_WORDS],
-            areabytes: *mut [u8; AREA_BYTES], placements: *mut [u64; PLACEMENT_WORDS], placementbytes: *mut [u8; PLACEMENT_BYTES],
+            sheet: *const u8, sheet_bytes: usize, words: *mut [u64; PANEL_WORDS], bytes: *mut [u8; PANEL_BYTES],
             columnstore: *mut u8, columnstore_bytes: usize, rowstore: *mut u8, rowstore_bytes: usize,
         ) -> PanelAnswer;
         pub fn palgwern_enter_name(
-            panel: State, columns: *mut [u64; AXIS_WORDS], rows: *mut [u64; AXIS_WORDS], columnstore: *mut u8, columnstore_bytes: usize,
-            rowstore: *mut u8, rowstore_bytes: usize, axis: u32, line: u32, name: *const u8, name_bytes: usize,
+            panel: State, words: *mut [u64; PANEL_WORDS], columnstore: *mut u8, columnstore_bytes: usize, rowstore: *mut u8,
+            rowstore_bytes: usize, axis: u32, line: u32, name: *const u8, name_bytes: usize,
         ) -> PanelAnswer;
         pub fn palgwern_explicit_size(panel: State, axis: u32) -> SizeAnswer;
         pub fn palgwern_line_count(panel: State, axis: u32) -> CountAnswer;
         pub fn palgwern_record_count(panel: State, axis: u32) -> CountAnswer;
         pub fn palgwern_resolve_placement(
-            panel: State, columns: *const [u64; AXIS_WORDS], rows: *const [u64; AXIS_WORDS], columnstore: *const u8,
-            columnstore_bytes: usize, rowstore: *const u8, rowstore_bytes: usize, areas: *const [u64; AREA_WORDS],
-            areabytes: *const [u8; AREA_BYTES], placements: *const [u64; PLACEMENT_WORDS], placementbytes: *const [u8; PLACEMENT_BYTES],
-            index: u32,
+            panel: State, words: *const [u64; PANEL_WORDS], bytes: *const [u8; PANEL_BYTES], columnstore: *const u8,
+            columnstore_bytes: usize, rowstore: *const u8, rowstore_bytes: usize, index: u32,
         ) -> PlacementAnswer;
         pub fn palgwern_resolve_placements(
-            panel: State, columns: *const [u64; AXIS_WORDS], rows: *const [u64; AXIS_WORDS], columnstore: *const u8,
-            columnstore_bytes: usize, rowstore: *const u8, rowstore_bytes: usize, areas: *const [u64; AREA_WORDS],
-            areabytes: *const [u8; AREA_BYTES], placements: *const [u64; PLACEMENT_WORDS], placementbytes: *const [u8; PLACEMENT_BYTES],
-            first: u32, numbers: *mut i32, numbers_length: usize,
+            panel: State, words: *const [u64; PANEL_WORDS], bytes: *const [u8; PANEL_BYTES], columnstore: *const u8,
+            columnstore_bytes: usize, rowstore: *const u8, rowstore_bytes: usize, first: u32, numbers: *mut [i32; PLACEMENT_RUN],
         ) -> CountAnswer;
         pub fn palgwern_line_name(
-            panel: State, columns: *const [u64; AXIS_WORDS], rows: *const [u64; AXIS_WORDS], columnstore: *const u8,
-            columnstore_bytes: usize, rowstore: *const u8, rowstore_bytes: usize, axis: u32, line: u32, place: u32,
+            panel: State, words: *const [u64; PANEL_WORDS], columnstore: *const u8, columnstore_bytes: usize, rowstore: *const u8,
+            rowstore_bytes: usize, axis: u32, line: u32, place: u32,
         ) -> NameAnswer;
         pub fn palgwern_line_names(
-            panel: State, columns: *const [u64; AXIS_WORDS], rows: *const [u64; AXIS_WORDS], columnstore: *const u8,
-            columnstore_bytes: usize, rowstore: *const u8, rowstore_bytes: usize, axis: u32, words: *mut u64, words_length: usize,
+            panel: State, words: *const [u64; PANEL_WORDS], columnstore: *const u8, columnstore_bytes: usize, rowstore: *const u8,
+            rowstore_bytes: usize, axis: u32, names: *mut [u64; LINE_NAME_RUN],
         ) -> CountAnswer;
         pub fn palgwern_records(
-            panel: State, columns: *const [u64; AXIS_WORDS], rows: *const [u64; AXIS_WORDS], axis: u32, items: *const u8,
-            items_bytes: usize, first: u32, words: *mut u64, words_length: usize,
+            panel: State, words: *const [u64; PANEL_WORDS], axis: u32, items: *const u8, items_bytes: usize, first: u32,
+            records: *mut u64, records_length: usize,
         ) -> CountAnswer;
     }
 }
@@ -262,18 +271,12 @@ impl Record {
     }
 }
 
-/// A panel, with the buffers that the library keeps it in.
-#[derive(Clone)]
+/// A panel, with the buffers that the library keeps it in. Two are equal where every word and byte of them is.
+#[derive(Clone, PartialEq, Eq)]
 pub struct Panel {
     state: State,
-    columns: Box<[u64; AXIS_WORDS]>,
-    rows: Box<[u64; AXIS_WORDS]>,
-    columnmarks: Box<[u8; AXIS_MARKS]>,
-    rowmarks: Box<[u8; AXIS_MARKS]>,
-    areas: Box<[u64; AREA_WORDS]>,
-    areabytes: Box<[u8; AREA_BYTES]>,
-    placements: Box<[u64; PLACEMENT_WORDS]>,
-    placementbytes: Box<[u8; PLACEMENT_BYTES]>,
+    words: Box<[u64; PANEL_WORDS]>,
+    bytes: Box<[u8; PANEL_BYTES]>,
     columnstore: Box<[u8; STORE_BYTES]>,
     rowstore: Box<[u8; STORE_BYTES]>,
 }
@@ -319,19 +322,7 @@ impl Panel {
 
     /// The panel of the empty sheet.
     pub fn empty() -> Panel {
-        Panel {
-            state: State::default(),
-            columns: zeroed(),
-            rows: zeroed(),
-            columnmarks: zeroed(),
-            rowmarks: zeroed(),
-            areas: zeroed(),
-            areabytes: zeroed(),
-            placements: zeroed(),
-            placementbytes: zeroed(),
-            columnstore: zeroed(),
-            rowstore: zeroed(),
-        }
+        Panel { state: State::default(), words: zeroed(), bytes: zeroed(), columnstore: zeroed(), rowstore: zeroed() }
     }
 
     /// Reads another sheet into the same buffers. On a refusal the panel stays.
@@ -339,9 +330,8 @@ impl Panel {
         // SAFETY: the arrays are initialized boxes of their own, each of the length that its type says.
         let answer = unsafe {
             raw::palgwern_read_sheet(
-                sheet.as_ptr(), sheet.len(), &mut *self.columns, &mut *self.rows, &mut *self.columnmarks, &mut *self.rowmarks,
-                &mut *self.areas, &mut *self.areabytes, &mut *self.placements, &mut *self.placementbytes,
-                self.columnstore.as_mut_ptr(), STORE_BYTES, self.rowstore.as_mut_ptr(), STORE_BYTES,
+                sheet.as_ptr(), sheet.len(), &mut *self.words, &mut *self.bytes, self.columnstore.as_mut_ptr(), STORE_BYTES,
+                self.rowstore.as_mut_ptr(), STORE_BYTES,
             )
         };
         self.after(answer)
@@ -352,8 +342,8 @@ impl Panel {
         // SAFETY: as above.
         let answer = unsafe {
             raw::palgwern_enter_name(
-                self.state, &mut *self.columns, &mut *self.rows, self.columnstore.as_mut_ptr(), STORE_BYTES,
-                self.rowstore.as_mut_ptr(), STORE_BYTES, axis as u32, line, name.as_ptr(), name.len(),
+                self.state, &mut *self.words, self.columnstore.as_mut_ptr(), STORE_BYTES, self.rowstore.as_mut_ptr(), STORE_BYTES,
+                axis as u32, line, name.as_ptr(), name.len(),
             )
         };
         self.after(answer)
@@ -384,8 +374,8 @@ impl Panel {
         // SAFETY: as in `read_again`; nothing is written.
         let answer = unsafe {
             raw::palgwern_resolve_placement(
-                self.state, &*self.columns, &*self.rows, self.columnstore.as_ptr(), STORE_BYTES, self.rowstore.as_ptr(), STORE_BYTES,
-                &*self.areas, &*self.areabytes, &*self.placements, &*self.placementbytes, index,
+                self.state, &*self.words, &*self.bytes, self.columnstore.as_ptr(), STORE_BYTES, self.rowstore.as_ptr(), STORE_BYTES,
+                index,
             )
         };
         if answer.number != 0 {
@@ -397,18 +387,18 @@ impl Panel {
 
     /// All placements with their names resolved, in one run: the answers of `placement`, with the names grouped once.
     pub fn resolved(&self) -> Vec<Placement> {
-        let mut numbers = vec![0; self.state.placements as usize * PLACEMENT_NUMBERS];
+        let mut numbers = zeroed();
         let written = self.write_placements(0, &mut numbers).unwrap_or(0);
         numbers.chunks_exact(PLACEMENT_NUMBERS).take(written).map(|n| Placement::of(n.try_into().unwrap())).collect()
     }
 
-    /// Writes placements from `first` on, as many as there are and fit, six numbers each; answers how many.
-    pub fn write_placements(&self, first: u32, numbers: &mut [i32]) -> Result<usize, Refusal> {
+    /// Writes placements from `first` on, as many as there are, six numbers each; answers how many.
+    pub fn write_placements(&self, first: u32, numbers: &mut [i32; PLACEMENT_RUN]) -> Result<usize, Refusal> {
         // SAFETY: as in `read_again`; `numbers` is borrowed mutably, so it is none of the others.
         let answer = unsafe {
             raw::palgwern_resolve_placements(
-                self.state, &*self.columns, &*self.rows, self.columnstore.as_ptr(), STORE_BYTES, self.rowstore.as_ptr(), STORE_BYTES,
-                &*self.areas, &*self.areabytes, &*self.placements, &*self.placementbytes, first, numbers.as_mut_ptr(), numbers.len(),
+                self.state, &*self.words, &*self.bytes, self.columnstore.as_ptr(), STORE_BYTES, self.rowstore.as_ptr(), STORE_BYTES,
+                first, numbers,
             )
         };
         counted(answer)
@@ -425,8 +415,8 @@ impl Panel {
         // SAFETY: as in `read_again`; nothing is written.
         let part = unsafe {
             raw::palgwern_line_name(
-                self.state, &*self.columns, &*self.rows, self.columnstore.as_ptr(), STORE_BYTES, self.rowstore.as_ptr(), STORE_BYTES,
-                axis as u32, line, place,
+                self.state, &*self.words, self.columnstore.as_ptr(), STORE_BYTES, self.rowstore.as_ptr(), STORE_BYTES, axis as u32,
+                line, place,
             )
         };
         let name = &self.store(axis)[part.offset as usize..][..part.length as usize];
@@ -440,22 +430,22 @@ impl Panel {
 
     /// All line names of an axis: one list for each explicit line, none at all where the axis has no entry.
     pub fn line_names(&self, axis: Axis) -> Vec<Vec<&[u8]>> {
-        let mut words = vec![0; ENTRIES];
-        let written = self.write_line_names(axis, &mut words).unwrap_or(0);
+        let mut names = zeroed();
+        let written = self.write_line_names(axis, &mut names).unwrap_or(0);
         let mut lists = vec![Vec::new(); self.lists(axis) as usize];
-        for word in &words[..written] {
+        for word in &names[..written] {
             lists[(word & 0xffff) as usize - 1].push(self.name_at(axis, *word));
         }
         lists
     }
 
     /// Writes all line names of an axis, a word each: line, offset times 2^16, length times 2^32; answers how many.
-    pub fn write_line_names(&self, axis: Axis, words: &mut [u64]) -> Result<usize, Refusal> {
-        // SAFETY: as in `read_again`; `words` is borrowed mutably, so it is none of the others.
+    pub fn write_line_names(&self, axis: Axis, names: &mut [u64; LINE_NAME_RUN]) -> Result<usize, Refusal> {
+        // SAFETY: as in `read_again`; `names` is borrowed mutably, so it is none of the others.
         let answer = unsafe {
             raw::palgwern_line_names(
-                self.state, &*self.columns, &*self.rows, self.columnstore.as_ptr(), STORE_BYTES, self.rowstore.as_ptr(), STORE_BYTES,
-                axis as u32, words.as_mut_ptr(), words.len(),
+                self.state, &*self.words, self.columnstore.as_ptr(), STORE_BYTES, self.rowstore.as_ptr(), STORE_BYTES, axis as u32,
+                names,
             )
         };
         counted(answer)
@@ -481,26 +471,27 @@ impl Panel {
 
     /// The records of an axis, with the sheet's items.
     pub fn records(&self, axis: Axis) -> Vec<Record> {
-        let mut words = vec![0; self.record_count(axis) * RECORD_WORDS];
-        let written = self.write_records(axis, self.items(axis), 0, &mut words);
+        let mut records = vec![0; self.record_count(axis) * RECORD_WORDS];
+        let written = self.write_records(axis, self.items(axis), 0, &mut records);
         debug_assert_eq!(written, Ok(self.record_count(axis)));
-        words.chunks_exact(RECORD_WORDS).map(|r| Record::of(r.try_into().unwrap())).collect()
+        records.chunks_exact(RECORD_WORDS).map(|r| Record::of(r.try_into().unwrap())).collect()
     }
 
     /// A byte for each track of an axis, not 0 where the sheet has an item.
     pub fn items(&self, axis: Axis) -> &[u8] {
-        match axis {
-            Axis::Columns => &self.columnmarks[..],
-            Axis::Rows => &self.rowmarks[..],
-        }
+        let start = match axis {
+            Axis::Columns => COLUMN_MARKS_START,
+            Axis::Rows => ROW_MARKS_START,
+        };
+        &self.bytes[start..start + AXIS_MARKS]
     }
 
     /// Writes records from `first` on, with any items, as many as there are and fit, three words each; answers how many.
-    pub fn write_records(&self, axis: Axis, items: &[u8], first: u32, words: &mut [u64]) -> Result<usize, Refusal> {
-        // SAFETY: as in `read_again`; `words` is borrowed mutably, so it is none of the others.
+    pub fn write_records(&self, axis: Axis, items: &[u8], first: u32, records: &mut [u64]) -> Result<usize, Refusal> {
+        // SAFETY: as in `read_again`; `records` is borrowed mutably, so it is none of the others.
         let answer = unsafe {
             raw::palgwern_records(
-                self.state, &*self.columns, &*self.rows, axis as u32, items.as_ptr(), items.len(), first, words.as_mut_ptr(), words.len(),
+                self.state, &*self.words, axis as u32, items.as_ptr(), items.len(), first, records.as_mut_ptr(), records.len(),
             )
         };
         counted(answer)

@@ -14,12 +14,16 @@ _Static_assert(sizeof(palgwern_size_answer) == 12 && sizeof(palgwern_name_answer
 _Static_assert(sizeof(palgwern_count_answer) == 16 && offsetof(palgwern_count_answer, count) == 8, "count answer");
 _Static_assert(sizeof(palgwern_placement_answer) == 24, "placement answer");
 
+_Static_assert(PALGWERN_PLACEMENT_RUN == PALGWERN_PLACEMENTS * PALGWERN_PLACEMENT_NUMBERS, "run of placements");
+_Static_assert((int)PALGWERN_LINE_NAME_RUN == (int)PALGWERN_ENTRIES, "run of line names");
+
 static palgwern_tables tables, before;
-static uint64_t all[PALGWERN_LARGEST_RECORDS * PALGWERN_RECORD_WORDS], some[30], names[PALGWERN_ENTRIES];
-static int32_t numbers[PALGWERN_PLACEMENTS * PALGWERN_PLACEMENT_NUMBERS];
+static uint64_t all[PALGWERN_LARGEST_RECORDS * PALGWERN_RECORD_WORDS], some[30], names[PALGWERN_LINE_NAME_RUN];
+static int32_t numbers[PALGWERN_PLACEMENT_RUN];
 static char sheet[PALGWERN_SHEET_BYTES + 1];
 static size_t sheet_bytes;
 static palgwern_panel panel;
+static const palgwern_panel no_panel;
 static int failed;
 
 #define CHECK(x) do { if (!(x)) { printf("failed, line %d: %s\n", __LINE__, #x); failed = 1; } } while (0)
@@ -38,6 +42,13 @@ static int same(palgwern_panel a, palgwern_panel b) {
         a.placements == b.placements && a.placementbytes == b.placementbytes;
 }
 
+/* How many words of a region are not 0. */
+static size_t words_held(size_t start, size_t length) {
+    size_t held = 0;
+    for (size_t i = start; i < start + length; i++) held += tables.words[i] != 0;
+    return held;
+}
+
 /* Every field of the panel, on a sheet that gives them different values: no field of an axis has the values of another, in both
  * axes (tests.rs tests that), nor the same value in both. */
 static void layout(void) {
@@ -53,8 +64,13 @@ static void layout(void) {
     CHECK(r.negative == 6 && r.positive == 10 && r.entries == 11 && r.repetitions == 0 && r.explicit_count == 9 && r.areas == 8);
     CHECK(panel.areas == 3 && panel.areabytes == 11 && panel.placements == 2 && panel.placementbytes == 12);
     CHECK(!memcmp(tables.columnstore, "xyyzzzuuuuuwv", 14) && !memcmp(tables.rowstore, "rownamepqssttt", 15));
-    CHECK(!memcmp(tables.areabytes, "alphabgamma", 12) && !memcmp(tables.placementbytes, "uuuuurowname", 13));
-    CHECK(tables.columnmarks[8] != 0 && tables.columnmarks[2] == 0 && tables.rowmarks[2] != 0 && tables.rowmarks[8] == 0);
+    CHECK(!memcmp(tables.bytes + PALGWERN_AREA_NAMES_START, "alphabgamma", 12));
+    CHECK(!memcmp(tables.bytes + PALGWERN_PLACEMENT_NAMES_START, "uuuuurowname", 13));
+    const uint8_t *columnmarks = tables.bytes + PALGWERN_COLUMN_MARKS_START, *rowmarks = tables.bytes + PALGWERN_ROW_MARKS_START;
+    CHECK(columnmarks[8] != 0 && columnmarks[2] == 0 && rowmarks[2] != 0 && rowmarks[8] == 0);
+    CHECK(words_held(PALGWERN_COLUMNS_START, PALGWERN_AXIS_WORDS) > words_held(PALGWERN_ROWS_START, PALGWERN_AXIS_WORDS));
+    CHECK(words_held(PALGWERN_AREAS_START, PALGWERN_AREA_WORDS) == 6 && tables.words[PALGWERN_AREAS_START] != 0);
+    CHECK(words_held(PALGWERN_PLACEMENTS_START, PALGWERN_PLACEMENT_WORDS) == 4 && tables.words[PALGWERN_PLACEMENTS_START] != 0);
 }
 
 static int is_size(palgwern_size_answer a, uint32_t repetitions, uint32_t explicit_count) {
@@ -106,22 +122,50 @@ static void records(void) {
     }
 }
 
+/* What a run is written to, filled with a byte, so that what a call leaves shows. */
+static void fill_runs(void) {
+    memset(numbers, 7, sizeof numbers);
+    memset(names, 7, sizeof names);
+    memset(some, 7, sizeof some);
+}
+
+/* Whether the numbers from one on, the names from one on and the records from one on are as they were filled. */
+static int filled_from(size_t number, size_t name, size_t record) {
+    for (size_t i = number; i < PALGWERN_PLACEMENT_RUN; i++) if (numbers[i] != 0x07070707) return 0;
+    for (size_t i = name; i < PALGWERN_LINE_NAME_RUN; i++) if (names[i] != 0x0707070707070707) return 0;
+    for (size_t i = record; i < sizeof some / sizeof *some; i++) if (some[i] != 0x0707070707070707) return 0;
+    return 1;
+}
+
 /* A placement of a run is the one that is asked for alone. */
 static void placements(void) {
-    palgwern_count_answer run = palgwern_tables_placements(&tables, panel, 0, numbers, sizeof numbers / sizeof *numbers);
-    CHECK(run.number == 0 && run.count == panel.placements && numbers[6 * run.count] == 0);
+    fill_runs();
+    palgwern_count_answer run = palgwern_tables_placements(&tables, panel, 0, numbers);
+    CHECK(is_count(run, panel.placements) && filled_from(6 * run.count, 0, 0));
     for (uint32_t i = 0; i < panel.placements; i++) {
         palgwern_placement_answer p = palgwern_tables_placement(&tables, panel, i);
         CHECK(!memcmp(&p, numbers + 6 * i, sizeof p));
     }
-    CHECK(palgwern_tables_placements(&tables, panel, 1, numbers, 11).count == 1 && numbers[1] == PALGWERN_ROWS);
+    fill_runs();
+    CHECK(is_count(palgwern_tables_placements(&tables, panel, 1, numbers), 1) && numbers[1] == PALGWERN_ROWS && filled_from(6, 0, 0));
+}
+
+/* Of a number of placements that no sheet gives a run answers as many as fit. */
+static void many_placements(void) {
+    palgwern_panel forged = panel;
+    forged.placements = 300;
+    CHECK(is_count(palgwern_tables_placements(&tables, forged, 0, numbers), PALGWERN_PLACEMENTS));
+    CHECK(is_count(palgwern_tables_placements(&tables, forged, 100, numbers), 200));
+    forged.placements = UINT32_MAX;
+    CHECK(is_count(palgwern_tables_placements(&tables, forged, UINT32_MAX - 1, numbers), 1));
 }
 
 /* The names of a run are those that are asked for one by one. */
 static void line_names(uint32_t axis) {
-    palgwern_count_answer run = palgwern_tables_names(&tables, panel, axis, names, PALGWERN_ENTRIES);
+    fill_runs();
+    palgwern_count_answer run = palgwern_tables_names(&tables, panel, axis, names);
     uint64_t seen = 0;
-    CHECK(run.number == 0);
+    CHECK(run.number == 0 && filled_from(0, run.count, 0));
     for (uint32_t line = 1; line <= palgwern_line_count(panel, axis).count; line++)
         for (uint32_t place = 0;; place++) {
             palgwern_name_answer name = palgwern_tables_name(&tables, panel, axis, line, place);
@@ -133,46 +177,176 @@ static void line_names(uint32_t axis) {
     CHECK(seen == run.count);
 }
 
-/* Refusals, and that they leave everything as it was. */
+/* ---- refusals: each of every call, all else in the answer 0, and everything lent as it was */
+
+static int untouched(void) {
+    return !memcmp(&before, &tables, sizeof tables) && filled_from(0, 0, 0);
+}
+
+static int sheet_refused(palgwern_panel_answer a, uint32_t number, uint32_t line) {
+    return a.number == number && a.line == line && same(a.panel, no_panel) && untouched();
+}
+
+static int entry_refused(palgwern_panel_answer a, uint32_t number) {
+    return a.number == number && a.line == 0 && same(a.panel, panel) && untouched();
+}
+
+static int size_refused(palgwern_size_answer a, uint32_t number) {
+    return a.number == number && a.repetitions == 0 && a.explicit_count == 0 && untouched();
+}
+
+static int count_refused(palgwern_count_answer a, uint32_t number) {
+    return a.number == number && a.count == 0 && untouched();
+}
+
+static int name_refused(palgwern_name_answer a, uint32_t number) {
+    return a.number == number && a.offset == 0 && a.length == 0 && untouched();
+}
+
+static int placement_refused(palgwern_placement_answer a, uint32_t number) {
+    return a.number == number && a.axis == 0 && a.startkind == 0 && a.startnumber == 0 && a.endkind == 0 && a.endnumber == 0 && untouched();
+}
+
+#define AXIS_LINE "axis\tc\t-\tmax\tlen\t00000000\n"
+#define SPARE_LINE "spare\tc\tauto\t00000000\tauto\t00000000\n"
+#define EIGHT(s) s s s s s s s s
+
+/* A sheet for each number that one is refused by. */
+static const struct { const char *text; uint32_t number, line; } refused_sheets[] = {
+    {AXIS_LINE "none\n", PALGWERN_UNREAD, 2},
+    {"repeat\tc\tfill\n", PALGWERN_UNREAD, 2},
+    {"name\tc\t\n", PALGWERN_NAME, 1},
+    {AXIS_LINE "track\tc\tlen\tffffffff\tauto\t00000000\n", PALGWERN_VALUE, 2},
+    {"extra\tc\t10001\t0\n", PALGWERN_COUNT, 1},
+    {"area\ta\t2\t2\t1\t2\n", PALGWERN_AREA, 1},
+    {AXIS_LINE AXIS_LINE, PALGWERN_TWICE, 2},
+    {"name\tc\tx\nname\tc\ty\n" AXIS_LINE, PALGWERN_LATE, 3},
+    {EIGHT(EIGHT(SPARE_LINE)) SPARE_LINE, PALGWERN_CROWDED, 65},
+};
+
+static void refused_by_sheet(void) {
+    for (size_t i = 0; i < sizeof refused_sheets / sizeof *refused_sheets; i++) {
+        const char *text = refused_sheets[i].text;
+        palgwern_panel_answer read = palgwern_tables_read(&tables, text, strlen(text));
+        CHECK(sheet_refused(read, refused_sheets[i].number, refused_sheets[i].line));
+    }
+    CHECK(sheet_refused(palgwern_tables_read(&tables, sheet, sizeof sheet), PALGWERN_UNREAD, 0));
+}
+
+/* Refused for a name, or for a number that is no axis, line, placement or record. */
+static void refused_by_numbers(void) {
+    CHECK(entry_refused(palgwern_tables_enter(&tables, panel, PALGWERN_ROWS, 1, TEXT("not a name")), PALGWERN_NAME));
+    CHECK(entry_refused(palgwern_tables_enter(&tables, panel, 2, 1, TEXT("")), PALGWERN_NAME));
+    CHECK(entry_refused(palgwern_tables_enter(&tables, panel, 2, 1, TEXT("a")), PALGWERN_COUNT));
+    CHECK(entry_refused(palgwern_tables_enter(&tables, panel, PALGWERN_ROWS, 0, TEXT("a")), PALGWERN_COUNT));
+    CHECK(entry_refused(palgwern_tables_enter(&tables, panel, PALGWERN_ROWS, PALGWERN_ENTERED_LINE + 1, TEXT("a")), PALGWERN_COUNT));
+    CHECK(size_refused(palgwern_explicit_size(panel, 2), PALGWERN_COUNT));
+    CHECK(count_refused(palgwern_line_count(panel, 2), PALGWERN_COUNT));
+    CHECK(count_refused(palgwern_record_count(panel, 2), PALGWERN_COUNT));
+    CHECK(placement_refused(palgwern_tables_placement(&tables, panel, 2), PALGWERN_COUNT));
+    CHECK(count_refused(palgwern_tables_placements(&tables, panel, 2, numbers), PALGWERN_COUNT));
+    CHECK(name_refused(palgwern_tables_name(&tables, panel, 2, 1, 0), PALGWERN_COUNT));
+    CHECK(count_refused(palgwern_tables_names(&tables, panel, 2, names), PALGWERN_COUNT));
+    CHECK(count_refused(palgwern_tables_records(&tables, panel, 2, 0, some, 30), PALGWERN_COUNT));
+    CHECK(count_refused(palgwern_tables_records(&tables, panel, PALGWERN_COLUMNS, 71, some, 30), PALGWERN_COUNT));
+}
+
+/* An explicit count that no sheet gives, of the rows: their placement and their line names are refused. */
+static void refused_by_count(void) {
+    palgwern_panel forged = panel;
+    forged.rows.explicit_count = PALGWERN_TRACKS + 1;
+    CHECK(placement_refused(palgwern_tables_placement(&tables, forged, 1), PALGWERN_COUNT));
+    CHECK(count_refused(palgwern_tables_names(&tables, forged, PALGWERN_ROWS, names), PALGWERN_COUNT));
+    CHECK(palgwern_tables_placement(&tables, forged, 0).number == 0);
+    CHECK(is_count(palgwern_tables_placements(&tables, forged, 0, numbers), 2) && numbers[0] == 0 && numbers[6] == PALGWERN_COUNT);
+    fill_runs();
+}
+
+/* Either store short: refused by 10, after every other number. */
+static void refused_by_stores(size_t column_bytes, size_t row_bytes) {
+    const palgwern_tables *t = &tables;
+    uint8_t *c = tables.columnstore, *r = tables.rowstore;
+    CHECK(sheet_refused(palgwern_read_sheet((const uint8_t *)sheet, sheet_bytes, tables.words, tables.bytes, c, column_bytes, r, row_bytes),
+        PALGWERN_SHORT, 0));
+    CHECK(sheet_refused(palgwern_read_sheet((const uint8_t *)"none\n", 5, tables.words, tables.bytes, c, column_bytes, r, row_bytes),
+        PALGWERN_UNREAD, 1));
+    for (uint32_t axis = 0; axis < 3; axis++) {
+        uint32_t number = axis < 2 ? PALGWERN_SHORT : PALGWERN_COUNT;
+        const uint8_t *name = (const uint8_t *)"a";
+        CHECK(entry_refused(palgwern_enter_name(panel, tables.words, c, column_bytes, r, row_bytes, axis, 1, name, 1), number));
+        CHECK(entry_refused(palgwern_enter_name(panel, tables.words, c, column_bytes, r, row_bytes, axis, 1, name, 0), PALGWERN_NAME));
+        CHECK(name_refused(palgwern_line_name(panel, t->words, c, column_bytes, r, row_bytes, axis, 1, 0), number));
+        CHECK(count_refused(palgwern_line_names(panel, t->words, c, column_bytes, r, row_bytes, axis, names), number));
+    }
+    for (uint32_t index = 0; index < 3; index++) {
+        uint32_t number = index < 2 ? PALGWERN_SHORT : PALGWERN_COUNT;
+        CHECK(placement_refused(palgwern_resolve_placement(panel, t->words, t->bytes, c, column_bytes, r, row_bytes, index), number));
+        CHECK(count_refused(palgwern_resolve_placements(panel, t->words, t->bytes, c, column_bytes, r, row_bytes, index, numbers), number));
+    }
+}
+
+/* Fewer item bytes than tracks, or words for no record. */
+static void refused_by_records(void) {
+    const uint8_t *items = tables.bytes;
+    CHECK(count_refused(palgwern_tables_records(&tables, panel, PALGWERN_COLUMNS, 70, some, 2), PALGWERN_SHORT));
+    CHECK(count_refused(palgwern_tables_records(&tables, panel, PALGWERN_ROWS, 0, some, 0), PALGWERN_SHORT));
+    CHECK(count_refused(palgwern_records(panel, tables.words, PALGWERN_COLUMNS, items, 34, 0, some, 30), PALGWERN_SHORT));
+    CHECK(count_refused(palgwern_records(panel, tables.words, PALGWERN_ROWS, items, 24, 0, some, 30), PALGWERN_SHORT));
+    CHECK(count_refused(palgwern_records(panel, tables.words, PALGWERN_COLUMNS, items, 0, 71, some, 0), PALGWERN_COUNT));
+}
+
 static void refusals(void) {
     before = tables;
-    palgwern_panel_answer read = palgwern_tables_read(&tables, TEXT("axis\tc\t-\tmax\tlen\t00000000\nnone\n"));
-    static const palgwern_panel zero;
-    CHECK(read.number == PALGWERN_UNREAD && read.line == 2 && same(read.panel, zero));
-    read = palgwern_tables_read(&tables, sheet, sizeof sheet);
-    CHECK(read.number == PALGWERN_UNREAD && read.line == 0);
-    read = palgwern_read_sheet((const uint8_t *)sheet, sheet_bytes, tables.columns, tables.rows, tables.columnmarks, tables.rowmarks,
-        tables.areas, tables.areabytes, tables.placements, tables.placementbytes, tables.columnstore, 32767, tables.rowstore, 32768);
-    CHECK(read.number == PALGWERN_SHORT && read.line == 0);
-    palgwern_panel_answer e = palgwern_tables_enter(&tables, panel, PALGWERN_ROWS, 1, TEXT("not a name"));
-    CHECK(e.number == PALGWERN_NAME && e.line == 0 && same(e.panel, panel));
-    CHECK(palgwern_tables_enter(&tables, panel, 2, 1, TEXT("")).number == PALGWERN_NAME);
-    CHECK(palgwern_tables_enter(&tables, panel, 2, 1, TEXT("a")).number == PALGWERN_COUNT);
-    CHECK(palgwern_tables_enter(&tables, panel, PALGWERN_ROWS, 0, TEXT("a")).number == PALGWERN_COUNT);
-    CHECK(palgwern_tables_enter(&tables, panel, PALGWERN_ROWS, 20001, TEXT("a")).number == PALGWERN_COUNT);
-    CHECK(palgwern_explicit_size(panel, 2).number == PALGWERN_COUNT && palgwern_line_count(panel, 2).number == PALGWERN_COUNT);
-    CHECK(palgwern_record_count(panel, 2).number == PALGWERN_COUNT);
-    CHECK(palgwern_tables_placement(&tables, panel, 2).number == PALGWERN_COUNT);
-    numbers[0] = 7;
-    CHECK(palgwern_tables_placements(&tables, panel, 2, numbers, 6).number == PALGWERN_COUNT);
-    CHECK(palgwern_tables_placements(&tables, panel, 1, numbers, 5).number == PALGWERN_SHORT && numbers[0] == 7);
-    names[0] = 7;
-    CHECK(palgwern_tables_names(&tables, panel, 2, names, PALGWERN_ENTRIES).number == PALGWERN_COUNT);
-    CHECK(palgwern_tables_names(&tables, panel, PALGWERN_COLUMNS, names, 21).number == PALGWERN_SHORT && names[0] == 7);
-    CHECK(palgwern_tables_name(&tables, panel, 2, 1, 0).number == PALGWERN_COUNT);
-    CHECK(palgwern_tables_records(&tables, panel, 2, 0, some, 30).number == PALGWERN_COUNT);
-    CHECK(palgwern_tables_records(&tables, panel, PALGWERN_COLUMNS, 71, some, 30).number == PALGWERN_COUNT);
-    CHECK(palgwern_tables_records(&tables, panel, PALGWERN_COLUMNS, 70, some, 2).number == PALGWERN_SHORT);
-    CHECK(palgwern_records(panel, tables.columns, tables.rows, 0, tables.columnmarks, 34, 0, some, 30).number == PALGWERN_SHORT);
-    CHECK(!memcmp(&before, &tables, sizeof tables));
+    fill_runs();
+    refused_by_sheet();
+    refused_by_numbers();
+    refused_by_count();
+    refused_by_stores(PALGWERN_STORE_BYTES - 1, PALGWERN_STORE_BYTES);
+    refused_by_stores(PALGWERN_STORE_BYTES, PALGWERN_STORE_BYTES - 1);
+    refused_by_stores(0, 0);
+    refused_by_records();
+}
+
+/* ---- entries */
+
+/* Whether the words outside of an axis, all bytes and the other store are as they were. */
+static int others_stay(uint32_t axis) {
+    size_t start = axis == PALGWERN_ROWS ? PALGWERN_ROWS_START : PALGWERN_COLUMNS_START, end = start + PALGWERN_AXIS_WORDS;
+    const uint8_t *store = axis == PALGWERN_ROWS ? tables.columnstore : tables.rowstore;
+    const uint8_t *held = axis == PALGWERN_ROWS ? before.columnstore : before.rowstore;
+    return !memcmp(before.words, tables.words, start * sizeof *tables.words) &&
+        !memcmp(before.words + end, tables.words + end, (PALGWERN_PANEL_WORDS - end) * sizeof *tables.words) &&
+        !memcmp(before.bytes, tables.bytes, sizeof tables.bytes) && !memcmp(held, store, PALGWERN_STORE_BYTES);
+}
+
+/* A name entered on an axis: one entry more, and everything of the other axis, the areas and the placements as it was. */
+static void one_entry(uint32_t axis, palgwern_panel expected) {
+    before = tables;
+    palgwern_panel_answer e = palgwern_tables_enter(&tables, panel, axis, 3, TEXT("entered"));
+    CHECK(e.number == 0 && e.line == 0 && same(e.panel, expected) && others_stay(axis));
+    const uint8_t *store = axis == PALGWERN_ROWS ? tables.rowstore : tables.columnstore;
+    uint32_t used = axis == PALGWERN_ROWS ? panel.rows.used : panel.columns.used;
+    CHECK(!memcmp(store + used, "entered", 8) && memcmp(before.words, tables.words, sizeof tables.words));
+    panel = expected;
+}
+
+/* Entries on each axis, and then on the rows as many as there can be. */
+static void entries(void) {
+    palgwern_panel expected = panel;
+    expected.columns.entries++, expected.columns.used += 7;
+    one_entry(PALGWERN_COLUMNS, expected);
+    expected.rows.entries++, expected.rows.used += 7;
+    one_entry(PALGWERN_ROWS, expected);
+    before = tables;
     for (uint32_t i = panel.rows.entries; i < PALGWERN_ENTRIES; i++) {
-        e = palgwern_tables_enter(&tables, panel, PALGWERN_ROWS, i + 1, TEXT("a"));
+        palgwern_panel_answer e = palgwern_tables_enter(&tables, panel, PALGWERN_ROWS, i + 1, TEXT("a"));
         CHECK(e.number == 0 && e.panel.rows.entries == i + 1 && e.panel.rows.used == panel.rows.used + 1);
         panel = e.panel;
     }
-    CHECK(palgwern_tables_enter(&tables, panel, PALGWERN_ROWS, 1, TEXT("a")).number == PALGWERN_CROWDED);
-    CHECK(!memcmp(tables.rowstore, "rownamepqsstttaa", 16) && !memcmp(before.columnstore, tables.columnstore, sizeof tables.columnstore));
-    CHECK(!memcmp(before.columns, tables.columns, sizeof tables.columns));
+    CHECK(others_stay(PALGWERN_ROWS) && !memcmp(tables.rowstore, "rownamepqsstttenteredaa", 23));
+    before = tables;
+    fill_runs();
+    CHECK(entry_refused(palgwern_tables_enter(&tables, panel, PALGWERN_ROWS, 1, TEXT("a")), PALGWERN_CROWDED));
 }
 
 /* The calls, one for each number. */
@@ -187,8 +361,8 @@ static void *call(void *number) {
     case 6: palgwern_tables_placement(&tables, panel, 0); palgwern_tables_placement(&tables, panel, 1); break;
     case 7: palgwern_tables_name(&tables, panel, 0, 3, 0); break;
     case 8: palgwern_tables_records(&tables, panel, 0, 0, all, sizeof all / sizeof *all); break;
-    case 9: palgwern_tables_placements(&tables, panel, 0, numbers, sizeof numbers / sizeof *numbers); break;
-    case 10: palgwern_tables_names(&tables, panel, 1, names, PALGWERN_ENTRIES); break;
+    case 9: palgwern_tables_placements(&tables, panel, 0, numbers); break;
+    case 10: palgwern_tables_names(&tables, panel, 1, names); break;
     }
     return NULL;
 }
@@ -231,8 +405,10 @@ int main(int count, char **words) {
     answers();
     records();
     placements();
+    many_placements();
     line_names(PALGWERN_COLUMNS);
     refusals();
+    entries();
     placements();
     line_names(PALGWERN_ROWS);
     stacks();

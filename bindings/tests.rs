@@ -58,6 +58,9 @@ fn answers() {
     assert_eq!(panel.placement(0), Ok(Placement { axis: Axis::Columns, start: End::Line(5), end: End::Span(6) }));
     assert_eq!(panel.placement(1), Ok(Placement { axis: Axis::Rows, start: End::Line(-3), end: End::Line(12) }));
     assert_eq!(panel.resolved(), [panel.placement(0).unwrap(), panel.placement(1).unwrap()]);
+    let mut run = [7; PLACEMENT_RUN];
+    assert_eq!((panel.write_placements(1, &mut run), &run[..7]), (Ok(1), &[0, 1, 1, -3, 1, 12, 7][..]));
+    assert!(run[6..].iter().all(|&number| number == 7));
 }
 
 #[test]
@@ -69,8 +72,9 @@ fn line_names() {
     assert_eq!((panel.name(Axis::Rows, 2, 1), panel.name(Axis::Rows, 3, 1)), (Some(b"q" as &[u8]), None));
     assert_eq!(panel.line_names(Axis::Columns)[..4], names);
     assert_eq!((panel.line_names(Axis::Columns).len(), panel.line_names(Axis::Rows)[0].clone()), (21, vec![b"rowname" as &[u8]]));
-    let mut words = [0; 22];
-    assert_eq!((panel.write_line_names(Axis::Columns, &mut words), words[3]), (Ok(22), 3 | 6 << 16 | 5 << 32));
+    let mut run = [7; LINE_NAME_RUN];
+    assert_eq!((panel.write_line_names(Axis::Columns, &mut run), run[3]), (Ok(22), 3 | 6 << 16 | 5 << 32));
+    assert!(run[22..].iter().all(|&word| word == 7));
 }
 
 #[test]
@@ -108,22 +112,46 @@ fn refusals() {
     assert_eq!(panel.placement(2).err(), refusal(Word::Count, 0));
     assert_eq!(panel.write_records(Axis::Rows, &[], 0, &mut [0; 3]).err(), refusal(Word::Short, 0));
     assert_eq!(panel.write_records(Axis::Rows, &[0; 25], 51, &mut [0; 3]).err(), refusal(Word::Count, 0));
-    assert_eq!(panel.write_placements(2, &mut [0; 6]).err(), refusal(Word::Count, 0));
-    assert_eq!(panel.write_placements(1, &mut [0; 5]).err(), refusal(Word::Short, 0));
-    assert_eq!(panel.write_line_names(Axis::Columns, &mut [0; 21]).err(), refusal(Word::Short, 0));
+    assert_eq!(panel.write_records(Axis::Rows, &[0; 25], 0, &mut [0; 2]).err(), refusal(Word::Short, 0));
+    assert_eq!(panel.write_placements(2, &mut [0; PLACEMENT_RUN]).err(), refusal(Word::Count, 0));
     assert_eq!(panel.read_again(b"none").err(), refusal(Word::Unread, 1));
     assert_eq!(panel.state(), before.state());
-    assert_eq!(panel.records(Axis::Rows), before.records(Axis::Rows));
+    assert!(panel == before);
     assert_eq!(format!("{}", refusal(Word::ZeroLine, 0).unwrap()), "refused by 9 (zero line) at line 0");
+}
+
+/// A name of a line by the call itself, of stores of such lengths.
+fn name_of(panel: &Panel, columnstore: &[u8], rowstore: &[u8], axis: u32) -> raw::NameAnswer {
+    let (columns, rows) = ((columnstore.as_ptr(), columnstore.len()), (rowstore.as_ptr(), rowstore.len()));
+    // SAFETY: an array of words and two stores, which are only read.
+    unsafe { raw::palgwern_line_name(panel.state(), &[0; PANEL_WORDS], columns.0, columns.1, rows.0, rows.1, axis, 1, 0) }
+}
+
+#[test]
+fn short_stores() {
+    let panel = Panel::read(LAYOUT).unwrap();
+    let (full, less) = (vec![0; STORE_BYTES], vec![0; STORE_BYTES - 1]);
+    for axis in 0..3 {
+        let (short, enough) = if axis == 2 { (4, 4) } else { (10, 0) };
+        let answered = |columns: &[u8], rows: &[u8], number| {
+            assert_eq!(name_of(&panel, columns, rows, axis), raw::NameAnswer { number, offset: 0, length: 0 });
+        };
+        answered(&less, &full, short);
+        answered(&full, &less, short);
+        answered(&[], &[], short);
+        answered(&full, &full, enough);
+    }
 }
 
 #[test]
 fn entries() {
     let mut panel = Panel::read(LAYOUT).unwrap();
-    for line in 1..=4_096 - panel.state().rows.entries {
+    for line in 1..=ENTRIES as u32 - panel.state().rows.entries {
         panel.enter(Axis::Rows, line, b"a").unwrap();
     }
+    let before = panel.clone();
     assert_eq!(panel.enter(Axis::Rows, 1, b"a").err(), refusal(Word::Crowded, 0));
+    assert!(panel == before);
     for _ in 0..1_023 {
         panel.enter(Axis::Columns, 1, &[b'b'; 32]).unwrap();
     }

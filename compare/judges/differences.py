@@ -47,6 +47,11 @@ def worded_sheets():
     yield "quotient of 0", ["axis\tc\t00000001\tmin\tlen\t477fff00"] + repeat("fill", ZERO), ["size\tc\t1\t1"]
     yield "filled by length 0", [axis_line("3f800000")] + repeat("fill", ZERO), ["size\tc\t10000\t10000"]
     yield "span of 0", [place_line("nspan\tx\t0", "line\t-\t1")], placed("line -2 line 1")
+    yield "plain span of 0", [place_line("span\t-\t0", "line\t-\t3")], placed("span 0 line 3")
+    yield "areas that overlap", ["area\ta\t1\t2\t1\t3", "area\tb\t1\t2\t2\t4", place_line("named\ta\t0", "named\tb\t0")], \
+        ["size\tc\t0\t3"] + placed("line 1 line 4")
+    yield "words of CSS as names", ["name\tc\tspan", f"track\tc\t{TRACK}", "name\tc\tauto", place_line("named\tspan\t1", "named\tauto\t1")], \
+        placed("line 1 line 2")
     yield "minimum beside fit-content", ["track\tc\tlen\t3f800000\tfitl\t3f800000"], ["1\ttrack\tn\tlen\t3f800000\tfitl\t3f800000"]
     yield "name without a number", ["area\ta\t1\t2\t2\t3", place_line(X + "0"), place_line("named\ta\t0", "named\ta\t0")], \
         placed("line 4 auto 0", "line 2 line 3")

@@ -109,7 +109,8 @@ def write_replayed():
             file.write(data)
 
 
-# docs/DIFFERENCES.md names cases as `LIST/CASE`; a case of `lines` is its count and its grid line, one of `browser` a
+# docs/DIFFERENCES.md names cases as `LIST/CASE`; a case of `lines` is its count and its grid line, or its count,
+# `-` and its origin-zero line, one of `browser` a
 # sheet that `compare/browser --own` has drawn.
 
 NAMED = REPLAYED + ("browser",)
@@ -123,7 +124,8 @@ def cases_of(name):
     if name == "browser":
         return set(browser_sheets.SHEETS)
     if name == "lines":
-        return {" ".join(row.split("\t")[:2]) for row in read_list(name).decode().splitlines()}
+        rows = [row.split("\t") for row in read_list(name).decode().splitlines()]
+        return {" ".join(row[:2] + row[3:4] if row[1] == "-" else row[:2]) for row in rows}
     return {block.name for block in blocks(read_list(name))}
 
 

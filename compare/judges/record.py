@@ -256,8 +256,18 @@ def line_row(explicit, line):
     return f"{explicit}\t{line}\t0\t{found}\t{rules.grid_line(found, explicit)}\n".encode()
 
 
+def origin_row(explicit, line):
+    """explicit count, `-`, refusal number, origin-zero line, grid line; refusal number and tracks implied before the grid, and after it."""
+    outside = reader.COUNT if abs(line) > rules.FURTHEST else 0
+    number = reader.COUNT if explicit > rules.FURTHEST else outside
+    grid = 0 if number else rules.grid_line(line, explicit)
+    before = 0 if outside else max(0, -line)
+    after = 0 if number else max(0, line - explicit)
+    return f"{explicit}\t-\t{number}\t{line}\t{grid}\t{outside}\t{before}\t{number}\t{after}\n".encode()
+
+
 def write_lines(rust):
-    """Conversions of grid lines, each explicit count first compared in full with the Rust."""
+    """Conversions of lines, each explicit count first compared in full with the Rust."""
     chance = random.Random(SEED)
     near = [-32768, -32767, -20002, -20001, -10003, -10002, -10001, -10000, -5, -4, -3, -1, 0, 1, 2, 4, 9999, 10000, 10001, 10002, 32766, 32767]
     rows = [line_row(explicit, line) for explicit, line, _, _ in edges.LINES.values()]
@@ -269,6 +279,8 @@ def write_lines(rust):
             raise build.CannotCompare("not recorded: the judges differ on the conversion of lines")
         rows += [line_row(explicit, line) for line in near + [chance.randint(-32768, 32767) for _ in range(60)]]
     rows += [line_row(explicit, line) for explicit in (10001, 32767, 65535) for line in near]
+    origins = [-32768, -10001, -10000, -9999, -1, 0, 1, 2, 3, 4, 9999, 10000, 10001, 32767]
+    rows += [origin_row(explicit, line) for explicit in (0, 3, 9999, 10000, 10001, 65535) for line in origins]
     write("lines.txt", rows)
 
 

@@ -34,6 +34,8 @@ CHANGED_ROWS = [
     ("a conversion's refusal", "0\t0\t9\t0\t0", "0\t0\t4\t0\t0"),
     ("an origin-zero line", "3\t-5\t0\t-1\t-5", "3\t-5\t0\t-2\t-5"),
     ("a line back", "3\t-5\t0\t-1\t-5", "3\t-5\t0\t-1\t-4"),
+    ("a line outside that is converted", "3\t-\t4\t10001\t0\t4\t0\t4\t0", "3\t-\t0\t10001\t0\t4\t0\t4\t0"),
+    ("the tracks that a line outside implies", "3\t-\t4\t10001\t0\t4\t0\t4\t0", "3\t-\t4\t10001\t0\t4\t0\t0\t9998"),
 ]
 
 

@@ -14,19 +14,15 @@ pub struct Numbers {
 }
 
 pub fn read_sheet(lent: &mut Lent) -> raw::PanelAnswer {
-    let held = lent.words[COLUMNS].content()[0];
+    let held = lent.words[PANEL].content()[0];
     let (sheet, length) = (lent.bytes[TEXT].content().as_ptr(), lent.bytes[TEXT].content().len());
-    let [columns, rows, areas, placements, _] = &mut lent.words;
-    let [columnmarks, rowmarks, areabytes, placementbytes, columnstore, rowstore, ..] = &mut lent.bytes;
+    let [bytes, columnstore, rowstore, ..] = &mut lent.bytes;
     let (columnstore, rowstore) = (columnstore.content_mut(), rowstore.content_mut());
     // SAFETY: buffers of their own, initialized, each of the length that `palgwern.h` states.
     let mut answer = unsafe {
         raw::palgwern_read_sheet(
-            sheet, length, columns.content_mut().as_mut_ptr().cast(), rows.content_mut().as_mut_ptr().cast(),
-            columnmarks.content_mut().as_mut_ptr().cast(), rowmarks.content_mut().as_mut_ptr().cast(),
-            areas.content_mut().as_mut_ptr().cast(), areabytes.content_mut().as_mut_ptr().cast(),
-            placements.content_mut().as_mut_ptr().cast(), placementbytes.content_mut().as_mut_ptr().cast(),
-            columnstore.as_mut_ptr(), columnstore.len(), rowstore.as_mut_ptr(), rowstore.len(),
+            sheet, length, lent.words[PANEL].array_mut(), bytes.array_mut(), columnstore.as_mut_ptr(), columnstore.len(),
+            rowstore.as_mut_ptr(), rowstore.len(),
         )
     };
     planted::in_sheet(lent, held, &mut answer);
@@ -36,14 +32,13 @@ pub fn read_sheet(lent: &mut Lent) -> raw::PanelAnswer {
 /// The text is the name.
 pub fn enter_name(lent: &mut Lent, panel: State, numbers: Numbers) -> raw::PanelAnswer {
     let (name, length) = (lent.bytes[TEXT].content().as_ptr(), lent.bytes[TEXT].content().len());
-    let [columns, rows, ..] = &mut lent.words;
-    let [_, _, _, _, columnstore, rowstore, ..] = &mut lent.bytes;
+    let [_, columnstore, rowstore, ..] = &mut lent.bytes;
     let (columnstore, rowstore) = (columnstore.content_mut(), rowstore.content_mut());
     // SAFETY: as above.
     let mut answer = unsafe {
         raw::palgwern_enter_name(
-            panel, columns.content_mut().as_mut_ptr().cast(), rows.content_mut().as_mut_ptr().cast(), columnstore.as_mut_ptr(),
-            columnstore.len(), rowstore.as_mut_ptr(), rowstore.len(), numbers.axis, numbers.line, name, length,
+            panel, lent.words[PANEL].array_mut(), columnstore.as_mut_ptr(), columnstore.len(), rowstore.as_mut_ptr(), rowstore.len(),
+            numbers.axis, numbers.line, name, length,
         )
     };
     planted::in_entry(lent, numbers, &mut answer);
@@ -70,14 +65,12 @@ pub fn record_count(panel: State, numbers: Numbers) -> raw::CountAnswer {
 }
 
 pub fn resolve_placement(lent: &mut Lent, panel: State, numbers: Numbers) -> raw::PlacementAnswer {
-    let [columns, rows, areas, placements, _] = lent.words.each_ref().map(|buffer| buffer.content().as_ptr());
     let (columnstore, rowstore) = (lent.bytes[COLUMN_STORE].content(), lent.bytes[ROW_STORE].content());
-    let [areabytes, placementbytes] = [AREA_NAMES, PLACEMENT_NAMES].map(|at| lent.bytes[at].content().as_ptr());
     // SAFETY: as in `read_sheet`; nothing is written.
     let mut answer = unsafe {
         raw::palgwern_resolve_placement(
-            panel, columns.cast(), rows.cast(), columnstore.as_ptr(), columnstore.len(), rowstore.as_ptr(), rowstore.len(),
-            areas.cast(), areabytes.cast(), placements.cast(), placementbytes.cast(), numbers.place,
+            panel, lent.words[PANEL].array(), lent.bytes[PANEL].array(), columnstore.as_ptr(), columnstore.len(), rowstore.as_ptr(),
+            rowstore.len(), numbers.place,
         )
     };
     planted::in_placement(lent, &mut answer);
@@ -85,12 +78,11 @@ pub fn resolve_placement(lent: &mut Lent, panel: State, numbers: Numbers) -> raw
 }
 
 pub fn line_name(lent: &Lent, panel: State, numbers: Numbers) -> raw::NameAnswer {
-    let [columns, rows] = [COLUMNS, ROWS].map(|at| lent.words[at].content().as_ptr());
     let (columnstore, rowstore) = (lent.bytes[COLUMN_STORE].content(), lent.bytes[ROW_STORE].content());
     // SAFETY: as in `read_sheet`; nothing is written.
     let mut answer = unsafe {
         raw::palgwern_line_name(
-            panel, columns.cast(), rows.cast(), columnstore.as_ptr(), columnstore.len(), rowstore.as_ptr(), rowstore.len(),
+            panel, lent.words[PANEL].array(), columnstore.as_ptr(), columnstore.len(), rowstore.as_ptr(), rowstore.len(),
             numbers.axis, numbers.line, numbers.place,
         )
     };
@@ -99,13 +91,12 @@ pub fn line_name(lent: &Lent, panel: State, numbers: Numbers) -> raw::NameAnswer
 }
 
 pub fn records(lent: &mut Lent, panel: State, numbers: Numbers) -> raw::CountAnswer {
-    let [columns, rows, _, _, records] = &mut lent.words;
+    let [words, records] = &mut lent.words;
     let (items, records) = (lent.bytes[ITEMS].content(), records.content_mut());
     // SAFETY: as in `read_sheet`.
     let mut answer = unsafe {
         raw::palgwern_records(
-            panel, columns.content().as_ptr().cast(), rows.content().as_ptr().cast(), numbers.axis, items.as_ptr(), items.len(),
-            numbers.place, records.as_mut_ptr(), records.len(),
+            panel, words.array(), numbers.axis, items.as_ptr(), items.len(), numbers.place, records.as_mut_ptr(), records.len(),
         )
     };
     planted::in_records(lent, &mut answer);

@@ -3,7 +3,7 @@ use crate::blocks::recorded;
 use crate::calls::Numbers;
 use crate::chance::Chance;
 use crate::forging::{Forged, Sheets, KINDS};
-use crate::lent::{ITEMS, RECORDS, TEXT};
+use crate::lent::{ITEMS, RUN, TEXT};
 use crate::palgwern::State;
 use crate::planted::{self, FAULTS};
 use crate::promises::{self, Promises};
@@ -93,14 +93,7 @@ fn lend_records(chance: &mut Chance, forged: &mut Forged, numbers: Numbers) {
     let words = chance.pick(&[0, 1, 2, 3, 4, 5, 30, 31, 6 * tracks + 3, 6 * tracks + 2, 6 * tracks + 4]).min(most);
     let items = (0..items).map(|_| chance.pick(&[0, 1, 0xff])).collect::<Vec<u8>>();
     forged.lent.bytes[ITEMS].fill_with(&items);
-    forged.lent.words[RECORDS].fill_with(&vec![0x7777_7777_7777_7777; words]);
-}
-
-/// Words for a run of placements or line names, of lengths around those that are needed.
-fn lend_run(chance: &mut Chance, forged: &mut Forged) {
-    let entries = forged.state.columns.entries.max(forged.state.rows.entries).min(4_096) as usize;
-    let words = chance.pick(&[0, 2, 3, 30, 31, 770, entries, entries.saturating_sub(1), 4_096]);
-    forged.lent.words[RECORDS].fill_with(&vec![0x7777_7777_7777_7777; words]);
+    forged.lent.words[RUN].fill_with(&vec![0x7777_7777_7777_7777; words]);
 }
 
 fn lend(call: &str, chance: &mut Chance, sheets: &Sheets, forged: &mut Forged, numbers: Numbers) {
@@ -108,7 +101,7 @@ fn lend(call: &str, chance: &mut Chance, sheets: &Sheets, forged: &mut Forged, n
         "read_sheet" => forged.lent.bytes[TEXT].fill_with(&a_sheet(chance, sheets)),
         "enter_name" => forged.lent.bytes[TEXT].fill_with(&a_name(chance)),
         "records" => lend_records(chance, forged, numbers),
-        "resolve_placements" | "line_names" => lend_run(chance, forged),
+        "resolve_placements" | "line_names" => runs::lend_run(call, &mut forged.lent),
         _ => (),
     }
 }

@@ -2,7 +2,7 @@
 use crate::blocks::Call;
 use crate::calls::{enter_name, read_sheet, Numbers};
 use crate::chance::Chance;
-use crate::lent::{Guarded, Lent, COLUMN_STORE, ROW_STORE, STORE_BYTES, TEXT};
+use crate::lent::{Lent, BYTE_REGIONS, COLUMN_STORE, PANEL, ROW_STORE, STORE_BYTES, TEXT, WORD_REGIONS};
 use crate::palgwern::{AxisState, State};
 
 /// Sheets of the recorded lists, accepted ones with their entry calls, and refused ones.
@@ -87,7 +87,7 @@ fn good(chance: &mut Chance, sheets: &Sheets) -> Forged {
     Forged { state, lent }
 }
 
-/// A place of a buffer, mostly one that is in use.
+/// A place of a region, mostly one that is in use.
 fn used_place<T: PartialEq + Copy>(chance: &mut Chance, content: &[T], unused: T) -> usize {
     let start = chance.below(content.len());
     let used = (0..content.len()).map(|step| (start + step) % content.len()).find(|&place| content[place] != unused);
@@ -107,16 +107,25 @@ fn damaged_word(chance: &mut Chance, word: u64) -> u64 {
     }
 }
 
-fn damage_word(chance: &mut Chance, buffer: &mut Guarded<u64>) {
+fn damage_word(chance: &mut Chance, lent: &mut Lent) {
+    let region = WORD_REGIONS[chance.below(WORD_REGIONS.len())].clone();
+    let words = &mut lent.words[PANEL].content_mut()[region];
     let unused = chance.pick(&[0, u64::MAX]);
-    let place = used_place(chance, buffer.content(), unused);
-    buffer.content_mut()[place] = damaged_word(chance, buffer.content()[place]);
+    let place = used_place(chance, words, unused);
+    words[place] = damaged_word(chance, words[place]);
 }
 
-fn damage_byte(chance: &mut Chance, buffer: &mut Guarded<u8>) {
+/// A byte of a region, or of a store.
+fn damage_byte(chance: &mut Chance, lent: &mut Lent) {
+    let at = chance.below(BYTE_REGIONS.len() + 2);
+    let store = [COLUMN_STORE, ROW_STORE][at % 2];
+    let bytes = match BYTE_REGIONS.get(at) {
+        Some(region) => &mut lent.bytes[PANEL].content_mut()[region.clone()],
+        None => lent.bytes[store].content_mut(),
+    };
     let unused = chance.pick(&[0, 0xff]);
-    let place = used_place(chance, buffer.content(), unused);
-    buffer.content_mut()[place] = chance.next() as u8;
+    let place = used_place(chance, bytes, unused);
+    bytes[place] = chance.next() as u8;
 }
 
 fn damage_state(chance: &mut Chance, state: &mut State) {
@@ -128,11 +137,10 @@ fn damage_state(chance: &mut Chance, state: &mut State) {
 fn damaged(chance: &mut Chance, sheets: &Sheets) -> Forged {
     let mut forged = good(chance, sheets);
     for _ in 0..chance.pick(&[1, 1, 2, 4, 16, 200]) {
-        let (words, bytes) = (chance.below(4), chance.below(6));
         match chance.below(8) {
             0..3 => damage_state(chance, &mut forged.state),
-            3..7 => damage_word(chance, &mut forged.lent.words[words]),
-            _ => damage_byte(chance, &mut forged.lent.bytes[bytes]),
+            3..7 => damage_word(chance, &mut forged.lent),
+            _ => damage_byte(chance, &mut forged.lent),
         }
     }
     if chance.once_in(10) {

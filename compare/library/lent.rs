@@ -1,23 +1,31 @@
 //! Everything that is lent to the calls, each buffer between guards.
 
 pub use crate::palgwern::STORE_BYTES;
-use crate::palgwern::{AREA_BYTES, AREA_WORDS, AXIS_MARKS, AXIS_WORDS, PLACEMENT_BYTES, PLACEMENT_WORDS};
+use crate::palgwern::*;
+use std::ops::Range;
 
-/// Places in `words`.
-pub const COLUMNS: usize = 0;
-pub const ROWS: usize = 1;
-pub const AREAS: usize = 2;
-pub const PLACEMENTS: usize = 3;
-pub const RECORDS: usize = 4;
-/// Places in `bytes`; the text is a sheet or a name.
-pub const COLUMN_MARKS: usize = 0;
-pub const ROW_MARKS: usize = 1;
-pub const AREA_NAMES: usize = 2;
-pub const PLACEMENT_NAMES: usize = 3;
-pub const COLUMN_STORE: usize = 4;
-pub const ROW_STORE: usize = 5;
-pub const TEXT: usize = 6;
-pub const ITEMS: usize = 7;
+/// Places in `words`: the panel's, and what a run is written to.
+pub const PANEL: usize = 0;
+pub const RUN: usize = 1;
+/// Places in `bytes`: the panel's at `PANEL`, the stores; the text is a sheet or a name.
+pub const COLUMN_STORE: usize = 1;
+pub const ROW_STORE: usize = 2;
+pub const TEXT: usize = 3;
+pub const ITEMS: usize = 4;
+
+/// The regions of the panel's words.
+pub const COLUMNS: Range<usize> = COLUMNS_START..COLUMNS_START + AXIS_WORDS;
+pub const ROWS: Range<usize> = ROWS_START..ROWS_START + AXIS_WORDS;
+pub const AREAS: Range<usize> = AREAS_START..AREAS_START + AREA_WORDS;
+pub const PLACEMENTS: Range<usize> = PLACEMENTS_START..PLACEMENTS_START + PLACEMENT_WORDS;
+pub const WORD_REGIONS: [Range<usize>; 4] = [COLUMNS, ROWS, AREAS, PLACEMENTS];
+/// The regions of its bytes.
+pub const BYTE_REGIONS: [Range<usize>; 4] = [
+    COLUMN_MARKS_START..COLUMN_MARKS_START + AXIS_MARKS,
+    ROW_MARKS_START..ROW_MARKS_START + AXIS_MARKS,
+    AREA_NAMES_START..AREA_NAMES_START + AREA_BYTES,
+    PLACEMENT_NAMES_START..PLACEMENT_NAMES_START + PLACEMENT_BYTES,
+];
 
 const GUARD: usize = 16;
 
@@ -51,6 +59,20 @@ impl<T: Copy + PartialEq> Guarded<T> {
         &mut self.all[GUARD..end]
     }
 
+    /// The content, of a length that the calls fix.
+    pub fn array<const N: usize>(&self) -> &[T; N] {
+        self.content().try_into().ok().expect("an array of its length")
+    }
+
+    pub fn array_mut<const N: usize>(&mut self) -> &mut [T; N] {
+        self.content_mut().try_into().ok().expect("an array of its length")
+    }
+
+    /// The places of all elements.
+    pub fn whole(&self) -> Range<usize> {
+        0..self.content().len()
+    }
+
     /// Another length, the guard behind the new end.
     pub fn resize(&mut self, length: usize, value: T) {
         let mut content = self.content().to_vec();
@@ -81,18 +103,30 @@ impl<T: Copy + PartialEq> Guarded<T> {
     }
 }
 
+/// A part of a buffer that a call may write: the place of the buffer, and those of the elements.
+pub type Part = (usize, Range<usize>);
+
+/// Whether buffers hold what others do, but for these parts, at most one of each buffer.
+fn same_but_for<T: Copy + PartialEq>(own: &[Guarded<T>], others: &[Guarded<T>], parts: &[Part]) -> bool {
+    let none = 0..0;
+    own.iter().zip(others).enumerate().all(|(at, (own, other))| {
+        let part = parts.iter().find(|part| part.0 == at).map_or(&none, |part| &part.1);
+        let (own, other) = (own.content(), other.content());
+        own[..part.start] == other[..part.start] && own[part.end..] == other[part.end..]
+    })
+}
+
 #[derive(Clone, PartialEq)]
 pub struct Lent {
-    pub words: [Guarded<u64>; 5],
-    pub bytes: [Guarded<u8>; 8],
+    pub words: [Guarded<u64>; 2],
+    pub bytes: [Guarded<u8>; 5],
 }
 
 impl Lent {
-    /// Every buffer filled with one byte; text, items and records empty.
+    /// Every buffer filled with one byte; text, items and run empty.
     pub fn filled(byte: u8) -> Lent {
         let word = u64::from_ne_bytes([byte; 8]);
-        let words = [AXIS_WORDS, AXIS_WORDS, AREA_WORDS, PLACEMENT_WORDS, 0];
-        let bytes = [AXIS_MARKS, AXIS_MARKS, AREA_BYTES, PLACEMENT_BYTES, STORE_BYTES, STORE_BYTES, 0, 0];
+        let (words, bytes) = ([PANEL_WORDS, 0], [PANEL_BYTES, STORE_BYTES, STORE_BYTES, 0, 0]);
         Lent { words: words.map(|length| Guarded::new(length, word, 0)), bytes: bytes.map(|length| Guarded::new(length, byte, 0)) }
     }
 
@@ -108,12 +142,9 @@ impl Lent {
         self.words.iter().all(Guarded::is_intact) && self.bytes.iter().all(Guarded::is_intact)
     }
 
-    /// Whether the contents are those of another, but for the buffers at these places.
-    pub fn is_but_for(&self, other: &Lent, words: &[usize], bytes: &[usize]) -> bool {
-        let same = |at: &usize| self.words[*at].content() == other.words[*at].content();
-        let same_bytes = |at: &usize| self.bytes[*at].content() == other.bytes[*at].content();
-        (0..self.words.len()).filter(|at| !words.contains(at)).all(|at| same(&at))
-            && (0..self.bytes.len()).filter(|at| !bytes.contains(at)).all(|at| same_bytes(&at))
+    /// Whether the contents are those of another, but for these parts.
+    pub fn is_but_for(&self, other: &Lent, words: &[Part], bytes: &[Part]) -> bool {
+        same_but_for(&self.words, &other.words, words) && same_but_for(&self.bytes, &other.bytes, bytes)
     }
 
     pub fn has_contents_of(&self, other: &Lent) -> bool {

@@ -1,14 +1,14 @@
 //! Faults put into the calls one at a time, to show that the tests of the promises find each.
 use crate::calls::Numbers;
 use crate::lent::*;
-use crate::palgwern::raw;
+use crate::palgwern::{raw, AREA_NAMES_START};
 use std::sync::atomic::{AtomicUsize, Ordering};
 
 /// The faults, from 1 on.
-pub const FAULTS: [&str; 22] = [
+pub const FAULTS: [&str; 31] = [
     "a refused sheet changes a word",
     "a word that the tables held reaches the panel",
-    "a sheet writes past the columns",
+    "a sheet writes past the words",
     "a short store leaves a number in the refused panel",
     "a sheet writes past a long store",
     "a refused entry gives another panel back",
@@ -20,7 +20,7 @@ pub const FAULTS: [&str; 22] = [
     "a refused placement has a kind",
     "a placement reads before a store",
     "a name goes past its store",
-    "a short store has a name",
+    "a name of a short store is not refused",
     "a record too many is written",
     "refused records are written",
     "a record too few is counted",
@@ -28,6 +28,15 @@ pub const FAULTS: [&str; 22] = [
     "the first record of a run is another",
     "the last placement of a run is another",
     "a name of a run is another",
+    "a sheet writes past the bytes",
+    "an entry in the columns changes the rows",
+    "an entry changes an area",
+    "an entry changes a placement",
+    "an entry changes the bytes",
+    "placements are written past their run",
+    "placements with a short store are not refused",
+    "line names are written past their run",
+    "line names with a short store are not refused",
 ];
 
 /// The fault in place, 0 for none.
@@ -45,21 +54,27 @@ fn planted() -> usize {
 pub fn in_sheet(lent: &mut Lent, held: u64, answer: &mut raw::PanelAnswer) {
     let accepted = answer.number == 0;
     match planted() {
-        1 if !accepted => lent.words[COLUMNS].content_mut()[9_000] ^= 1,
+        1 if !accepted => lent.words[PANEL].content_mut()[9_000] ^= 1,
         2 if accepted && held == u64::MAX => answer.panel.areas += 1,
-        3 if accepted => lent.words[COLUMNS].write_past(7),
+        3 if accepted => lent.words[PANEL].write_past(7),
         4 if answer.number == 10 => answer.panel.areabytes = 1,
         5 if accepted && lent.bytes[ROW_STORE].content().len() > STORE_BYTES => lent.bytes[ROW_STORE].write_past(1),
+        23 if accepted => lent.bytes[PANEL].write_past(7),
         _ => (),
     }
 }
 
 pub fn in_entry(lent: &mut Lent, numbers: Numbers, answer: &mut raw::PanelAnswer) {
     let accepted = answer.number == 0;
+    let words = lent.words[PANEL].content_mut();
     match planted() {
         6 if answer.number == 8 => answer.panel.columns.used ^= 1,
-        7 if accepted && numbers.axis == 1 => lent.words[COLUMNS].content_mut()[5] ^= 4,
+        7 if accepted && numbers.axis == 1 => words[COLUMNS.end - 1] ^= 4,
         8 if accepted => lent.bytes[TEXT].content_mut()[0] ^= 1,
+        24 if accepted && numbers.axis == 0 => words[ROWS.start] ^= 1,
+        25 if accepted => words[AREAS.start] ^= 1,
+        26 if accepted => words[PLACEMENTS.end - 1] ^= 1,
+        27 if accepted => lent.bytes[PANEL].content_mut()[AREA_NAMES_START] ^= 1,
         _ => (),
     }
 }
@@ -78,7 +93,7 @@ pub fn in_record_count(answer: &mut raw::CountAnswer) {
 
 pub fn in_placement(lent: &mut Lent, answer: &mut raw::PlacementAnswer) {
     match planted() {
-        11 if answer.startkind == 1 => lent.words[PLACEMENTS].content_mut()[3] ^= 1,
+        11 if answer.startkind == 1 => lent.words[PANEL].content_mut()[PLACEMENTS.start + 3] ^= 1,
         12 if answer.number == 10 => answer.endkind = 1,
         13 => answer.endnumber += i32::from(lent.bytes[COLUMN_STORE].read_before() == 0xc3),
         _ => (),
@@ -89,13 +104,13 @@ pub fn in_name(lent: &Lent, numbers: Numbers, answer: &mut raw::NameAnswer) {
     let store = if numbers.axis == 0 { COLUMN_STORE } else { ROW_STORE };
     match planted() {
         14 if answer.number == 0 && answer.offset as usize == lent.bytes[store].content().len() => answer.length = 1,
-        15 if answer.number == 0 && lent.is_short() && !lent.bytes[store].content().is_empty() => (answer.offset, answer.length) = (0, 1),
+        15 if answer.number == 10 => answer.number = 0,
         _ => (),
     }
 }
 
 pub fn in_records(lent: &mut Lent, answer: &mut raw::CountAnswer) {
-    let words = lent.words[RECORDS].content_mut();
+    let words = lent.words[RUN].content_mut();
     let end = 3 * answer.count as usize;
     match planted() {
         16 if answer.number == 0 && end < words.len() => words[end] = 0,
@@ -107,14 +122,20 @@ pub fn in_records(lent: &mut Lent, answer: &mut raw::CountAnswer) {
     }
 }
 
-pub fn in_placements(lent: &mut Lent, answer: &raw::CountAnswer) {
-    if planted() == 21 && answer.count > 0 {
-        lent.words[RECORDS].content_mut()[3 * answer.count as usize - 1] ^= 1;
+pub fn in_placements(lent: &mut Lent, answer: &mut raw::CountAnswer) {
+    match planted() {
+        21 if answer.count > 0 => lent.words[RUN].content_mut()[3 * answer.count as usize - 1] ^= 1,
+        28 if answer.number == 0 => lent.words[RUN].write_past(7),
+        29 if answer.number == 10 => answer.number = 0,
+        _ => (),
     }
 }
 
-pub fn in_names(lent: &mut Lent, answer: &raw::CountAnswer) {
-    if planted() == 22 && answer.count > 0 {
-        lent.words[RECORDS].content_mut()[0] ^= 1 << 16;
+pub fn in_names(lent: &mut Lent, answer: &mut raw::CountAnswer) {
+    match planted() {
+        22 if answer.count > 0 => lent.words[RUN].content_mut()[0] ^= 1 << 16,
+        30 if answer.number == 0 => lent.words[RUN].write_past(7),
+        31 if answer.number == 10 => answer.number = 0,
+        _ => (),
     }
 }

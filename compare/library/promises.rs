@@ -49,8 +49,8 @@ pub fn read_sheet(lent: &Lent) -> (u32, Promises) {
     promises.extend(of_refusal(answer.number, &[1, 2, 3, 4, 5, 6, 7, 8, 10], zeros, after.has_contents_of(lent)));
     promises.push(("an accepted sheet has line 0", answer.number != 0 || answer.line == 0));
     promises.push(("what the tables held is nothing to a sheet", answer == expected));
-    let all = [COLUMN_MARKS, ROW_MARKS, AREA_NAMES, PLACEMENT_NAMES, COLUMN_STORE, ROW_STORE];
-    promises.push(("a sheet is only read", after.is_but_for(lent, &[COLUMNS, ROWS, AREAS, PLACEMENTS], &all)));
+    let bytes = [PANEL, COLUMN_STORE, ROW_STORE].map(|at| (at, lent.bytes[at].whole()));
+    promises.push(("a sheet is only read", after.is_but_for(lent, &[(PANEL, lent.words[PANEL].whole())], &bytes)));
     (answer.number, promises)
 }
 
@@ -75,8 +75,9 @@ pub fn enter_name(lent: &Lent, panel: State, numbers: Numbers) -> (u32, Promises
     promises.push(("an entry within them is not", fault != 0 || ![2, 4].contains(&answer.number)));
     promises.push(("an entry with a short store is refused", !lent.is_short() || answer.number != 0));
     let rows = numbers.axis == 1;
-    let (words, bytes) = if rows { (ROWS, ROW_STORE) } else { (COLUMNS, COLUMN_STORE) };
-    promises.push(("an entry leaves the other axis", after.is_but_for(lent, &[words], &[bytes])));
+    let (region, store) = if rows { (ROWS, ROW_STORE) } else { (COLUMNS, COLUMN_STORE) };
+    let left = after.is_but_for(lent, &[(PANEL, region)], &[(store, lent.bytes[store].whole())]);
+    promises.push(("an entry leaves the other axis, the areas, the placements and the bytes", left));
     let other = if rows { answer.panel.columns == panel.columns } else { answer.panel.rows == panel.rows };
     promises.push(("an entry leaves the other axis's state", other));
     (answer.number, promises)
@@ -134,11 +135,11 @@ pub fn line_name(lent: &Lent, panel: State, numbers: Numbers) -> (u32, Promises)
     let Twice { answer, after, mut promises } = twice(lent, |lent| calls::line_name(lent, panel, numbers));
     let store = if numbers.axis == 0 { COLUMN_STORE } else { ROW_STORE };
     let end = u64::from(answer.offset) + u64::from(answer.length);
-    promises.extend(of_refusal(answer.number, &[4], (answer.offset, answer.length) == (0, 0), true));
+    let expected = if numbers.axis > 1 { 4 } else if lent.is_short() { 10 } else { 0 };
+    promises.extend(of_refusal(answer.number, &[4, 10], (answer.offset, answer.length) == (0, 0), true));
     promises.push(("names are only read", after.has_contents_of(lent)));
-    promises.push(("refused just where there is no such axis", (answer.number != 0) == (numbers.axis > 1)));
+    promises.push(("a name is refused by 4 for no axis, else by 10 for a short store", answer.number == expected));
     promises.push(("a name lies within its store", end <= lent.bytes[store].content().len() as u64));
-    promises.push(("a short store has no name", !lent.is_short() || answer.length == 0));
     (answer.number, promises)
 }
 
@@ -153,19 +154,19 @@ fn is_same_further_on(lent: &Lent, panel: State, numbers: Numbers, written: &[u6
     let further = Numbers { place: numbers.place + 1, ..numbers };
     let answer = calls::records(&mut other, panel, further);
     let both = written.len() / 3 - 1;
-    answer.count as usize >= both && other.words[RECORDS].content()[..3 * both] == written[3..]
+    answer.count as usize >= both && other.words[RUN].content()[..3 * both] == written[3..]
 }
 
 pub fn records(lent: &Lent, panel: State, numbers: Numbers) -> (u32, Promises) {
     let Twice { answer, after, mut promises } = twice(lent, |lent| calls::records(lent, panel, numbers));
-    let (lent_words, written) = (lent.words[RECORDS].content(), after.words[RECORDS].content());
+    let (lent_words, written) = (lent.words[RUN].content(), after.words[RUN].content());
     let there = calls::record_count(panel, numbers).count.saturating_sub(u64::from(numbers.place));
     let fit = lent_words.len() as u64 / 3;
     let end = (3 * answer.count.min(fit)) as usize;
     let accepted = answer.number == 0;
     let few_items = (lent.bytes[ITEMS].content().len() as u64) < tracks(panel, numbers);
     promises.extend(of_refusal(answer.number, &[4, 10], answer.count == 0, after.has_contents_of(lent)));
-    promises.push(("only the words lent are written", after.is_but_for(lent, &[RECORDS], &[])));
+    promises.push(("only the words lent are written", after.is_but_for(lent, &[(RUN, lent.words[RUN].whole())], &[])));
     promises.push(("as many records are written as there are and fit", !accepted || answer.count == there.min(fit)));
     promises.push(("words past the records stay", written[end..] == lent_words[end..]));
     promises.push(("a record has a kind and two sizes", are_records(&written[..end])));

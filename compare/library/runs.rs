@@ -1,40 +1,47 @@
 //! The calls that answer a whole run, placements and line names, and what `palgwern.h` promises of them.
 use crate::calls::{self, Numbers};
 use crate::lent::*;
-use crate::palgwern::{raw, State};
+use crate::palgwern::{raw, State, LINE_NAME_RUN, PLACEMENT_NUMBERS, PLACEMENT_RUN};
 use crate::planted;
 use crate::promises::{of_refusal, twice, Promises, Twice};
 
-/// Two numbers of a run lie in each word that is lent.
+/// The words of a run of placements: two numbers lie in each.
+const PLACEMENT_RUN_WORDS: usize = PLACEMENT_RUN / 2;
+/// The most placements of a run.
+const MOST_PLACEMENTS: u64 = (PLACEMENT_RUN / PLACEMENT_NUMBERS) as u64;
+
+/// A run for placements or for line names, of the length that the call fixes.
+pub fn lend_run(call: &str, lent: &mut Lent) {
+    let words = if call == "resolve_placements" { PLACEMENT_RUN_WORDS } else { LINE_NAME_RUN };
+    lent.words[RUN].fill_with(&vec![0x7777_7777_7777_7777; words]);
+}
+
 fn placements(lent: &mut Lent, panel: State, numbers: Numbers) -> raw::CountAnswer {
-    let [columns, rows, areas, placements, run] = &mut lent.words;
+    let [words, run] = &mut lent.words;
     let (columnstore, rowstore) = (lent.bytes[COLUMN_STORE].content(), lent.bytes[ROW_STORE].content());
-    let [areabytes, placementbytes] = [AREA_NAMES, PLACEMENT_NAMES].map(|at| lent.bytes[at].content().as_ptr());
-    let run = run.content_mut();
+    let run: *mut [u64; PLACEMENT_RUN_WORDS] = run.array_mut();
     // SAFETY: as in `calls::read_sheet`; any word is two numbers.
-    let answer = unsafe {
+    let mut answer = unsafe {
         raw::palgwern_resolve_placements(
-            panel, columns.content().as_ptr().cast(), rows.content().as_ptr().cast(), columnstore.as_ptr(), columnstore.len(),
-            rowstore.as_ptr(), rowstore.len(), areas.content().as_ptr().cast(), areabytes.cast(), placements.content().as_ptr().cast(),
-            placementbytes.cast(), numbers.place, run.as_mut_ptr().cast(), 2 * run.len(),
+            panel, words.array(), lent.bytes[PANEL].array(), columnstore.as_ptr(), columnstore.len(), rowstore.as_ptr(), rowstore.len(),
+            numbers.place, run.cast(),
         )
     };
-    planted::in_placements(lent, &answer);
+    planted::in_placements(lent, &mut answer);
     answer
 }
 
 fn names(lent: &mut Lent, panel: State, numbers: Numbers) -> raw::CountAnswer {
-    let [columns, rows, _, _, run] = &mut lent.words;
+    let [words, run] = &mut lent.words;
     let (columnstore, rowstore) = (lent.bytes[COLUMN_STORE].content(), lent.bytes[ROW_STORE].content());
-    let run = run.content_mut();
     // SAFETY: as above.
-    let answer = unsafe {
+    let mut answer = unsafe {
         raw::palgwern_line_names(
-            panel, columns.content().as_ptr().cast(), rows.content().as_ptr().cast(), columnstore.as_ptr(), columnstore.len(),
-            rowstore.as_ptr(), rowstore.len(), numbers.axis, run.as_mut_ptr(), run.len(),
+            panel, words.array(), columnstore.as_ptr(), columnstore.len(), rowstore.as_ptr(), rowstore.len(), numbers.axis,
+            run.array_mut(),
         )
     };
-    planted::in_names(lent, &answer);
+    planted::in_names(lent, &mut answer);
     answer
 }
 
@@ -47,15 +54,17 @@ fn alone(lent: &mut Lent, panel: State, numbers: Numbers) -> [u64; 3] {
 
 pub fn resolve_placements(lent: &Lent, panel: State, numbers: Numbers) -> (u32, Promises) {
     let Twice { answer, after, mut promises } = twice(lent, |lent| placements(lent, panel, numbers));
-    let (held, written) = (lent.words[RECORDS].content(), after.words[RECORDS].content());
+    let (held, written) = (lent.words[RUN].content(), after.words[RUN].content());
     let there = u64::from(panel.placements).saturating_sub(u64::from(numbers.place));
-    let fit = held.len() as u64 / 3;
-    let end = (3 * answer.count.min(fit)) as usize;
+    let end = (3 * answer.count.min(MOST_PLACEMENTS)) as usize;
+    let expected = if there == 0 { 4 } else if lent.is_short() { 10 } else { 0 };
     let mut other = lent.clone();
     let mut same = |(i, words): (usize, &[u64])| *words == alone(&mut other, panel, Numbers { place: numbers.place + i as u32, ..numbers });
     promises.extend(of_refusal(answer.number, &[4, 10], answer.count == 0, after.has_contents_of(lent)));
-    promises.push(("only the numbers lent are written", after.is_but_for(lent, &[RECORDS], &[])));
-    promises.push(("as many placements are written as there are and fit", answer.number != 0 || answer.count == there.min(fit)));
+    promises.push(("a run of placements is refused by 4 for none, else by 10 for a short store", answer.number == expected));
+    promises.push(("only the numbers lent are written", after.is_but_for(lent, &[(RUN, lent.words[RUN].whole())], &[])));
+    let all = answer.count == there.min(MOST_PLACEMENTS);
+    promises.push(("as many placements are written as there are and fit", answer.number != 0 || all));
     promises.push(("numbers past the placements stay", written[end..] == held[end..]));
     promises.push(("a placement of a run is the one asked for alone", written[..end].chunks(3).enumerate().all(&mut same)));
     (answer.number, promises)
@@ -76,12 +85,14 @@ fn are_names(lent: &Lent, panel: State, numbers: Numbers, words: &[u64]) -> bool
 
 pub fn line_names(lent: &Lent, panel: State, numbers: Numbers) -> (u32, Promises) {
     let Twice { answer, after, mut promises } = twice(lent, |lent| names(lent, panel, numbers));
-    let (held, written) = (lent.words[RECORDS].content(), after.words[RECORDS].content());
+    let (held, written) = (lent.words[RUN].content(), after.words[RUN].content());
     let end = answer.count.min(held.len() as u64) as usize;
+    let explicit = if numbers.axis == 0 { panel.columns.explicit } else { panel.rows.explicit };
+    let expected = if numbers.axis > 1 || explicit > 10_000 { 4 } else if lent.is_short() { 10 } else { 0 };
     promises.extend(of_refusal(answer.number, &[4, 10], answer.count == 0, after.has_contents_of(lent)));
-    promises.push(("only the words lent are written", after.is_but_for(lent, &[RECORDS], &[])));
+    promises.push(("line names are refused by 4 for no axis or too many tracks, else by 10 for a short store", answer.number == expected));
+    promises.push(("only the words lent are written", after.is_but_for(lent, &[(RUN, lent.words[RUN].whole())], &[])));
     promises.push(("words past the names stay", written[end..] == held[end..]));
-    promises.push(("line names with a short store are refused", !lent.is_short() || answer.number != 0));
     promises.push(("names of a run are those asked for alone", are_names(lent, panel, numbers, &written[..end])));
     (answer.number, promises)
 }

@@ -4,8 +4,8 @@ ghost use Rattle.tables.specs.Store.{InMarks, putItem, putExtra, putAxis};
 use tables::AxisPut;
 use tables::AxisReading;
 use tables::AxisState;
-use tables::layout::AXIS_MARKS;
 use tables::state::put;
+use tables::write::set_byte;
 
 // An `axis` record.
 pub fn put_axis(
@@ -39,17 +39,12 @@ pub fn put_extra(state: AxisState, reading: AxisReading, negative: u32, positive
 }
 
 // An item's mark at a track index. 4: an index above 29,999.
-pub fn put_item(
-    state: AxisState,
-    reading: AxisReading,
-    marks: &mut [u8; AXIS_MARKS],
-    index: u32,
-) -> AxisPut
+pub fn put_item(state: AxisState, reading: AxisReading, marks: &mut [u8], index: u32) -> AxisPut
     ensures { λ r. ⌜ record { answer = r; marks = now (marks .exit) } ≡ putItem state reading (now (marks .entry)) index ⌝ }
 {
     if 29999 < index {
         return put(4, state, reading);
     }
-    marks[index as usize] = 1;
+    set_byte(marks, index as usize, 1);
     put(0, state, reading)
 }

@@ -4,16 +4,16 @@ ghost use Rattle.tables.specs.Store.{InWords, putSpare};
 use tables::AxisPut;
 use tables::AxisReading;
 use tables::AxisState;
-use tables::layout::AXIS_WORDS;
 use tables::layout::SPARE_MAXIMUMS;
 use tables::layout::SPARE_MINIMUMS;
 use tables::state::put;
+use tables::write::set_word;
 
 // Spare sizes. 8: a 65th.
 pub fn put_spare(
     state: AxisState,
     reading: AxisReading,
-    words: &mut [u64; AXIS_WORDS],
+    words: &mut [u64],
     min: u64,
     max: u64,
 ) -> AxisPut
@@ -23,8 +23,8 @@ pub fn put_spare(
     if 63 < spares {
         return put(8, state, reading);
     }
-    words[SPARE_MINIMUMS + spares as usize] = min;
-    words[SPARE_MAXIMUMS + spares as usize] = max;
+    set_word(words, SPARE_MINIMUMS + spares as usize, min);
+    set_word(words, SPARE_MAXIMUMS + spares as usize, max);
     let mut after = state;
     after.spares = spares + 1;
     put(0, after, reading)

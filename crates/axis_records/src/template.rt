@@ -5,17 +5,17 @@ ghost use Rattle.tables.specs.View.{repeatKind};
 use tables::AxisPut;
 use tables::AxisReading;
 use tables::AxisState;
-use tables::layout::AXIS_WORDS;
 use tables::layout::MAXIMUMS;
 use tables::layout::MINIMUMS;
 use tables::layout::component_word;
 use tables::state::put;
+use tables::write::set_word;
 
 // A track outside a repeat, which is a component. 8: a 65th component.
 fn put_single(
     state: AxisState,
     reading: AxisReading,
-    words: &mut [u64; AXIS_WORDS],
+    words: &mut [u64],
     min: u64,
     max: u64,
 ) -> AxisPut
@@ -29,9 +29,10 @@ fn put_single(
     if 2047 < tracks {
         return put(8, state, reading);
     }
-    words[components as usize] = component_word(0, 0, tracks, 1);
-    words[MINIMUMS + tracks as usize] = min;
-    words[MAXIMUMS + tracks as usize] = max;
+    let word = component_word(0, 0, tracks, 1);
+    set_word(words, components as usize, word);
+    set_word(words, MINIMUMS + tracks as usize, min);
+    set_word(words, MAXIMUMS + tracks as usize, max);
     let mut after = state;
     after.components = components + 1;
     after.tracks = tracks + 1;
@@ -42,7 +43,7 @@ fn put_single(
 fn put_repeated(
     state: AxisState,
     reading: AxisReading,
-    words: &mut [u64; AXIS_WORDS],
+    words: &mut [u64],
     min: u64,
     max: u64,
 ) -> AxisPut
@@ -56,8 +57,8 @@ fn put_repeated(
     if 2047 < tracks {
         return put(8, state, reading);
     }
-    words[MINIMUMS + tracks as usize] = min;
-    words[MAXIMUMS + tracks as usize] = max;
+    set_word(words, MINIMUMS + tracks as usize, min);
+    set_word(words, MAXIMUMS + tracks as usize, max);
     let mut after = state;
     after.tracks = tracks + 1;
     let mut then = reading;
@@ -69,7 +70,7 @@ fn put_repeated(
 pub fn put_track(
     state: AxisState,
     reading: AxisReading,
-    words: &mut [u64; AXIS_WORDS],
+    words: &mut [u64],
     min: u64,
     max: u64,
 ) -> AxisPut
@@ -116,11 +117,7 @@ pub fn open_repeat(state: AxisState, reading: AxisReading, kind: u32, number: u3
 }
 
 // Closes the open repeat: its component is written. 1: no repeat is open.
-pub fn close_repeat(
-    state: AxisState,
-    reading: AxisReading,
-    words: &mut [u64; AXIS_WORDS],
-) -> AxisPut
+pub fn close_repeat(state: AxisState, reading: AxisReading, words: &mut [u64]) -> AxisPut
     ensures { λ r. ⌜ record { answer = r; words = now (words .exit) } ≡ closeRepeat state reading (now (words .entry)) ⌝ }
 {
     if reading.kind == 0 {
@@ -130,12 +127,8 @@ pub fn close_repeat(
     if 63 < components {
         return put(8, state, reading);
     }
-    words[components as usize] = component_word(
-        reading.number,
-        reading.kind,
-        reading.first,
-        reading.length,
-    );
+    let word = component_word(reading.number, reading.kind, reading.first, reading.length);
+    set_word(words, components as usize, word);
     let mut after = state;
     after.components = components + 1;
     let closed = AxisReading {

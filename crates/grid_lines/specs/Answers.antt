@@ -59,5 +59,9 @@ abbrev pub impliedPositive : ℕ → ℤ → ℕ
 impliedPositive n (pos l) = l - n
 impliedPositive n (negsuc k) = 0
 
+-- a line outside -10,000..10,000 is refused by 4, and so is a count above 10,000
+unfoldable pub impliedNegativeAnswer : ℤ → CountAnswer
+impliedNegativeAnswer l = cond (outside l) (refusedCount count) (countAnswer (impliedNegative l))
+
 unfoldable pub impliedPositiveAnswer : ℕ → ℤ → CountAnswer
-impliedPositiveAnswer n l = cond (ltb 10000 n) (refusedCount count) (countAnswer (impliedPositive n l))
+impliedPositiveAnswer n l = cond (ltb 10000 n) (refusedCount count) (cond (outside l) (refusedCount count) (countAnswer (impliedPositive n l)))

@@ -4,7 +4,7 @@ ghost use Rattle.coordinates.specs.Lines.{outside};
 ghost use Prim.Native.Nat.{_-_};
 ghost use Rattle.coordinates.specs.Signed.{integerOf, sixteenBits};
 ghost use Rattle.coordinates.specs.Refusals.{count};
-ghost use Rattle.grid_lines.specs.Answers.{clampedOf, heldLine, refusedLine, originZeroAnswer, gridLineOf, refusedGridLine, gridLineAnswer, countAnswer, refusedCount, impliedNegative, impliedPositiveAnswer};
+ghost use Rattle.grid_lines.specs.Answers.{clampedOf, heldLine, refusedLine, originZeroAnswer, gridLineOf, refusedGridLine, gridLineAnswer, countAnswer, refusedCount, impliedNegativeAnswer, impliedPositiveAnswer};
 use coordinates::refusal;
 use coordinates::refusal::Refusal;
 use coordinates::signed;
@@ -160,22 +160,29 @@ impl OriginZeroLine {
         }
     }
 
-    // The tracks there must be before the grid if an item starts at this line.
-    pub fn implied_negative_implicit_tracks(self) -> u16
-        ensures { λ r. ⌜ r ≡ impliedNegative (self .0) ⌝ }
+    // The tracks there must be before the grid if an item starts at this line. Refused by 4: a line outside -10,000..10,000.
+    pub fn implied_negative_implicit_tracks(self) -> CountAnswer
+        ensures { λ r. ⌜ r ≡ impliedNegativeAnswer (self .0) ⌝ }
     {
+        if is_outside(self) {
+            return refused_count(refusal::COUNT);
+        }
         let number = self.0;
         match signed::split_16_bits(number) {
-            Signed::NonNegative(_) => 0,
-            Signed::Negative(k) => (k + 1) as u16,
+            Signed::NonNegative(_) => count_answer(0),
+            Signed::Negative(k) => count_answer(k + 1),
         }
     }
 
-    // The tracks there must be after the grid if an item ends at this line. Refused by 4: more than 10,000 explicit tracks.
+    // The tracks there must be after the grid if an item ends at this line. Refused by 4: more than 10,000 explicit tracks, and a
+    // line outside -10,000..10,000.
     pub fn implied_positive_implicit_tracks(self, explicit: u16) -> CountAnswer
         ensures { λ r. ⌜ r ≡ impliedPositiveAnswer explicit (self .0) ⌝ }
     {
         if 10000 < explicit {
+            return refused_count(refusal::COUNT);
+        }
+        if is_outside(self) {
             return refused_count(refusal::COUNT);
         }
         let number = self.0;

@@ -1,6 +1,6 @@
 -- All line names of an axis in one run (document 01, layer 4): one list for each explicit line after the other, a word for each name.
 use Prim.Native.Nat.{ℕ}
-use mathlib.Core.Bool.{cond, _||_}
+use mathlib.Core.Bool.{cond}
 use mathlib.Core.List.{List}
 use lib.Dec.{eqb, ltb}
 use lib.ListN.{length}
@@ -15,19 +15,19 @@ use Rattle.panel_rules.specs.Calls.{NameTables, wordsIn, storeIn, shorterStore,
 use Rattle.panel_numbers.specs.Answers.{isAxis, counted, uncounted}
 use Rattle.panel_numbers.specs.Records.{WrittenRun}
 
--- 4 for an explicit count above 10,000, which no sheet gives; then 10 for a short store, or fewer words than there are entries
-unfoldable pub listsRefusal : ℕ → ℕ → ℕ → ℕ → ℕ
-listsRefusal explicit bytes entries lent = cond (ltb 10000 explicit) count (cond (ltb bytes 32768 || ltb lent entries) short 0)
+-- 4 for an explicit count above 10,000, which no sheet gives; then 10 for a short store
+unfoldable pub listsRefusal : ℕ → ℕ → ℕ
+listsRefusal explicit bytes = cond (ltb 10000 explicit) count (cond (ltb bytes 32768) short 0)
 
--- the lists of an axis, by its state, its words and its store; `bytes` are those of the shorter store
+-- the lists of an axis, by its state, its words and its store, in the 4,096 words that are lent; `bytes` are those of the shorter store
 unfoldable pub writtenLists : AxisState → List ℕ → List ℕ → ℕ → List ℕ → WrittenRun
 writtenLists s words store bytes lent =
-    cond (eqb (listsRefusal (s .explicit) bytes (length (entryWordsIn s words)) (length lent)) 0)
+    cond (eqb (listsRefusal (s .explicit) bytes) 0)
     (record {
       answer = counted (length (lists (s .explicit) (entryWordsIn s words) store));
       words = sets lent 0 (lists (s .explicit) (entryWordsIn s words) store);
     })
-    (record { answer = uncounted (listsRefusal (s .explicit) bytes (length (entryWordsIn s words)) (length lent)); words = lent })
+    (record { answer = uncounted (listsRefusal (s .explicit) bytes); words = lent })
 
 -- of an axis by its number
 unfoldable pub listsWritten : Panel → NameTables → ℕ → List ℕ → WrittenRun

@@ -1,9 +1,8 @@
 // All line names of an axis, written as numbers in one run.
 ghost use mathlib.Core.Path.{_≡_};
-ghost use Prim.Native.Nat.{min};
-ghost use lib.ListN.{length};
-ghost use Rattle.name_store.specs.LineNames.{ofAxis};
 ghost use Rattle.panel_tables.specs.Axes.{stateIn};
+ghost use Rattle.panel_tables.specs.Regions.{axisWordsIn};
+ghost use Rattle.panel_rules.specs.Calls.{NameTables, nameTablesIn, shorterStore, storeIn, wordsIn};
 ghost use Rattle.panel_numbers.specs.Records.{WrittenRun};
 ghost use Rattle.line_name_run.specs.Lists.{listsRefusal, writtenLists};
 use coordinates::Axis;
@@ -12,30 +11,25 @@ use coordinates::refusal::SHORT;
 use panel_numbers::CountAnswer;
 use panel_numbers::numbers::counted;
 use panel_numbers::numbers::uncounted;
+use panel_stores::store::entries_of;
+use panel_stores::store::smaller;
 use panel_tables::Panel;
+use panel_tables::region::PANEL_WORDS;
+use panel_tables::region::axis_words;
 use tables::AxisState;
-use tables::layout::AXIS_WORDS;
-use tables::layout::ENTRIES;
-use tables::layout::words_part;
+use tables::layout::AXIS_BYTES;
 
-// The bytes of the shorter store.
-fn shorter(columns: usize, rows: usize) -> usize
-    ensures { λ r. ⌜ r ≡ min columns rows ⌝ }
-{
-    if columns < rows {
-        return columns;
-    }
-    rows
-}
+// The words of a run of line names: one for each entry that an axis can have.
+pub const LINE_NAME_RUN: usize = 4096;
 
 // What the lists are refused by.
-fn lists_refusal(explicit: u32, bytes: usize, entries: usize, lent: usize) -> u32
-    ensures { λ r. ⌜ r ≡ listsRefusal explicit bytes entries lent ⌝ }
+fn lists_refusal(explicit: u32, bytes: usize) -> u32
+    ensures { λ r. ⌜ r ≡ listsRefusal explicit bytes ⌝ }
 {
     if 10000 < explicit {
         return COUNT;
     }
-    if (bytes < 32768) | (lent < entries) {
+    if bytes < AXIS_BYTES {
         return SHORT;
     }
     0
@@ -44,37 +38,37 @@ fn lists_refusal(explicit: u32, bytes: usize, entries: usize, lent: usize) -> u3
 // Writes the lists of one axis.
 fn write_on(
     state: AxisState,
-    tables: &[u64; AXIS_WORDS],
+    words: &[u64; PANEL_WORDS],
+    axis: Axis,
     store: &[u8],
     bytes: usize,
-    words: &mut [u64],
+    out: &mut [u64; LINE_NAME_RUN],
 ) -> CountAnswer
-    ensures { λ r. ⌜ record { answer = r; words = now (words .exit) } ≡ writtenLists state (now (tables .entry)) (now (store .entry)) bytes (now (words .entry)) ⌝ }
+    ensures { λ r. ⌜ record { answer = r; words = now (out .exit) } ≡ writtenLists state (axisWordsIn axis (now (words .entry))) (now (store .entry)) bytes (now (out .entry)) ⌝ }
 {
-    let entries = words_part(tables, ENTRIES, state.entries);
-    let number = lists_refusal(state.explicit, bytes, entries.len(), words.len());
+    let entries = entries_of(state, axis_words(words, axis));
+    let number = lists_refusal(state.explicit, bytes);
     if number != 0 {
         return uncounted(number);
     }
-    let count = line_lists::detailed_line_names(entries, store, state.explicit, words);
+    let count = line_lists::detailed_line_names(entries, store, state.explicit, out);
     counted(count as u64)
 }
 
-// The same, of an axis of a panel.
+// Writes the lists of an axis of a panel. 4: an explicit count above 10,000; 10: a store below 32,768 bytes.
 pub fn write_lists(
     panel: Panel,
-    columns: &[u64; AXIS_WORDS],
-    rows: &[u64; AXIS_WORDS],
+    words: &[u64; PANEL_WORDS],
     columnstore: &[u8],
     rowstore: &[u8],
     axis: Axis,
-    words: &mut [u64],
+    out: &mut [u64; LINE_NAME_RUN],
 ) -> CountAnswer
-    ensures { λ r. ⌜ record { answer = r; words = now (words .exit) } ≡ writtenLists (stateIn panel axis) (ofAxis axis (now (columns .entry)) (now (rows .entry))) (ofAxis axis (now (columnstore .entry)) (now (rowstore .entry))) (min (length (now (columnstore .entry))) (length (now (rowstore .entry)))) (now (words .entry)) ⌝ }
+    ensures { λ r. ⌜ record { answer = r; words = now (out .exit) } ≡ writtenLists (stateIn panel axis) (wordsIn (nameTablesIn (now (words .entry)) (now (columnstore .entry)) (now (rowstore .entry))) axis) (storeIn (nameTablesIn (now (words .entry)) (now (columnstore .entry)) (now (rowstore .entry))) axis) (shorterStore (nameTablesIn (now (words .entry)) (now (columnstore .entry)) (now (rowstore .entry)))) (now (out .entry)) ⌝ }
 {
-    let bytes = shorter(columnstore.len(), rowstore.len());
+    let bytes = smaller(columnstore.len(), rowstore.len());
     match axis {
-        Axis::Column => write_on(panel.columns, columns, columnstore, bytes, words),
-        Axis::Row => write_on(panel.rows, rows, rowstore, bytes, words),
+        Axis::Column => write_on(panel.columns, words, Axis::Column, columnstore, bytes, out),
+        Axis::Row => write_on(panel.rows, words, Axis::Row, rowstore, bytes, out),
     }
 }

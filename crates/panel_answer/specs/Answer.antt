@@ -1,15 +1,19 @@
 -- What the panel program prints (document 01, panel sheet).
 use Prim.Native.Nat.{ℕ, suc}
+use mathlib.Core.Bool.{cond}
 use mathlib.Core.List.{List, [], _∷_, _++_}
+use lib.Dec.{eqb}
 use Rattle.coordinates.specs.declared.axis.Axis.{Axis}
 use Rattle.coordinates.specs.declared.axis.Axis.the-variants.{Column, Row}
 use Rattle.grid_track.specs.declared.GridTrack.{GridTrack}
 use Rattle.grid_track.specs.Records.{listed, recordsIn, recordsOf}
 use Rattle.panel_tables.specs.Axes.{stateIn}
+use Rattle.sheet_rules.specs.Panels.{Tables}
+use Rattle.sheet_rules.specs.Read.{SheetRead, readSheet}
 use Rattle.panel_rules.specs.declared.PlacementAnswer.{PlacementAnswer}
 use Rattle.panel_rules.specs.Calls.{wordsIn, templateIn, sparesIn, axisTracks}
 use Rattle.panel_rules.specs.Runs.{Held, namesOf, marksOf, sizeOf, placementOf}
-use Rattle.panel_text.specs.Lines.{sizeLine, recordLine, placeLine}
+use Rattle.panel_text.specs.Lines.{sizeLine, recordLine, placeLine, refusedLine}
 
 -- "`size`: axis, repetitions, explicit count"
 abbrev pub sizeLineOf : Held → Axis → List ℕ
@@ -44,3 +48,16 @@ axisLines h a = sizeLineOf h a ∷ recordLines 0 (recordsOfAxis h a)
 -- "columns come first, then rows, then placements in sheet order"
 unfoldable pub answerLines : Held → List (List ℕ)
 answerLines h = axisLines h Column ++ (axisLines h Row ++ listed (placeLineOf h) (h .panel .placements))
+
+-- lines one after the other
+abbrev pub textOf : List (List ℕ) → List ℕ
+textOf [] = []
+textOf (l ∷ ls) = l ++ textOf ls
+
+-- "a refused sheet prints only `refused`, number, line (0 if too long)"
+abbrev pub linesOf : SheetRead → List (List ℕ)
+linesOf r = cond (eqb (r .answer .refusal .number) 0) (answerLines (record { panel = r .answer .panel; tables = r .tables })) (refusedLine (r .answer .refusal) ∷ [])
+
+-- all that is printed for a sheet, with those tables lent
+unfoldable pub answerText : List ℕ → Tables → List ℕ
+answerText sheet t = textOf (linesOf (readSheet sheet t))

@@ -1,7 +1,7 @@
 // The lines of an axis: its size and its records.
 ghost use mathlib.Core.Path.{_≡_};
-ghost use Rattle.name_store.specs.LineNames.{ofAxis};
 ghost use Rattle.panel_tables.specs.Axes.{stateIn};
+ghost use Rattle.panel_tables.specs.Regions.{axisWordsIn, marksIn};
 ghost use Rattle.panel_rules.specs.Calls.{explicitSize};
 ghost use Rattle.panel_grid.specs.Carried.{carriedTo, carriedRecord};
 ghost use Rattle.panel_text.specs.Lines.{sizeLine, recordLine};
@@ -11,12 +11,13 @@ ghost use Rattle.panel_answer.specs.declared.AnswerLine.the-variants.{Re
 use crate::AnswerLine;
 use crate::place::place_from;
 use coordinates::Axis;
-use grid_track::GridTrack;
 use grid_track::TrackWalk;
 use panel_grid::size::explicit_size;
 use panel_grid::track;
 use panel_tables::Panel;
-use tables::layout::AXIS_WORDS;
+use panel_tables::region::PANEL_BYTES;
+use panel_tables::region::PANEL_WORDS;
+use panel_tables::region::marks;
 
 // The line of an axis's size.
 pub(crate) fn put_size(out: &mut [u8], panel: Panel, axis: Axis) -> usize
@@ -26,49 +27,25 @@ pub(crate) fn put_size(out: &mut [u8], panel: Panel, axis: Axis) -> usize
     panel_text::size_line(out, axis, size.repetitions, size.explicit)
 }
 
-// A record, by what is carried to it.
-fn record_of(
-    panel: Panel,
-    columns: &[u64; AXIS_WORDS],
-    rows: &[u64; AXIS_WORDS],
-    columnmarks: &[u8],
-    rowmarks: &[u8],
-    axis: Axis,
-    index: u32,
-    state: TrackWalk,
-) -> GridTrack
-    ensures { λ r. ⌜ r ≡ carriedRecord (stateIn panel axis) (ofAxis axis (now (columns .entry)) (now (rows .entry))) (ofAxis axis (now (columnmarks .entry)) (now (rowmarks .entry))) state index ⌝ }
-{
-    let place = index as usize;
-    match axis {
-        Axis::Column => track::record_in(panel, columns, rows, axis, columnmarks, state, place),
-        Axis::Row => track::record_in(panel, columns, rows, axis, rowmarks, state, place),
-    }
-}
-
-// The line of a record.
+// The line of a record, by what is carried to it.
 pub(crate) fn put_record(
     out: &mut [u8],
     panel: Panel,
-    columns: &[u64; AXIS_WORDS],
-    rows: &[u64; AXIS_WORDS],
-    columnmarks: &[u8],
-    rowmarks: &[u8],
+    words: &[u64; PANEL_WORDS],
+    bytes: &[u8; PANEL_BYTES],
     axis: Axis,
     index: u32,
     state: TrackWalk,
 ) -> usize
-    ensures { λ r. ⌜ WritesLine (now (out .entry)) (recordLine index (carriedRecord (stateIn panel axis) (ofAxis axis (now (columns .entry)) (now (rows .entry))) (ofAxis axis (now (columnmarks .entry)) (now (rowmarks .entry))) state index)) (now (out .exit)) r ⌝ }
+    ensures { λ r. ⌜ WritesLine (now (out .entry)) (recordLine index (carriedRecord (stateIn panel axis) (axisWordsIn axis (now (words .entry))) (marksIn axis (now (bytes .entry))) state index)) (now (out .exit)) r ⌝ }
 {
-    let record = record_of(
+    let record = track::record_in(
         panel,
-        columns,
-        rows,
-        columnmarks,
-        rowmarks,
+        words,
         axis,
-        index,
+        marks(bytes, axis),
         state,
+        index as usize,
     );
     panel_text::record_line(out, index, record)
 }
@@ -76,24 +53,14 @@ pub(crate) fn put_record(
 // The first record of an axis.
 pub(crate) fn first_record(
     panel: Panel,
-    columns: &[u64; AXIS_WORDS],
-    rows: &[u64; AXIS_WORDS],
-    columnmarks: &[u8],
-    rowmarks: &[u8],
+    words: &[u64; PANEL_WORDS],
+    bytes: &[u8; PANEL_BYTES],
     axis: Axis,
 ) -> AnswerLine
-    ensures { λ r. ⌜ r ≡ Record axis 0 (carriedTo (stateIn panel axis) (ofAxis axis (now (columns .entry)) (now (rows .entry))) (ofAxis axis (now (columnmarks .entry)) (now (rowmarks .entry))) 0) ⌝ }
+    ensures { λ r. ⌜ r ≡ Record axis 0 (carriedTo (stateIn panel axis) (axisWordsIn axis (now (words .entry))) (marksIn axis (now (bytes .entry))) 0) ⌝ }
 {
-    match axis {
-        Axis::Column => {
-            let state = track::first_record(panel, columns, rows, axis, columnmarks);
-            AnswerLine::Record(axis, 0, state)
-        }
-        Axis::Row => {
-            let state = track::first_record(panel, columns, rows, axis, rowmarks);
-            AnswerLine::Record(axis, 0, state)
-        }
-    }
+    let state = track::first_record(panel, words, axis, marks(bytes, axis));
+    AnswerLine::Record(axis, 0, state)
 }
 
 // What comes after the records of an axis.
@@ -109,17 +76,16 @@ fn after_axis(panel: Panel, axis: Axis) -> AnswerLine
 // The record after record `index`, or what comes after the axis.
 pub(crate) fn next_record(
     panel: Panel,
-    columns: &[u64; AXIS_WORDS],
-    rows: &[u64; AXIS_WORDS],
+    words: &[u64; PANEL_WORDS],
     axis: Axis,
     index: u32,
     state: TrackWalk,
 ) -> AnswerLine
-    ensures { λ r. ⌜ r ≡ recordFrom panel (ofAxis axis (now (columns .entry)) (now (rows .entry))) axis index state ⌝ }
+    ensures { λ r. ⌜ r ≡ recordFrom panel (axisWordsIn axis (now (words .entry))) axis index state ⌝ }
 {
     let count = track::record_count(panel, axis) as u64;
     if index as u64 + 1 < count {
-        let next = track::next_record(panel, columns, rows, axis, state, index as usize);
+        let next = track::next_record(panel, words, axis, state, index as usize);
         return AnswerLine::Record(axis, index + 1, next);
     }
     after_axis(panel, axis)

@@ -4,7 +4,7 @@ use mathlib.Core.Path.{_≡_, refl, sym, _∙_}
 use mathlib.Core.Bool.{Bool, true, false}
 use mathlib.Core.List.{List}
 use native.Mathlib.Omega.{arith}
-use borrow.Author.Tests.{leb-true, leb-false, le-leb, lt-leb}
+use borrow.Author.Tests.{leb-true, leb-false, le-leb, lt-leb, lt-ltb, le-ltb}
 use lib.Dec.{leb}
 use lib.ListN.{length, take, drop, length-drop, drop-of-length-le}
 use lib.Seq.{take-all, take-nil}
@@ -15,7 +15,7 @@ use Rattle.name_store.specs.declared.NameEntry.{NameEntry}
 use Rattle.tables.specs.Runs.{partOf}
 use Rattle.panel_tables.specs.declared.Panel.{Panel}
 use Rattle.panel_tables.specs.Placements.{axisOf}
-use Rattle.panel_rules.specs.Calls.{NameTables, storeIn}
+use Rattle.panel_rules.specs.Calls.{NameTables, storeIn, shorterStore, lineNameIn}
 use Rattle.panel_naming.specs.LineEntries.{lineEntryIn}
 use Rattle.panel_naming.proofs.LineEntries.{line-entry-name}
 use Rattle.panel_numbers.specs.declared.NameAnswer.{NameAnswer}
@@ -58,14 +58,14 @@ axis-length Row columns rows = refl
 
 module _ (p : Panel) (t : NameTables) (axis line place : ℕ) where
   -- the part of the entry's name
-  pub shows-name : (bytes : ℕ) (e : NameEntry) (r : NameAnswer) → axis ≤ 1 → bytes ≡ length (storeIn t (axisOf axis)) →
+  pub shows-name : (bytes : ℕ) (e : NameEntry) (r : NameAnswer) → axis ≤ 1 → 32768 ≤ shorterStore t → bytes ≡ length (storeIn t (axisOf axis)) →
       e ≡ lineEntryIn p t (axisOf axis) line place → r ≡ namePart bytes e → ShowsName p t axis line place r
   unfolding namePartOf
-  shows-name bytes e r h b f g =
+  shows-name bytes e r h s b f g =
       let store = storeIn t (axisOf axis) in
       let q : r ≡ namePart (length store) (lineEntryIn p t (axisOf axis) line place) = rw (← b, ← f) g in
       record {
-        answer = rw (le-leb axis 1 h) q;
+        answer = rw (le-leb axis 1 h, le-ltb (shorterStore t) 32768 s) q;
         inside = rw q (omega arith);
         part = rw (q, le-leb axis 1 h) (cut-part store (lineEntryIn p t (axisOf axis) line place .offset) (lineEntryIn p t (axisOf axis) line place .length) ∙ line-entry-name p t (axisOf axis) line place);
       }
@@ -74,3 +74,13 @@ module _ (p : Panel) (t : NameTables) (axis line place : ℕ) where
   pub shows-none : 1 < axis → ShowsName p t axis line place (record { number = 4; offset = 0; length = 0 })
   unfolding namePartOf
   shows-none h = record { answer = rw (lt-leb axis 1 h); inside = omega arith; part = rw (lt-leb axis 1 h) }
+
+  -- a store that is short
+  pub shows-short : axis ≤ 1 → shorterStore t < 32768 → ShowsName p t axis line place (record { number = 10; offset = 0; length = 0 })
+  unfolding namePartOf lineNameIn
+  shows-short h s =
+      record {
+        answer = rw (le-leb axis 1 h, lt-ltb (shorterStore t) 32768 s);
+        inside = omega arith;
+        part = rw (le-leb axis 1 h, lt-ltb (shorterStore t) 32768 s);
+      }

@@ -4,19 +4,24 @@ use mathlib.Core.Path.{_≡_}
 use mathlib.Core.Bool.{cond}
 use mathlib.Core.List.{[]}
 use lib.ListN.{length}
-use Rattle.coordinates.specs.Refusals.{count}
+use Rattle.coordinates.specs.Refusals.{count, short}
 use Rattle.tables.specs.Runs.{partOf}
 use Rattle.panel_tables.specs.declared.Panel.{Panel}
 use Rattle.panel_tables.specs.Placements.{axisOf}
-use Rattle.panel_rules.specs.Calls.{NameTables, storeIn, lineNameIn}
+use Rattle.panel_rules.specs.Calls.{NameTables, storeIn, shortNames, lineNameIn}
 use Rattle.panel_naming.specs.LineEntries.{lineEntryIn}
 use Rattle.panel_numbers.specs.declared.NameAnswer.{NameAnswer}
 use Rattle.panel_numbers.specs.Answers.{isAxis, namePart}
 
+abbrev pub refusedName : ℕ → NameAnswer
+refusedName n = record { number = n; offset = 0; length = 0 }
+
+-- 4 for a number that is no axis, then 10 where either store is short
 unfoldable pub namePartOf : Panel → NameTables → ℕ → ℕ → ℕ → NameAnswer
 namePartOf p t axis line place =
-    cond (isAxis axis) (namePart (length (storeIn t (axisOf axis))) (lineEntryIn p t (axisOf axis) line place))
-    (record { number = count; offset = 0; length = 0 })
+    cond (isAxis axis)
+    (cond (shortNames t) (refusedName short) (namePart (length (storeIn t (axisOf axis))) (lineEntryIn p t (axisOf axis) line place)))
+    (refusedName count)
 
 -- the part that an answer names lies in the store of the axis, and is the name of that line and place
 pub record ShowsName (p : Panel) (t : NameTables) (axis line place : ℕ) (r : NameAnswer) : Type 0 where

@@ -1,8 +1,9 @@
 // The calls on a panel for programs in C and Rust: numbers, lent arrays and slices of numbers, and structs of numbers by value.
 ghost use mathlib.Core.Path.{_≡_};
 ghost use Rattle.sheet_rules.specs.Read.{readSheet};
-ghost use Rattle.sheet.specs.Runs.{inTables};
-ghost use Rattle.panel_rules.specs.Calls.{NameTables, NamedWords};
+ghost use Rattle.sheet_rules.specs.Panels.{tablesIn};
+ghost use Rattle.panel_tables.specs.Regions.{areaWordsIn, placementWordsIn};
+ghost use Rattle.panel_rules.specs.Calls.{nameTablesIn, areaTableIn, placementTableIn};
 ghost use Rattle.panel_rules.specs.Placing.{resolvePlacement};
 ghost use Rattle.panel_numbers.specs.Answers.{PanelRead, panelRead, PanelEntered, nameEntered, sizeOf, lineCountOf, recordCountOf, placementNumbers};
 ghost use Rattle.panel_c.specs.Names.{ShowsName};
@@ -10,6 +11,8 @@ ghost use Rattle.panel_numbers.specs.Records.{WrittenRun, recordsWritten};
 ghost use Rattle.line_name_run.specs.Lists.{listsWritten};
 ghost use Rattle.panel_resolving.specs.Placements.{WrittenNumbers, placementsWritten};
 use coordinates::refusal::COUNT;
+use coordinates::refusal::SHORT;
+use line_name_run::LINE_NAME_RUN;
 use panel_numbers::CountAnswer;
 use panel_numbers::NameAnswer;
 use panel_numbers::PanelAnswer;
@@ -19,13 +22,12 @@ use panel_numbers::axis::axis_of;
 use panel_numbers::axis::entry_in_no_axis;
 use panel_numbers::numbers;
 use panel_numbers::part;
+use panel_resolving::run::PLACEMENT_RUN;
+use panel_stores::store::smaller;
 use panel_tables::Panel;
-use panel_tables::area::AREA_BYTES;
-use panel_tables::area::AREA_WORDS;
-use panel_tables::placement::PLACEMENT_BYTES;
-use panel_tables::placement::PLACEMENT_WORDS;
-use tables::layout::AXIS_MARKS;
-use tables::layout::AXIS_WORDS;
+use panel_tables::region::PANEL_BYTES;
+use panel_tables::region::PANEL_WORDS;
+use tables::layout::AXIS_BYTES;
 
 // The number of the rows, the last of an axis.
 const ROWS: u32 = 1;
@@ -34,32 +36,14 @@ const ROWS: u32 = 1;
 #[no_mangle]
 pub extern "C" fn palgwern_read_sheet(
     sheet: &[u8],
-    columns: &mut [u64; AXIS_WORDS],
-    rows: &mut [u64; AXIS_WORDS],
-    columnmarks: &mut [u8; AXIS_MARKS],
-    rowmarks: &mut [u8; AXIS_MARKS],
-    areas: &mut [u64; AREA_WORDS],
-    areabytes: &mut [u8; AREA_BYTES],
-    placements: &mut [u64; PLACEMENT_WORDS],
-    placementbytes: &mut [u8; PLACEMENT_BYTES],
+    words: &mut [u64; PANEL_WORDS],
+    bytes: &mut [u8; PANEL_BYTES],
     columnstore: &mut [u8],
     rowstore: &mut [u8],
 ) -> PanelAnswer
-    ensures { λ r. ⌜ record { answer = r; tables = inTables (now (columns .exit)) (now (rows .exit)) (now (columnmarks .exit)) (now (rowmarks .exit)) (now (areas .exit)) (now (areabytes .exit)) (now (placements .exit)) (now (placementbytes .exit)) (now (columnstore .exit)) (now (rowstore .exit)) } ≡ panelRead (readSheet (now (sheet .entry)) (inTables (now (columns .entry)) (now (rows .entry)) (now (columnmarks .entry)) (now (rowmarks .entry)) (now (areas .entry)) (now (areabytes .entry)) (now (placements .entry)) (now (placementbytes .entry)) (now (columnstore .entry)) (now (rowstore .entry)))) ⌝ }
+    ensures { λ r. ⌜ record { answer = r; tables = tablesIn (now (words .exit)) (now (bytes .exit)) (now (columnstore .exit)) (now (rowstore .exit)) } ≡ panelRead (readSheet (now (sheet .entry)) (tablesIn (now (words .entry)) (now (bytes .entry)) (now (columnstore .entry)) (now (rowstore .entry)))) ⌝ }
 {
-    let read = sheet::read_sheet(
-        sheet,
-        columns,
-        rows,
-        columnmarks,
-        rowmarks,
-        areas,
-        areabytes,
-        placements,
-        placementbytes,
-        columnstore,
-        rowstore,
-    );
+    let read = sheet::read_sheet(sheet, words, bytes, columnstore, rowstore);
     let refusal = read.refusal;
     let panel = read.panel;
     PanelAnswer {
@@ -73,15 +57,15 @@ pub extern "C" fn palgwern_read_sheet(
 #[no_mangle]
 pub extern "C" fn palgwern_enter_name(
     panel: Panel,
-    columns: &mut [u64; AXIS_WORDS],
-    rows: &mut [u64; AXIS_WORDS],
+    words: &mut [u64; PANEL_WORDS],
     columnstore: &mut [u8],
     rowstore: &mut [u8],
     axis: u32,
     line: u32,
     name: &[u8],
 ) -> PanelAnswer
-    ensures { λ r. ⌜ record { answer = r; tables = record { columns = now (columns .exit); rows = now (rows .exit); columnStore = now (columnstore .exit); rowStore = now (rowstore .exit) } } ≡ nameEntered panel (record { columns = now (columns .entry); rows = now (rows .entry); columnStore = now (columnstore .entry); rowStore = now (rowstore .entry) }) axis line (now (name .entry)) ⌝ }
+    ensures { λ r. ⌜ record { answer = r; tables = nameTablesIn (now (words .exit)) (now (columnstore .exit)) (now (rowstore .exit)) } ≡ nameEntered panel (nameTablesIn (now (words .entry)) (now (columnstore .entry)) (now (rowstore .entry))) axis line (now (name .entry)) ⌝ }
+    ensures others { λ _. ⌜ (areaWordsIn (now (words .exit)) ≡ areaWordsIn (now (words .entry))) × (placementWordsIn (now (words .exit)) ≡ placementWordsIn (now (words .entry))) ⌝ }
 {
     if ROWS < axis {
         let number = entry_in_no_axis(name);
@@ -93,8 +77,7 @@ pub extern "C" fn palgwern_enter_name(
     }
     let entered = panel_entry::entering::enter_name(
         panel,
-        columns,
-        rows,
+        words,
         columnstore,
         rowstore,
         axis_of(axis),
@@ -156,28 +139,20 @@ pub extern "C" fn palgwern_record_count(panel: Panel, axis: u32) -> CountAnswer
 #[no_mangle]
 pub extern "C" fn palgwern_resolve_placement(
     panel: Panel,
-    columns: &[u64; AXIS_WORDS],
-    rows: &[u64; AXIS_WORDS],
+    words: &[u64; PANEL_WORDS],
+    bytes: &[u8; PANEL_BYTES],
     columnstore: &[u8],
     rowstore: &[u8],
-    areas: &[u64; AREA_WORDS],
-    areabytes: &[u8; AREA_BYTES],
-    placements: &[u64; PLACEMENT_WORDS],
-    placementbytes: &[u8; PLACEMENT_BYTES],
     index: u32,
 ) -> PlacementNumbers
-    ensures { λ r. ⌜ r ≡ placementNumbers (resolvePlacement panel (record { columns = now (columns .entry); rows = now (rows .entry); columnStore = now (columnstore .entry); rowStore = now (rowstore .entry) }) (record { words = now (areas .entry); bytes = now (areabytes .entry) }) (record { words = now (placements .entry); bytes = now (placementbytes .entry) }) index) ⌝ }
+    ensures { λ r. ⌜ r ≡ placementNumbers (resolvePlacement panel (nameTablesIn (now (words .entry)) (now (columnstore .entry)) (now (rowstore .entry))) (areaTableIn (now (words .entry)) (now (bytes .entry))) (placementTableIn (now (words .entry)) (now (bytes .entry))) index) ⌝ }
 {
     let answer = panel_resolving::placing::resolve_placement(
         panel,
-        columns,
-        rows,
+        words,
+        bytes,
         columnstore,
         rowstore,
-        areas,
-        areabytes,
-        placements,
-        placementbytes,
         index,
     );
     numbers::placement_numbers(answer)
@@ -187,29 +162,21 @@ pub extern "C" fn palgwern_resolve_placement(
 #[no_mangle]
 pub extern "C" fn palgwern_resolve_placements(
     panel: Panel,
-    columns: &[u64; AXIS_WORDS],
-    rows: &[u64; AXIS_WORDS],
+    words: &[u64; PANEL_WORDS],
+    bytes: &[u8; PANEL_BYTES],
     columnstore: &[u8],
     rowstore: &[u8],
-    areas: &[u64; AREA_WORDS],
-    areabytes: &[u8; AREA_BYTES],
-    placements: &[u64; PLACEMENT_WORDS],
-    placementbytes: &[u8; PLACEMENT_BYTES],
     first: u32,
-    numbers: &mut [i32],
+    numbers: &mut [i32; PLACEMENT_RUN],
 ) -> CountAnswer
-    ensures { λ r. ⌜ record { answer = r; numbers = now (numbers .exit) } ≡ placementsWritten panel (record { columns = now (columns .entry); rows = now (rows .entry); columnStore = now (columnstore .entry); rowStore = now (rowstore .entry) }) (record { words = now (areas .entry); bytes = now (areabytes .entry) }) (record { words = now (placements .entry); bytes = now (placementbytes .entry) }) first (now (numbers .entry)) ⌝ }
+    ensures { λ r. ⌜ record { answer = r; numbers = now (numbers .exit) } ≡ placementsWritten panel (nameTablesIn (now (words .entry)) (now (columnstore .entry)) (now (rowstore .entry))) (areaTableIn (now (words .entry)) (now (bytes .entry))) (placementTableIn (now (words .entry)) (now (bytes .entry))) first (now (numbers .entry)) ⌝ }
 {
     panel_resolving::run::write_placements(
         panel,
-        columns,
-        rows,
+        words,
+        bytes,
         columnstore,
         rowstore,
-        areas,
-        areabytes,
-        placements,
-        placementbytes,
         first,
         numbers,
     )
@@ -219,15 +186,14 @@ pub extern "C" fn palgwern_resolve_placements(
 #[no_mangle]
 pub extern "C" fn palgwern_line_name(
     panel: Panel,
-    columns: &[u64; AXIS_WORDS],
-    rows: &[u64; AXIS_WORDS],
+    words: &[u64; PANEL_WORDS],
     columnstore: &[u8],
     rowstore: &[u8],
     axis: u32,
     line: u32,
     place: u32,
 ) -> NameAnswer
-    ensures { λ r. ⌜ ShowsName panel (record { columns = now (columns .entry); rows = now (rows .entry); columnStore = now (columnstore .entry); rowStore = now (rowstore .entry) }) axis line place r ⌝ }
+    ensures { λ r. ⌜ ShowsName panel (nameTablesIn (now (words .entry)) (now (columnstore .entry)) (now (rowstore .entry))) axis line place r ⌝ }
 {
     if ROWS < axis {
         return NameAnswer {
@@ -236,10 +202,16 @@ pub extern "C" fn palgwern_line_name(
             length: 0,
         };
     }
+    if smaller(columnstore.len(), rowstore.len()) < AXIS_BYTES {
+        return NameAnswer {
+            number: SHORT,
+            offset: 0,
+            length: 0,
+        };
+    }
     let entry = panel_naming::naming::line_entry(
         panel,
-        columns,
-        rows,
+        words,
         columnstore,
         rowstore,
         axis_of(axis),
@@ -255,44 +227,34 @@ pub extern "C" fn palgwern_line_name(
 #[no_mangle]
 pub extern "C" fn palgwern_line_names(
     panel: Panel,
-    columns: &[u64; AXIS_WORDS],
-    rows: &[u64; AXIS_WORDS],
+    words: &[u64; PANEL_WORDS],
     columnstore: &[u8],
     rowstore: &[u8],
     axis: u32,
-    words: &mut [u64],
+    names: &mut [u64; LINE_NAME_RUN],
 ) -> CountAnswer
-    ensures { λ r. ⌜ record { answer = r; words = now (words .exit) } ≡ listsWritten panel (record { columns = now (columns .entry); rows = now (rows .entry); columnStore = now (columnstore .entry); rowStore = now (rowstore .entry) }) axis (now (words .entry)) ⌝ }
+    ensures { λ r. ⌜ record { answer = r; words = now (names .exit) } ≡ listsWritten panel (nameTablesIn (now (words .entry)) (now (columnstore .entry)) (now (rowstore .entry))) axis (now (names .entry)) ⌝ }
 {
     if ROWS < axis {
         return numbers::uncounted(COUNT);
     }
-    line_name_run::write_lists(
-        panel,
-        columns,
-        rows,
-        columnstore,
-        rowstore,
-        axis_of(axis),
-        words,
-    )
+    line_name_run::write_lists(panel, words, columnstore, rowstore, axis_of(axis), names)
 }
 
 // Records of an axis from `first` on, as many as there are and fit: three words each, kind, minimum and maximum.
 #[no_mangle]
 pub extern "C" fn palgwern_records(
     panel: Panel,
-    columns: &[u64; AXIS_WORDS],
-    rows: &[u64; AXIS_WORDS],
+    words: &[u64; PANEL_WORDS],
     axis: u32,
     items: &[u8],
     first: u32,
-    words: &mut [u64],
+    records: &mut [u64],
 ) -> CountAnswer
-    ensures { λ r. ⌜ record { answer = r; words = now (words .exit) } ≡ recordsWritten panel (now (columns .entry)) (now (rows .entry)) axis (now (items .entry)) first (now (words .entry)) ⌝ }
+    ensures { λ r. ⌜ record { answer = r; words = now (records .exit) } ≡ recordsWritten panel (now (words .entry)) axis (now (items .entry)) first (now (records .entry)) ⌝ }
 {
     if ROWS < axis {
         return numbers::uncounted(COUNT);
     }
-    record_run::write_run(panel, columns, rows, axis_of(axis), items, first, words)
+    record_run::write_run(panel, words, axis_of(axis), items, first, records)
 }

@@ -1,9 +1,9 @@
 -- What an entry call answers and leaves, from what it computes. Assumes nothing.
-use Prim.Native.Nat.{ℕ, _+_, _-_, _≤_, min}
+use Prim.Native.Nat.{ℕ, _+_, _-_, _≤_, _<_, min}
 use native.Mathlib.Omega.{arith}
 use mathlib.Core.Path.{_≡_, refl, sym, ap, ap₂, _∙_}
 use mathlib.Core.List.{List}
-use lib.ListN.{length}
+use lib.ListN.{length, set}
 use lib.Seq.{sets}
 use borrow.Author.Tests.{le-ltb, eq-eqb, ne-eqb}
 use Rattle.coordinates.specs.declared.axis.Axis.{Axis}
@@ -12,12 +12,15 @@ use Rattle.coordinates.specs.declared.refusal.Refusal.{Refusal}
 use Rattle.coordinates.specs.Refusals.{noRefusal, refusalOf}
 use Rattle.name_store.specs.Enter.{entryRefusal}
 use Rattle.name_store.specs.LineNames.{ofAxis}
+use Rattle.name_store.specs.Entries.{wordOf}
 use Rattle.name_store.proofs.Accepted.{Accepted, accepted}
 use Rattle.tables.specs.declared.AxisState.{AxisState}
 use Rattle.tables.specs.Runs.{putBytes}
+use Rattle.tables.proofs.Regions.{set-inside, set-before, set-after}
 use Rattle.panel_tables.specs.declared.Panel.{Panel}
 use Rattle.panel_tables.specs.Axes.{stateIn, withState}
-use Rattle.panel_rules.specs.Calls.{NameTables, EnteredName, shorterStore, storeIn, wordsIn, enterRefusal, enterName}
+use Rattle.panel_tables.specs.Regions.{firstWord, axisWordsIn, areaWordsIn, placementWordsIn}
+use Rattle.panel_rules.specs.Calls.{nameTablesIn, enteredIn, NameTables, EnteredName, shorterStore, storeIn, wordsIn, enterRefusal, enterName}
 use Rattle.panel_entry.specs.Entered.{Roomy, EnteredAxis, enteredOn, enteredName}
 
 -- bytes that have room are written
@@ -25,21 +28,49 @@ pub bytes-put : (store : List ℕ) (at : ℕ) (name : List ℕ) → at + length 
 unfolding putBytes
 bytes-put store at name h = rw (le-ltb (length store) at (omega arith), le-ltb (length store - at) (length name) (omega arith))
 
--- the tables with what an axis has after an entry
-abbrev tablesWith : NameTables → Axis → EnteredAxis → NameTables
-tablesWith t Column e = record { columns = e .words; rows = t .rows; columnStore = e .store; rowStore = t .rowStore }
-tablesWith t Row e = record { columns = t .columns; rows = e .words; columnStore = t .columnStore; rowStore = e .store }
+-- tables with other words
+abbrev withWords : List ℕ → List ℕ → List ℕ → List ℕ → NameTables
+withWords columnStore rowStore columns rows = record { columns = columns; rows = rows; columnStore = columnStore; rowStore = rowStore }
 
-abbrev answerWith : Panel → NameTables → Axis → Refusal → EnteredAxis → EnteredName
-answerWith p t a x e = record { answer = record { refusal = x; panel = withState p a (e .state) }; tables = tablesWith t a e }
+-- one word of an axis is set: it is set in its words
+own-word : (words : List ℕ) (a : Axis) (i v : ℕ) → i < 12480 → axisWordsIn a (set words (firstWord a + i) v) ≡ set (axisWordsIn a words) i v
+unfolding axisWordsIn
+own-word words a i v h = set-inside words (firstWord a) 12480 v i h
+
+-- and the other axis's words are as they were
+other-words : (words : List ℕ) (a : Axis) (i v : ℕ) → i < 12480 → axisWordsIn (ofAxis a Row Column) (set words (firstWord a + i) v) ≡ axisWordsIn (ofAxis a Row Column) words
+unfolding axisWordsIn
+other-words words Column i v h = set-before words (firstWord Row) 12480 v (firstWord Column + i) (omega arith)
+other-words words Row i v h = set-after words (firstWord Column) 12480 v (firstWord Row + i) (omega arith)
+
+-- the view of the words after an entry is the view before it with the entry
+pub words-entered : (words columnStore rowStore : List ℕ) (a : Axis) (s : AxisState) (line : ℕ) (name : List ℕ) → s .entries < 4096 →
+    nameTablesIn (set words (firstWord a + (8384 + s .entries)) (wordOf line (s .used) (length name)))
+    (ofAxis a (sets columnStore (s .used) name) columnStore)
+    (ofAxis a rowStore (sets rowStore (s .used) name))
+    ≡ enteredIn (nameTablesIn words columnStore rowStore) a s line name
+words-entered words columnStore rowStore Column s line name h =
+    let v = wordOf line (s .used) (length name) in
+    ap₂ (withWords (sets columnStore (s .used) name) rowStore)
+    (own-word words Column (8384 + s .entries) v (omega arith)) (other-words words Column (8384 + s .entries) v (omega arith))
+words-entered words columnStore rowStore Row s line name h =
+    let v = wordOf line (s .used) (length name) in
+    ap₂ (withWords columnStore (sets rowStore (s .used) name))
+    (other-words words Row (8384 + s .entries) v (omega arith)) (own-word words Row (8384 + s .entries) v (omega arith))
+
+-- and the words of areas and placements are as they were
+others-stay : (words : List ℕ) (a : Axis) (i v : ℕ) → i < 12480 →
+    (areaWordsIn (set words (firstWord a + i) v) ≡ areaWordsIn words) × (placementWordsIn (set words (firstWord a + i) v) ≡ placementWordsIn words)
+unfolding areaWordsIn placementWordsIn
+others-stay words a i v h =
+    let below : firstWord a + i < 24960 = within a in
+    (set-before words 24960 128 v (firstWord a + i) below, set-before words 25088 512 v (firstWord a + i) (omega arith))
+  where
+    within : (b : Axis) → firstWord b + i < 24960
+    within Column = omega arith
+    within Row = omega arith
 
 module _ (p : Panel) (t : NameTables) (line : ℕ) (name : List ℕ) where
-  -- an entry written to one axis is an entry of the panel
-  pub entered : (a : Axis) (x : Refusal) (e : EnteredAxis) → x ≡ noRefusal → e ≡ enteredOn (stateIn p a) (wordsIn t a) (storeIn t a) line name →
-      answerWith p t a x e ≡ enteredName p t a line name
-  entered Column x e f g = ap₂ (answerWith p t Column) f g
-  entered Row x e f g = ap₂ (answerWith p t Row) f g
-
   module _ (a : Axis) where
     -- the number that the call computes
     pub refusal-is : (s : AxisState) (shorter number : ℕ) → s ≡ stateIn p a → shorter ≡ shorterStore t →
@@ -71,3 +102,17 @@ module _ (p : Panel) (t : NameTables) (line : ℕ) (name : List ℕ) where
 
         within : Accepted 4096 (shorterStore t) (stateIn p a .entries) (stateIn p a .used) line name → Roomy (stateIn p a) (length (storeIn t a)) name
         within k = record { short = k .short; few = k .few; fits = k .fits; wide = let h = longer a in omega (arith, h, k .wide) }
+
+-- an entry written to one axis
+module _ (words columnStore rowStore : List ℕ) (line : ℕ) (name : List ℕ) (e : EnteredAxis) where
+  -- is an entry of the panel
+  pub entered : (p : Panel) (a : Axis) (x : Refusal) → stateIn p a .entries < 4096 → x ≡ noRefusal → e ≡ enteredOn (stateIn p a) a words (ofAxis a columnStore rowStore) line name →
+      record { answer = record { refusal = x; panel = withState p a (e .state) }; tables = nameTablesIn (e .words) (ofAxis a (e .store) columnStore) (ofAxis a rowStore (e .store)) }
+      ≡ enteredName p (nameTablesIn words columnStore rowStore) a line name
+  entered p Column x h f g = rw (f, g, words-entered words columnStore rowStore Column (p .columns) line name h)
+  entered p Row x h f g = rw (f, g, words-entered words columnStore rowStore Row (p .rows) line name h)
+
+  -- and leaves the words of areas and placements as they were
+  pub others-entered : (s : AxisState) (a : Axis) (store : List ℕ) → s .entries < 4096 → e ≡ enteredOn s a words store line name →
+      (areaWordsIn (e .words) ≡ areaWordsIn words) × (placementWordsIn (e .words) ≡ placementWordsIn words)
+  others-entered s a store h g = rw g (others-stay words a (8384 + s .entries) (wordOf line (s .used) (length name)) (omega arith))

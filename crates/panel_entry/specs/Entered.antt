@@ -9,6 +9,7 @@ use Rattle.name_store.specs.Entries.{wordOf}
 use Rattle.tables.specs.declared.AxisState.{AxisState}
 use Rattle.panel_tables.specs.declared.Panel.{Panel}
 use Rattle.panel_tables.specs.Axes.{stateIn, withState}
+use Rattle.panel_tables.specs.Regions.{firstWord}
 use Rattle.panel_rules.specs.Calls.{NameTables, EnteredName, withEntry, enteredIn}
 
 -- there is room for the entry and for the bytes of its name, in a store of that length
@@ -18,18 +19,18 @@ pub record Roomy (s : AxisState) (store : ℕ) (name : List ℕ) : Type 0 where
   pub fits : s .used + length name ≤ 32768
   pub wide : 32768 ≤ store
 
--- an axis's state, words and store
+-- an axis's state, the words of the panel and the axis's store
 pub record EnteredAxis : Type 0 where
   pub state : AxisState
   pub words : List ℕ
   pub store : List ℕ
 
 -- with the entry
-abbrev pub enteredOn : AxisState → List ℕ → List ℕ → ℕ → List ℕ → EnteredAxis
-enteredOn s words store line name =
+abbrev pub enteredOn : AxisState → Axis → List ℕ → List ℕ → ℕ → List ℕ → EnteredAxis
+enteredOn s a words store line name =
     record {
       state = withEntry s (length name);
-      words = set words (8384 + s .entries) (wordOf line (s .used) (length name));
+      words = set words (firstWord a + (8384 + s .entries)) (wordOf line (s .used) (length name));
       store = sets store (s .used) name;
     }
 

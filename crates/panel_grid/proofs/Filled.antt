@@ -6,7 +6,6 @@ use lib.ListN.{length}
 use Rattle.coordinates.specs.declared.axis.Axis.{Axis}
 use Rattle.sizing.specs.declared.MinMax.{MinMax}
 use Rattle.explicit_grid.specs.Template.{Component, templateOf}
-use Rattle.name_store.specs.LineNames.{ofAxis}
 use Rattle.grid_track.specs.declared.GridTrack.{GridTrack}
 use Rattle.grid_track.specs.declared.AxisTracks.{AxisTracks}
 use Rattle.grid_track.specs.Written.{sparesOf}
@@ -16,6 +15,7 @@ use Rattle.tables.specs.declared.AxisState.{AxisState}
 use Rattle.tables.specs.Runs.{partOf}
 use Rattle.panel_tables.specs.declared.Panel.{Panel}
 use Rattle.panel_tables.specs.Axes.{stateIn}
+use Rattle.panel_tables.specs.Regions.{axisWordsIn}
 use Rattle.panel_rules.specs.Calls.{axisTracks, templateIn, sparesIn}
 
 -- three parts make the template, two the spare sizes
@@ -25,13 +25,13 @@ template-of s w a b c ea eb ec = rw (ea, eb, ec)
 spares-of : (s : AxisState) (w a b : List ℕ) → a ≡ partOf w 4160 (s .spares) → b ≡ partOf w 4224 (s .spares) → sparesOf a b ≡ sparesIn s w
 spares-of s w a b ea eb = rw (ea, eb)
 
-module _ (p : Panel) (x : Axis) (columns rows items : List ℕ) (run : List GridTrack) where
-  pub run-of : (s : AxisState) (w : List ℕ) → s ≡ stateIn p x → w ≡ ofAxis x columns rows → (a b c d e : List ℕ) →
+module _ (p : Panel) (x : Axis) (words items : List ℕ) (run : List GridTrack) where
+  pub run-of : (s : AxisState) (w : List ℕ) → s ≡ stateIn p x → w ≡ axisWordsIn x words → (a b c d e : List ℕ) →
       a ≡ partOf w 0 (s .components) → b ≡ partOf w 64 (s .tracks) → c ≡ partOf w 2112 (s .tracks) → d ≡ partOf w 4160 (s .spares) → e ≡ partOf w 4224 (s .spares) →
       (t : AxisTracks) → t ≡ axisTracks s → (u : FillAnswer) (after : List GridTrack) →
       u ≡ fillAnswerOf t (length run) (length items) → after ≡ runAfter t (templateOf a b c) (sparesOf d e) items run →
       (u ≡ fillAnswerOf (axisTracks (stateIn p x)) (length run) (length items))
-      × (after ≡ runAfter (axisTracks (stateIn p x)) (templateIn (stateIn p x) (ofAxis x columns rows)) (sparesIn (stateIn p x) (ofAxis x columns rows)) items run)
+      × (after ≡ runAfter (axisTracks (stateIn p x)) (templateIn (stateIn p x) (axisWordsIn x words)) (sparesIn (stateIn p x) (axisWordsIn x words)) items run)
   run-of s w es ew a b c d e ea eb ec ed ee t et u after eu er = (
     eu ∙ ap (λ (y : AxisTracks). fillAnswerOf y (length run) (length items)) (et ∙ ap axisTracks es),
     er ∙ ap (λ (y : AxisTracks). runAfter y (templateOf a b c) (sparesOf d e) items run) et

@@ -1,29 +1,12 @@
-// The words of an axis and their parts.
+// The parts of the words of an axis.
 ghost use mathlib.Core.Path.{_≡_};
-ghost use Rattle.name_store.specs.LineNames.{ofAxis};
 ghost use Rattle.tables.specs.Runs.{partOf};
-use coordinates::Axis;
 use tables::AxisState;
-use tables::layout::AXIS_WORDS;
 use tables::layout::MAXIMUMS;
 use tables::layout::MINIMUMS;
 use tables::layout::SPARE_MAXIMUMS;
 use tables::layout::SPARE_MINIMUMS;
 use tables::layout::words_part;
-
-// Of the columns' and the rows' words, those of an axis.
-pub fn words_in<'a>(
-    columns: &'a [u64; AXIS_WORDS],
-    rows: &'a [u64; AXIS_WORDS],
-    axis: Axis,
-) -> &'a [u64]
-    ensures { λ r. ⌜ now r ≡ ofAxis axis (now (columns .entry)) (now (rows .entry)) ⌝ }
-{
-    match axis {
-        Axis::Column => columns,
-        Axis::Row => rows,
-    }
-}
 
 // The components.
 pub fn components_of(state: AxisState, words: &[u64]) -> &[u64]

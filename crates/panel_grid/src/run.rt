@@ -1,8 +1,8 @@
 // The records of an axis of a panel, written into a lent run.
 ghost use mathlib.Core.Path.{_≡_};
 ghost use lib.ListN.{length};
-ghost use Rattle.name_store.specs.LineNames.{ofAxis};
 ghost use Rattle.panel_tables.specs.Axes.{stateIn};
+ghost use Rattle.panel_tables.specs.Regions.{axisWordsIn};
 ghost use Rattle.track_run.specs.Run.{fillAnswerOf, runAfter};
 ghost use Rattle.panel_rules.specs.Calls.{axisTracks, templateIn, sparesIn};
 use crate::axis_track::axis_tracks;
@@ -11,34 +11,33 @@ use crate::part::maximums_of;
 use crate::part::minimums_of;
 use crate::part::spare_maximums_of;
 use crate::part::spare_minimums_of;
-use crate::part::words_in;
 use coordinates::Axis;
 use grid_track::GridTrack;
 use panel_tables::Panel;
 use panel_tables::axis::state_in;
-use tables::layout::AXIS_WORDS;
+use panel_tables::region::PANEL_WORDS;
+use panel_tables::region::axis_words;
 use track_run::FillAnswer;
 
 // Writes the records of an axis into a lent run, 2N + 1 of them. Refuses fewer records, and fewer than N item bytes, by 10, and
 // writes nothing then.
-pub fn initialize_grid_tracks<'a>(
+pub fn initialize_grid_tracks(
     panel: Panel,
-    columns: &'a [u64; AXIS_WORDS],
-    rows: &'a [u64; AXIS_WORDS],
+    words: &[u64; PANEL_WORDS],
     axis: Axis,
     items: &[u8],
     records: &mut [GridTrack],
 ) -> FillAnswer
     ensures { λ r. ⌜ (r ≡ fillAnswerOf (axisTracks (stateIn panel axis)) (length (now (records .entry))) (length (now (items .entry))))
-        × (now (records .exit) ≡ runAfter (axisTracks (stateIn panel axis)) (templateIn (stateIn panel axis) (ofAxis axis (now (columns .entry)) (now (rows .entry)))) (sparesIn (stateIn panel axis) (ofAxis axis (now (columns .entry)) (now (rows .entry)))) (now (items .entry)) (now (records .entry))) ⌝ }
+        × (now (records .exit) ≡ runAfter (axisTracks (stateIn panel axis)) (templateIn (stateIn panel axis) (axisWordsIn axis (now (words .entry)))) (sparesIn (stateIn panel axis) (axisWordsIn axis (now (words .entry)))) (now (items .entry)) (now (records .entry))) ⌝ }
 {
     let state = state_in(panel, axis);
-    let words = words_in(columns, rows, axis);
-    let components = components_of(state, words);
-    let minimums = minimums_of(state, words);
-    let maximums = maximums_of(state, words);
-    let spareminimums = spare_minimums_of(state, words);
-    let sparemaximums = spare_maximums_of(state, words);
+    let own = axis_words(words, axis);
+    let components = components_of(state, own);
+    let minimums = minimums_of(state, own);
+    let maximums = maximums_of(state, own);
+    let spareminimums = spare_minimums_of(state, own);
+    let sparemaximums = spare_maximums_of(state, own);
     let tracks = axis_tracks(state);
     track_run::initialize_grid_tracks(
         records,

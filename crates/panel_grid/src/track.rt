@@ -1,8 +1,8 @@
 // The track records of an axis of a panel, one at a time.
 ghost use mathlib.Core.Path.{_≡_};
-ghost use Rattle.name_store.specs.LineNames.{ofAxis};
 ghost use Rattle.grid_track.specs.Records.{recordsIn};
 ghost use Rattle.panel_tables.specs.Axes.{stateIn};
+ghost use Rattle.panel_tables.specs.Regions.{axisWordsIn};
 ghost use Rattle.panel_rules.specs.Calls.{axisTracks, trackRecord};
 ghost use Rattle.panel_grid.specs.Carried.{carriedTo, carriedRecord, carriedOn};
 use crate::axis_track;
@@ -12,7 +12,8 @@ use grid_track::RecordAnswer;
 use grid_track::TrackWalk;
 use panel_tables::Panel;
 use panel_tables::axis::state_in;
-use tables::layout::AXIS_WORDS;
+use panel_tables::region::PANEL_WORDS;
+use panel_tables::region::axis_words;
 
 // How many records an axis has: 2N + 1.
 pub fn record_count(panel: Panel, axis: Axis) -> u32
@@ -24,67 +25,52 @@ pub fn record_count(panel: Panel, axis: Axis) -> u32
 // Record `index` of an axis. Refuses an index of 2N + 1 or more by 4, and fewer than N item bytes by 10.
 pub fn track_record(
     panel: Panel,
-    columns: &[u64; AXIS_WORDS],
-    rows: &[u64; AXIS_WORDS],
+    words: &[u64; PANEL_WORDS],
     axis: Axis,
     items: &[u8],
     index: u32,
 ) -> RecordAnswer
-    ensures { λ r. ⌜ r ≡ trackRecord (stateIn panel axis) (ofAxis axis (now (columns .entry)) (now (rows .entry))) (now (items .entry)) index ⌝ }
+    ensures { λ r. ⌜ r ≡ trackRecord (stateIn panel axis) (axisWordsIn axis (now (words .entry))) (now (items .entry)) index ⌝ }
 {
-    match axis {
-        Axis::Column => axis_track::record_on(panel.columns, columns, items, index),
-        Axis::Row => axis_track::record_on(panel.rows, rows, items, index),
-    }
+    axis_track::record_on(state_in(panel, axis), axis_words(words, axis), items, index)
 }
 
 // What is carried to record 0 of an axis.
-pub fn first_record(
-    panel: Panel,
-    columns: &[u64; AXIS_WORDS],
-    rows: &[u64; AXIS_WORDS],
-    axis: Axis,
-    items: &[u8],
-) -> TrackWalk
-    ensures { λ r. ⌜ r ≡ carriedTo (stateIn panel axis) (ofAxis axis (now (columns .entry)) (now (rows .entry))) (now (items .entry)) 0 ⌝ }
+pub fn first_record(panel: Panel, words: &[u64; PANEL_WORDS], axis: Axis, items: &[u8]) -> TrackWalk
+    ensures { λ r. ⌜ r ≡ carriedTo (stateIn panel axis) (axisWordsIn axis (now (words .entry))) (now (items .entry)) 0 ⌝ }
 {
-    match axis {
-        Axis::Column => axis_track::first_on(panel.columns, columns, items),
-        Axis::Row => axis_track::first_on(panel.rows, rows, items),
-    }
+    axis_track::first_on(state_in(panel, axis), axis_words(words, axis), items)
 }
 
 // Record `index` of an axis, by what is carried to it.
 pub fn record_in(
     panel: Panel,
-    columns: &[u64; AXIS_WORDS],
-    rows: &[u64; AXIS_WORDS],
+    words: &[u64; PANEL_WORDS],
     axis: Axis,
     items: &[u8],
     at: TrackWalk,
     index: usize,
 ) -> GridTrack
-    ensures { λ r. ⌜ r ≡ carriedRecord (stateIn panel axis) (ofAxis axis (now (columns .entry)) (now (rows .entry))) (now (items .entry)) at index ⌝ }
+    ensures { λ r. ⌜ r ≡ carriedRecord (stateIn panel axis) (axisWordsIn axis (now (words .entry))) (now (items .entry)) at index ⌝ }
 {
-    match axis {
-        Axis::Column => axis_track::carried_on(panel.columns, columns, items, at, index),
-        Axis::Row => axis_track::carried_on(panel.rows, rows, items, at, index),
-    }
+    axis_track::carried_on(
+        state_in(panel, axis),
+        axis_words(words, axis),
+        items,
+        at,
+        index,
+    )
 }
 
 // What is carried on from record `index` of an axis.
 pub fn next_record(
     panel: Panel,
-    columns: &[u64; AXIS_WORDS],
-    rows: &[u64; AXIS_WORDS],
+    words: &[u64; PANEL_WORDS],
     axis: Axis,
     at: TrackWalk,
     index: usize,
 ) -> TrackWalk
-    ensures { λ r. ⌜ r ≡ carriedOn (stateIn panel axis) (ofAxis axis (now (columns .entry)) (now (rows .entry))) at index ⌝ }
+    ensures { λ r. ⌜ r ≡ carriedOn (stateIn panel axis) (axisWordsIn axis (now (words .entry))) at index ⌝ }
 {
-    match axis {
-        Axis::Column => axis_track::next_on(panel.columns, columns, at, index),
-        Axis::Row => axis_track::next_on(panel.rows, rows, at, index),
-    }
+    axis_track::next_on(state_in(panel, axis), axis_words(words, axis), at, index)
 }

@@ -2,7 +2,7 @@
 ghost use mathlib.Core.Path.{_≡_};
 ghost use lib.ListN.{getD};
 ghost use Rattle.name_store.specs.LineEntries.{noEntry, explicitLineEntries};
-ghost use Rattle.panel_rules.specs.Calls.{NameTables, entryWordsIn, lineNameIn};
+ghost use Rattle.panel_rules.specs.Calls.{NameTables, entryWordsIn, lineNameIn, nameTablesIn};
 ghost use Rattle.panel_naming.specs.LineEntries.{lineEntryIn};
 use coordinates::Axis;
 use name_store::NameEntry;
@@ -10,17 +10,12 @@ use name_store::entry::name_in;
 use panel_stores::store::entries_of;
 use panel_stores::store::smaller;
 use panel_tables::Panel;
+use panel_tables::region::PANEL_WORDS;
+use panel_tables::region::axis_words;
 use tables::AxisState;
-use tables::layout::AXIS_WORDS;
 
 // The entry that shows a name of a line of one axis, by its place from 0.
-fn entry_on(
-    state: AxisState,
-    words: &[u64; AXIS_WORDS],
-    store: &[u8],
-    line: u32,
-    place: u32,
-) -> NameEntry
+fn entry_on(state: AxisState, words: &[u64], store: &[u8], line: u32, place: u32) -> NameEntry
     ensures { λ r. ⌜ r ≡ getD (explicitLineEntries (state .explicit) (entryWordsIn state (now (words .entry))) (now (store .entry)) line) place noEntry ⌝ }
 {
     name_store::line_names::line_entry(entries_of(state, words), store, state.explicit, line, place)
@@ -30,22 +25,27 @@ fn entry_on(
 // store is below 32,768 bytes.
 pub fn line_entry(
     panel: Panel,
-    columns: &[u64; AXIS_WORDS],
-    rows: &[u64; AXIS_WORDS],
+    words: &[u64; PANEL_WORDS],
     columnstore: &[u8],
     rowstore: &[u8],
     axis: Axis,
     line: u32,
     place: u32,
 ) -> NameEntry
-    ensures { λ r. ⌜ r ≡ lineEntryIn panel (record { columns = now (columns .entry); rows = now (rows .entry); columnStore = now (columnstore .entry); rowStore = now (rowstore .entry) }) axis line place ⌝ }
+    ensures { λ r. ⌜ r ≡ lineEntryIn panel (nameTablesIn (now (words .entry)) (now (columnstore .entry)) (now (rowstore .entry))) axis line place ⌝ }
 {
     if smaller(columnstore.len(), rowstore.len()) < 32768 {
         return name_store::line_names::no_entry();
     }
     match axis {
-        Axis::Column => entry_on(panel.columns, columns, columnstore, line, place),
-        Axis::Row => entry_on(panel.rows, rows, rowstore, line, place),
+        Axis::Column => {
+            let columns = axis_words(words, Axis::Column);
+            entry_on(panel.columns, columns, columnstore, line, place)
+        }
+        Axis::Row => {
+            let rows = axis_words(words, Axis::Row);
+            entry_on(panel.rows, rows, rowstore, line, place)
+        }
     }
 }
 
@@ -53,26 +53,16 @@ pub fn line_entry(
 // and place hold none, or a store is below 32,768 bytes.
 pub fn line_name<'a>(
     panel: Panel,
-    columns: &[u64; AXIS_WORDS],
-    rows: &[u64; AXIS_WORDS],
+    words: &[u64; PANEL_WORDS],
     columnstore: &'a [u8],
     rowstore: &'a [u8],
     axis: Axis,
     line: u32,
     place: u32,
 ) -> &'a [u8]
-    ensures { λ r. ⌜ now r ≡ lineNameIn panel (record { columns = now (columns .entry); rows = now (rows .entry); columnStore = now (columnstore .entry); rowStore = now (rowstore .entry) }) axis line place ⌝ }
+    ensures { λ r. ⌜ now r ≡ lineNameIn panel (nameTablesIn (now (words .entry)) (now (columnstore .entry)) (now (rowstore .entry))) axis line place ⌝ }
 {
-    let entry = line_entry(
-        panel,
-        columns,
-        rows,
-        columnstore,
-        rowstore,
-        axis,
-        line,
-        place,
-    );
+    let entry = line_entry(panel, words, columnstore, rowstore, axis, line, place);
     match axis {
         Axis::Column => name_in(columnstore, entry),
         Axis::Row => name_in(rowstore, entry),

@@ -8,7 +8,6 @@ use lib.Seq.{sets}
 use Rattle.coordinates.specs.Refusals.{count, short}
 use Rattle.sizing.specs.declared.Sizing.{Sizing}
 use Rattle.sizing.specs.Words.{sizeWordOf, kindOf, bitsOf}
-use Rattle.name_store.specs.LineNames.{ofAxis}
 use Rattle.grid_track.specs.declared.GridTrack.{GridTrack}
 use Rattle.grid_track.specs.declared.GridTrackKind.{GridTrackKind}
 use Rattle.grid_track.specs.declared.GridTrackKind.the-variants.{Track, Gutter}
@@ -16,6 +15,7 @@ use Rattle.grid_track.specs.Records.{tracksIn, recordsIn}
 use Rattle.tables.specs.declared.AxisState.{AxisState}
 use Rattle.panel_tables.specs.declared.Panel.{Panel}
 use Rattle.panel_tables.specs.Axes.{stateIn}
+use Rattle.panel_tables.specs.Regions.{axisWordsIn}
 use Rattle.panel_tables.specs.Placements.{axisOf}
 use Rattle.panel_rules.specs.Calls.{axisTracks, trackRecord}
 use Rattle.panel_numbers.specs.declared.CountAnswer.{CountAnswer}
@@ -71,7 +71,7 @@ writtenRun s words items first lent =
     (record { answer = uncounted (runRefusal s (length items) (length lent) first); words = lent })
 
 -- of an axis by its number
-unfoldable pub recordsWritten : Panel → List ℕ → List ℕ → ℕ → List ℕ → ℕ → List ℕ → WrittenRun
-recordsWritten p columns rows axis items first lent =
-    cond (isAxis axis) (writtenRun (stateIn p (axisOf axis)) (ofAxis (axisOf axis) columns rows) items first lent)
+unfoldable pub recordsWritten : Panel → List ℕ → ℕ → List ℕ → ℕ → List ℕ → WrittenRun
+recordsWritten p words axis items first lent =
+    cond (isAxis axis) (writtenRun (stateIn p (axisOf axis)) (axisWordsIn (axisOf axis) words) items first lent)
     (record { answer = uncounted count; words = lent })

@@ -6,14 +6,13 @@ ghost use Rattle.panel_tables.specs.Areas.{edgesWord, InAreas, raisedTo, putAre
 use panel_tables::AreaEdges;
 use panel_tables::Panel;
 use panel_tables::PanelPut;
-use panel_tables::area::AREA_BYTES;
 use panel_tables::area::AREA_NAMES;
-use panel_tables::area::AREA_WORDS;
 use panel_tables::state::put;
 use tables::AxisState;
 use tables::layout::name_word;
 use tables::name::no_room;
 use tables::name::put_bytes;
+use tables::write::set_word;
 
 // Whether an edge is outside 1 to 10,001.
 fn edge_outside(edge: u32) -> bool
@@ -84,8 +83,8 @@ fn raised_to(state: AxisState, end: u32) -> AxisState
 // An area. 4: an edge outside 1 to 10,001; 8: a 65th area, or its name has no room.
 pub fn put_area(
     panel: Panel,
-    words: &mut [u64; AREA_WORDS],
-    bytes: &mut [u8; AREA_BYTES],
+    words: &mut [u64],
+    bytes: &mut [u8],
     name: &[u8],
     edges: AreaEdges,
 ) -> PanelPut
@@ -100,8 +99,10 @@ pub fn put_area(
     if no_room(64, 2048, areas, used, length) {
         return put(8, panel);
     }
-    words[areas as usize] = edges_word(edges);
-    words[AREA_NAMES + areas as usize] = name_word(0, 0, used, length as u64);
+    let edgesword = edges_word(edges);
+    let nameword = name_word(0, 0, used, length as u64);
+    set_word(words, areas as usize, edgesword);
+    set_word(words, AREA_NAMES + areas as usize, nameword);
     put_bytes(bytes, used as usize, name);
     let columns = panel.columns;
     let rows = panel.rows;

@@ -9,11 +9,10 @@ use panel_tables::PanelPut;
 use panel_tables::PlacementEnd;
 use panel_tables::number::count_of;
 use panel_tables::number::number_outside;
-use panel_tables::placement::PLACEMENT_BYTES;
-use panel_tables::placement::PLACEMENT_WORDS;
 use panel_tables::state::put;
 use tables::name::no_room;
 use tables::name::put_bytes;
+use tables::write::set_word;
 
 // Whether an end has no kind, or a number outside its range.
 fn end_outside(end: PlacementEnd) -> bool
@@ -81,8 +80,8 @@ fn placement_fault(
 // A placement. 4: a kind or a number outside its range; 8: a 257th placement, or its names have no room.
 pub fn put_placement(
     panel: Panel,
-    words: &mut [u64; PLACEMENT_WORDS],
-    bytes: &mut [u8; PLACEMENT_BYTES],
+    words: &mut [u64],
+    bytes: &mut [u8],
     axis: Axis,
     start: PlacementEnd,
     first: &[u8],
@@ -99,8 +98,10 @@ pub fn put_placement(
     let at = placements as usize;
     let used = panel.placementbytes;
     let then = used + first.len() as u32;
-    words[at + at] = end_word(axis_number(axis), start, used, first.len() as u64);
-    words[at + at + 1] = end_word(0, end, then, last.len() as u64);
+    let startword = end_word(axis_number(axis), start, used, first.len() as u64);
+    let endword = end_word(0, end, then, last.len() as u64);
+    set_word(words, at + at, startword);
+    set_word(words, at + at + 1, endword);
     put_bytes(bytes, used as usize, first);
     put_bytes(bytes, then as usize, last);
     let mut after = panel;

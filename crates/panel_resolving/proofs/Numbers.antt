@@ -1,7 +1,7 @@
 -- Resolved placements as numbers: they are small, six for each, and how many are written. Assumes nothing.
-use Prim.Native.Nat.{ℕ, suc, _+_, _*_, _-_, _/_, _≤_, _<_, min}
+use Prim.Native.Nat.{ℕ, suc, _+_, _*_, _-_, _≤_, _<_, min}
 use mathlib.Core.Path.{_≡_, refl, sym, ap, _∙_}
-use mathlib.Core.Bool.{Bool, true, false, cond, _||_}
+use mathlib.Core.Bool.{Bool, true, false, cond}
 use mathlib.Core.List.{List, _++_}
 use native.Mathlib.Nat.{add-zero, sub-zero}
 use native.Mathlib.Numerals.{add-one, add-two}
@@ -9,7 +9,7 @@ use native.Mathlib.Omega.{arith}
 use borrow.Author.Tests.{eq-eqb, ne-eqb, leb-false, ltb-false}
 use lib.Dec.{eqb, leb, ltb}
 use lib.IntN.{ℤ, pos}
-use lib.ListN.{length, set}
+use lib.ListN.{set}
 use lib.Seq.{sets}
 use Rattle.coordinates.specs.declared.axis.Axis.{Axis}
 use Rattle.coordinates.specs.declared.axis.Axis.the-variants.{Column, Row}
@@ -84,37 +84,42 @@ put-on l place n rest = let e : place + 6 ≡ suc (suc (suc (suc (suc (suc place
 -- ---- a run as a whole
 
 -- one that is not refused starts at a placement that is held
-pub unrefused : (held shorter lent first : ℕ) → numbersRefusal held shorter lent first ≡ 0 → first < held
+pub unrefused : (held shorter first : ℕ) → numbersRefusal held shorter first ≡ 0 → first < held
 unfolding numbersRefusal
-unrefused held shorter lent first = go (leb held first) (ltb shorter 32768 || ltb lent 6) refl
+unrefused held shorter first = go (leb held first) (ltb shorter 32768) refl
   where
     go : (a b : Bool) → leb held first ≡ a → cond a count (cond b short 0) ≡ 0 → first < held
     go true b e z = absurd (omega (arith, z))
     go false b e z = leb-false held first e
 
 -- with stores that are long enough
-pub long-stores : (held shorter lent first : ℕ) → numbersRefusal held shorter lent first ≡ 0 → 32768 ≤ shorter
+pub long-stores : (held shorter first : ℕ) → numbersRefusal held shorter first ≡ 0 → 32768 ≤ shorter
 unfolding numbersRefusal
-long-stores held shorter lent first = go (leb held first) (ltb shorter 32768) (ltb lent 6) refl
+long-stores held shorter first = go (leb held first) (ltb shorter 32768) refl
   where
-    go : (a b d : Bool) → ltb shorter 32768 ≡ b → cond a count (cond (b || d) short 0) ≡ 0 → 32768 ≤ shorter
-    go true b d e z = absurd (omega (arith, z))
-    go false true d e z = absurd (omega (arith, z))
-    go false false d e z = ltb-false shorter 32768 e
+    go : (a b : Bool) → ltb shorter 32768 ≡ b → cond a count (cond b short 0) ≡ 0 → 32768 ≤ shorter
+    go true b e z = absurd (omega (arith, z))
+    go false true e z = absurd (omega (arith, z))
+    go false false e z = ltb-false shorter 32768 e
 
 -- no more are written than are held
-pub few-written : (held lent first n : ℕ) → first < held → n ≡ numbersCount held lent first → first + n ≤ held
+pub few-written : (held first n : ℕ) → first < held → n ≡ numbersCount held first → first + n ≤ held
 unfolding numbersCount
-few-written held lent first n h e = omega (arith, e)
+few-written held first n h e = omega (arith, e)
+
+-- and of the 256 that a panel holds at most, all
+pub all-written : (held first : ℕ) → held ≤ 256 → numbersCount held first ≡ held - first
+unfolding numbersCount
+all-written held first h = omega arith
 
 module _ (p : Panel) (t : NameTables) (areas placements : NamedWords) (first : ℕ) (lent : List ℤ) where
-  pub run-refused : (number : ℕ) (answer : CountAnswer) → number ≡ numbersRefusal (p .placements) (shorterStore t) (length lent) first → (number ≡ 0 → ⊥) →
+  pub run-refused : (number : ℕ) (answer : CountAnswer) → number ≡ numbersRefusal (p .placements) (shorterStore t) first → (number ≡ 0 → ⊥) →
       answer ≡ uncounted number → record { answer = answer; numbers = lent } ≡ placementsWritten p t areas placements first lent
   unfolding placementsWritten
   run-refused number answer e out a = rw (← e, ne-eqb number 0 out, a)
 
-  pub run-written : (n : ℕ) (answer : CountAnswer) (after : List ℤ) → numbersRefusal (p .placements) (shorterStore t) (length lent) first ≡ 0 →
-      n ≡ numbersCount (p .placements) (length lent) first → answer ≡ counted n → after ≡ sets lent 0 (runNumbers p t areas placements first n) →
+  pub run-written : (n : ℕ) (answer : CountAnswer) (after : List ℤ) → numbersRefusal (p .placements) (shorterStore t) first ≡ 0 →
+      n ≡ numbersCount (p .placements) first → answer ≡ counted n → after ≡ sets lent 0 (runNumbers p t areas placements first n) →
       record { answer = answer; numbers = after } ≡ placementsWritten p t areas placements first lent
   unfolding placementsWritten
-  run-written n answer after z e a w = rw (eq-eqb (numbersRefusal (p .placements) (shorterStore t) (length lent) first) 0 z, a, w, e)
+  run-written n answer after z e a w = rw (eq-eqb (numbersRefusal (p .placements) (shorterStore t) first) 0 z, a, w, e)

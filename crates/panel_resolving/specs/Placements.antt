@@ -1,10 +1,9 @@
 -- Resolved placements as numbers, six each, a run of them at a time.
-use Prim.Native.Nat.{ℕ, zero, suc, _+_, _-_, _/_, _<_, min}
-use mathlib.Core.Bool.{cond, _||_}
+use Prim.Native.Nat.{ℕ, zero, suc, _+_, _-_, _<_, min}
+use mathlib.Core.Bool.{cond}
 use mathlib.Core.List.{List, [], _∷_, _++_}
 use lib.Dec.{eqb, leb, ltb}
 use lib.IntN.{ℤ, pos}
-use lib.ListN.{length}
 use lib.Seq.{sets}
 use Rattle.coordinates.specs.Refusals.{count, short}
 use Rattle.panel_tables.specs.declared.Panel.{Panel}
@@ -35,13 +34,13 @@ runNumbers p t areas placements first zero = []
 runNumbers p t areas placements first (suc n) =
     numbersOf (placementNumbers (resolvePlacement p t areas placements first)) ++ runNumbers p t areas placements (first + 1) n
 
--- 4 for a first placement that isn't held; then 10 for a store below 32,768 bytes, or numbers for no placement
-unfoldable pub numbersRefusal : ℕ → ℕ → ℕ → ℕ → ℕ
-numbersRefusal held shorter lent first = cond (leb held first) count (cond (ltb shorter 32768 || ltb lent 6) short 0)
+-- 4 for a first placement that isn't held; then 10 for a store below 32,768 bytes
+unfoldable pub numbersRefusal : ℕ → ℕ → ℕ → ℕ
+numbersRefusal held shorter first = cond (leb held first) count (cond (ltb shorter 32768) short 0)
 
--- how many placements are written: as many as there are, and as fit
-unfoldable pub numbersCount : ℕ → ℕ → ℕ → ℕ
-numbersCount held lent first = min (lent / 6) (held - first)
+-- how many placements are written: as many as there are, and as fit in the 1,536 numbers that are lent
+unfoldable pub numbersCount : ℕ → ℕ → ℕ
+numbersCount held first = min 256 (held - first)
 
 -- the answer, and what the lent numbers hold
 pub record WrittenNumbers : Type 0 where
@@ -50,9 +49,9 @@ pub record WrittenNumbers : Type 0 where
 
 unfoldable pub placementsWritten : Panel → NameTables → NamedWords → NamedWords → ℕ → List ℤ → WrittenNumbers
 placementsWritten p t areas placements first lent =
-    cond (eqb (numbersRefusal (p .placements) (shorterStore t) (length lent) first) 0)
+    cond (eqb (numbersRefusal (p .placements) (shorterStore t) first) 0)
     (record {
-      answer = counted (numbersCount (p .placements) (length lent) first);
-      numbers = sets lent 0 (runNumbers p t areas placements first (numbersCount (p .placements) (length lent) first));
+      answer = counted (numbersCount (p .placements) first);
+      numbers = sets lent 0 (runNumbers p t areas placements first (numbersCount (p .placements) first));
     })
-    (record { answer = uncounted (numbersRefusal (p .placements) (shorterStore t) (length lent) first); numbers = lent })
+    (record { answer = uncounted (numbersRefusal (p .placements) (shorterStore t) first); numbers = lent })

@@ -4,6 +4,7 @@ ghost use Rattle.line_search.specs.Suffixes.{stemOf};
 ghost use Rattle.name_groups.specs.Groups.{Lists};
 ghost use Rattle.named.specs.Placements.{nameOf};
 ghost use Rattle.named.specs.Questions.{foundBy};
+ghost use Rattle.panel_tables.specs.Regions.{areaBytesIn, areaWordsIn, placementBytesIn};
 ghost use Rattle.panel_resolving.specs.Asking.{asksOwn, soughtFor};
 ghost use Rattle.panel_resolving.specs.Names.{bearsBy};
 ghost use mathlib.Core.Bool.{cond};
@@ -20,9 +21,9 @@ use name_store::entry;
 use named::Name;
 use named::Question;
 use nth_line::Sought;
-use panel_tables::area::AREA_BYTES;
-use panel_tables::area::AREA_WORDS;
-use panel_tables::placement::PLACEMENT_BYTES;
+use panel_tables::region::PANEL_BYTES;
+use panel_tables::region::PANEL_WORDS;
+use panel_tables::region::placement_bytes;
 
 // The bytes of a placement's name.
 fn name_of(names: &[u8], name: Name) -> &[u8]
@@ -91,21 +92,20 @@ pub(crate) fn find_named_line(
     question: Question,
     index: &[u64],
     store: &[u8],
-    areas: &[u64; AREA_WORDS],
-    areabytes: &[u8; AREA_BYTES],
-    names: &[u8; PLACEMENT_BYTES],
+    words: &[u64; PANEL_WORDS],
+    bytes: &[u8; PANEL_BYTES],
 ) -> Found
     requires { ⌜ Lists (around .grouping) (now index) (now store) ⌝ }
-    ensures { λ r. ⌜ seekOf r ≡ foundBy (bearsBy around (now (index .entry)) (now (store .entry)) (now (areas .entry)) (now (areabytes .entry))) (nameOf (now (names .entry)) (question .name)) question ⌝ }
+    ensures { λ r. ⌜ seekOf r ≡ foundBy (bearsBy around (now (index .entry)) (now (store .entry)) (areaWordsIn (now (words .entry))) (areaBytesIn (now (bytes .entry)))) (nameOf (placementBytesIn (now (bytes .entry))) (question .name)) question ⌝ }
 {
-    let name = name_of(names, question.name);
+    let name = name_of(placement_bytes(bytes), question.name);
     let first = question.edge;
     let mut own = asks_own(first);
     loop {
         let sought = sought_for(around, question, own, name);
         let edge = sought.edge;
         let stem = stem_sought(name, own, edge);
-        match find_line(around, sought, index, store, areas, areabytes, stem) {
+        match find_line(around, sought, index, store, words, bytes, stem) {
             Found::At(line) => return Found::At(line),
             Found::Left(m) => {
                 if own {

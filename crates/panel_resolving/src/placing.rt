@@ -1,11 +1,12 @@
 // One placement of a panel with its names resolved.
 ghost use mathlib.Core.Path.{_≡_};
 ghost use Rattle.named.specs.Placements.{resolutionOf};
-ghost use Rattle.panel_rules.specs.Calls.{NameTables, NamedWords, namesIn};
+ghost use Rattle.panel_rules.specs.Calls.{NameTables, NamedWords, areaTableIn, namesIn, nameTablesIn, placementTableIn};
 ghost use Prim.Native.Nat.{_<_};
 ghost use mathlib.Core.Bool.{true};
 ghost use Rattle.name_groups.specs.declared.key.Grouping.the-variants.{Whole};
 ghost use Rattle.panel_tables.specs.Placements.{placementAt};
+ghost use Rattle.panel_tables.specs.Regions.{areaBytesIn, areaWordsIn, placementBytesIn, placementWordsIn};
 ghost use Rattle.panel_rules.specs.Placing.{linePlacement, placedBy, refusedPlacement, resolvePlacement};
 ghost use Rattle.panel_resolving.specs.Chosen.{onAxis};
 ghost use Rattle.panel_resolving.specs.Names.{bearsBy, resolutionBy};
@@ -23,13 +24,12 @@ use panel_rules::PlacementAnswer;
 use panel_stores::store::entries_of;
 use panel_stores::store::smaller;
 use panel_tables::Panel;
-use panel_tables::area::AREA_BYTES;
-use panel_tables::area::AREA_WORDS;
-use panel_tables::placement::PLACEMENT_BYTES;
-use panel_tables::placement::PLACEMENT_WORDS;
 use panel_tables::placement::placement_at;
+use panel_tables::region::PANEL_BYTES;
+use panel_tables::region::PANEL_WORDS;
+use panel_tables::region::axis_words;
+use panel_tables::region::placement_words;
 use tables::layout::AXIS_BYTES;
-use tables::layout::AXIS_WORDS;
 
 // A refused answer.
 fn refused_placement(number: u32) -> PlacementAnswer
@@ -80,15 +80,13 @@ fn resolve_one(
     around: Around,
     entries: &[u64],
     store: &[u8],
-    areas: &[u64; AREA_WORDS],
-    areabytes: &[u8; AREA_BYTES],
-    placements: &[u64; PLACEMENT_WORDS],
-    names: &[u8; PLACEMENT_BYTES],
+    words: &[u64; PANEL_WORDS],
+    bytes: &[u8; PANEL_BYTES],
     index: u32,
 ) -> Resolution
     requires { ⌜ (around .grouping ≡ Whole) × (index < 4294967295) ⌝ }
-    requires { ⌜ onAxis (around .axis) (now placements) index ≡ true ⌝ }
-    ensures { λ r. ⌜ r ≡ resolutionBy (around .explicit) (bearsBy around (now (entries .entry)) (now (store .entry)) (now (areas .entry)) (now (areabytes .entry))) (now (names .entry)) (linePlacement (placementAt (now (placements .entry)) index)) ⌝ }
+    requires { ⌜ onAxis (around .axis) (placementWordsIn (now words)) index ≡ true ⌝ }
+    ensures { λ r. ⌜ r ≡ resolutionBy (around .explicit) (bearsBy around (now (entries .entry)) (now (store .entry)) (areaWordsIn (now (words .entry))) (areaBytesIn (now (bytes .entry)))) (placementBytesIn (now (bytes .entry))) (linePlacement (placementAt (placementWordsIn (now (words .entry))) index)) ⌝ }
 {
     let mut numbers = [0i32; PLACEMENT_NUMBERS];
     let run = Run {
@@ -96,67 +94,36 @@ fn resolve_one(
         first: index,
         count: 1,
     };
-    write_beside(
-        run,
-        entries,
-        store,
-        areas,
-        areabytes,
-        placements,
-        names,
-        &mut numbers,
-    )
+    write_beside(run, entries, store, words, bytes, &mut numbers)
 }
 
 // A placement beside the names of its axis.
 fn resolve_in(
     panel: Panel,
-    columns: &[u64; AXIS_WORDS],
-    rows: &[u64; AXIS_WORDS],
+    words: &[u64; PANEL_WORDS],
+    bytes: &[u8; PANEL_BYTES],
     columnstore: &[u8],
     rowstore: &[u8],
-    areas: &[u64; AREA_WORDS],
-    areabytes: &[u8; AREA_BYTES],
-    placements: &[u64; PLACEMENT_WORDS],
-    names: &[u8; PLACEMENT_BYTES],
     index: u32,
 ) -> Resolution
     requires { ⌜ index < 4294967295 ⌝ }
-    ensures { λ r. ⌜ r ≡ resolutionOf (namesIn panel (record { columns = now (columns .entry); rows = now (rows .entry); columnStore = now (columnstore .entry); rowStore = now (rowstore .entry) }) (record { words = now (areas .entry); bytes = now (areabytes .entry) }) (placementAt (now (placements .entry)) index .axis)) (now (names .entry)) (linePlacement (placementAt (now (placements .entry)) index)) ⌝ }
+    ensures { λ r. ⌜ r ≡ resolutionOf (namesIn panel (nameTablesIn (now (words .entry)) (now (columnstore .entry)) (now (rowstore .entry))) (areaTableIn (now (words .entry)) (now (bytes .entry))) (placementAt (placementWordsIn (now (words .entry))) index .axis)) (placementBytesIn (now (bytes .entry))) (linePlacement (placementAt (placementWordsIn (now (words .entry))) index)) ⌝ }
 {
     let held = panel.areas;
-    let place = placement_at(placements, index);
+    let place = placement_at(placement_words(words), index);
     let axis = place.axis;
     match axis {
         Axis::Column => {
             let state = panel.columns;
             let around = whole_around(axis, state.explicit, held);
-            let entries = entries_of(state, columns);
-            resolve_one(
-                around,
-                entries,
-                columnstore,
-                areas,
-                areabytes,
-                placements,
-                names,
-                index,
-            )
+            let entries = entries_of(state, axis_words(words, Axis::Column));
+            resolve_one(around, entries, columnstore, words, bytes, index)
         }
         Axis::Row => {
             let state = panel.rows;
             let around = whole_around(axis, state.explicit, held);
-            let entries = entries_of(state, rows);
-            resolve_one(
-                around,
-                entries,
-                rowstore,
-                areas,
-                areabytes,
-                placements,
-                names,
-                index,
-            )
+            let entries = entries_of(state, axis_words(words, Axis::Row));
+            resolve_one(around, entries, rowstore, words, bytes, index)
         }
     }
 }
@@ -164,35 +131,20 @@ fn resolve_in(
 // Placement `index` of a panel with its names resolved. 4: no such placement; 10: a store below 32,768 bytes.
 pub fn resolve_placement(
     panel: Panel,
-    columns: &[u64; AXIS_WORDS],
-    rows: &[u64; AXIS_WORDS],
+    words: &[u64; PANEL_WORDS],
+    bytes: &[u8; PANEL_BYTES],
     columnstore: &[u8],
     rowstore: &[u8],
-    areas: &[u64; AREA_WORDS],
-    areabytes: &[u8; AREA_BYTES],
-    placements: &[u64; PLACEMENT_WORDS],
-    placementbytes: &[u8; PLACEMENT_BYTES],
     index: u32,
 ) -> PlacementAnswer
-    ensures { λ r. ⌜ r ≡ resolvePlacement panel (record { columns = now (columns .entry); rows = now (rows .entry); columnStore = now (columnstore .entry); rowStore = now (rowstore .entry) }) (record { words = now (areas .entry); bytes = now (areabytes .entry) }) (record { words = now (placements .entry); bytes = now (placementbytes .entry) }) index ⌝ }
+    ensures { λ r. ⌜ r ≡ resolvePlacement panel (nameTablesIn (now (words .entry)) (now (columnstore .entry)) (now (rowstore .entry))) (areaTableIn (now (words .entry)) (now (bytes .entry))) (placementTableIn (now (words .entry)) (now (bytes .entry))) index ⌝ }
 {
     if panel.placements <= index {
         return refused_placement(refusal::COUNT);
     }
-    let place = placement_at(placements, index);
+    let place = placement_at(placement_words(words), index);
     let axis = place.axis;
-    let resolved = resolve_in(
-        panel,
-        columns,
-        rows,
-        columnstore,
-        rowstore,
-        areas,
-        areabytes,
-        placements,
-        placementbytes,
-        index,
-    );
+    let resolved = resolve_in(panel, words, bytes, columnstore, rowstore, index);
     let shorter = smaller(columnstore.len(), rowstore.len());
     placed_by(resolved, axis, shorter < AXIS_BYTES)
 }

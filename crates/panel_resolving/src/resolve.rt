@@ -4,6 +4,7 @@ ghost use Rattle.name_groups.specs.Groups.{Lists};
 ghost use Rattle.named.specs.Placements.{refusedResolution, zeroLine};
 ghost use Rattle.named.specs.Questions.{answered};
 ghost use Rattle.named.specs.Steps.{firstEnd, questionOf, secondEnd};
+ghost use Rattle.panel_tables.specs.Regions.{areaBytesIn, areaWordsIn, placementBytesIn};
 ghost use Rattle.panel_resolving.specs.Names.{bearsBy, resolutionBy};
 ghost use mathlib.Core.Bool.{cond};
 ghost use mathlib.Core.Path.{_≡_};
@@ -21,9 +22,8 @@ use named::ends::first_end;
 use named::ends::resolved_ends;
 use named::ends::second_end;
 use named::found::found_end;
-use panel_tables::area::AREA_BYTES;
-use panel_tables::area::AREA_WORDS;
-use panel_tables::placement::PLACEMENT_BYTES;
+use panel_tables::region::PANEL_BYTES;
+use panel_tables::region::PANEL_WORDS;
 
 // The most explicit tracks.
 const MOST_TRACKS: u32 = 10000;
@@ -53,19 +53,18 @@ fn resolve_end(
     end: End,
     index: &[u64],
     store: &[u8],
-    areas: &[u64; AREA_WORDS],
-    areabytes: &[u8; AREA_BYTES],
-    names: &[u8; PLACEMENT_BYTES],
+    words: &[u64; PANEL_WORDS],
+    bytes: &[u8; PANEL_BYTES],
 ) -> NonNamedGridPlacement
     requires { ⌜ around .explicit ≤ 10000 ⌝ }
     requires { ⌜ Lists (around .grouping) (now index) (now store) ⌝ }
-    ensures { λ r. ⌜ r ≡ answered (bearsBy around (now (index .entry)) (now (store .entry)) (now (areas .entry)) (now (areabytes .entry))) (now (names .entry)) (around .explicit) (questionOf (around .explicit) end) ⌝ }
+    ensures { λ r. ⌜ r ≡ answered (bearsBy around (now (index .entry)) (now (store .entry)) (areaWordsIn (now (words .entry))) (areaBytesIn (now (bytes .entry)))) (placementBytesIn (now (bytes .entry))) (around .explicit) (questionOf (around .explicit) end) ⌝ }
 {
     let explicit = around.explicit as u16;
     match question_of(explicit, end) {
         Asked::Resolved(resolved) => resolved,
         Asked::Line(question) => {
-            let found = find_named_line(around, question, index, store, areas, areabytes, names);
+            let found = find_named_line(around, question, index, store, words, bytes);
             found_end(explicit, question, found)
         }
     }
@@ -86,13 +85,12 @@ pub(crate) fn resolve_line_names(
     around: Around,
     index: &[u64],
     store: &[u8],
-    areas: &[u64; AREA_WORDS],
-    areabytes: &[u8; AREA_BYTES],
-    names: &[u8; PLACEMENT_BYTES],
+    words: &[u64; PANEL_WORDS],
+    bytes: &[u8; PANEL_BYTES],
     line: Line,
 ) -> Resolution
     requires { ⌜ Lists (around .grouping) (now index) (now store) ⌝ }
-    ensures { λ r. ⌜ r ≡ resolutionBy (around .explicit) (bearsBy around (now (index .entry)) (now (store .entry)) (now (areas .entry)) (now (areabytes .entry))) (now (names .entry)) line ⌝ }
+    ensures { λ r. ⌜ r ≡ resolutionBy (around .explicit) (bearsBy around (now (index .entry)) (now (store .entry)) (areaWordsIn (now (words .entry))) (areaBytesIn (now (bytes .entry)))) (placementBytesIn (now (bytes .entry))) line ⌝ }
 {
     if MOST_TRACKS < around.explicit {
         return refused_resolution();
@@ -101,7 +99,7 @@ pub(crate) fn resolve_line_names(
     let mut last = false;
     loop {
         let end = next_end(line, last, first);
-        let resolved = resolve_end(around, end, index, store, areas, areabytes, names);
+        let resolved = resolve_end(around, end, index, store, words, bytes);
         if last {
             return Resolution {
                 refusal: refusal::no_refusal(),

@@ -6,6 +6,7 @@ ghost use Rattle.line_search.specs.Marks.{seekOf};
 ghost use Rattle.line_search.specs.Suffixes.{tailOf};
 ghost use Rattle.name_groups.specs.Groups.{Lists};
 ghost use Rattle.nth_line.specs.Sought.{lineSought};
+ghost use Rattle.panel_tables.specs.Regions.{areaBytesIn, areaWordsIn};
 ghost use Rattle.panel_resolving.specs.Listing.{firstNamed, namedPart};
 ghost use Rattle.panel_resolving.specs.Names.{soughtBy};
 use crate::Around;
@@ -18,9 +19,11 @@ use name_groups::group::group_of;
 use name_groups::group::group_part;
 use nth_line::Sought;
 use nth_line::nth_line;
-use panel_tables::area::AREA_BYTES;
 use panel_tables::area::AREA_NAMES;
-use panel_tables::area::AREA_WORDS;
+use panel_tables::region::PANEL_BYTES;
+use panel_tables::region::PANEL_WORDS;
+use panel_tables::region::area_bytes;
+use panel_tables::region::area_words;
 use tables::layout::words_part;
 
 // Whether the entries are listed and have the name. Entries that are not listed are not looked at.
@@ -51,18 +54,20 @@ pub(crate) fn find_line(
     sought: Sought,
     index: &[u64],
     store: &[u8],
-    areas: &[u64; AREA_WORDS],
-    areabytes: &[u8; AREA_BYTES],
+    words: &[u64; PANEL_WORDS],
+    bytes: &[u8; PANEL_BYTES],
     stem: &[u8],
 ) -> Found
     requires { ⌜ Lists (around .grouping) (now index) (now store) ⌝ }
-    ensures { λ r. ⌜ seekOf r ≡ lineSought sought (soughtBy around sought (now (index .entry)) (now (store .entry)) (now (areas .entry)) (now (areabytes .entry)) (now (stem .entry))) ⌝ }
+    ensures { λ r. ⌜ seekOf r ≡ lineSought sought (soughtBy around sought (now (index .entry)) (now (store .entry)) (areaWordsIn (now (words .entry))) (areaBytesIn (now (bytes .entry))) (now (stem .entry))) ⌝ }
 {
     let edge = sought.edge;
     let held = around.areas;
     let grouping = around.grouping;
     let group = group_of(index, grouping, stem, edge);
     let part = group_part(index, group);
+    let areas = area_words(words);
+    let areabytes = area_bytes(bytes);
     let edges = words_part(areas, 0, held);
     let areanames = words_part(areas, AREA_NAMES, held);
     let listed = group.listed;

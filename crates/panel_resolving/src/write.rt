@@ -5,6 +5,7 @@ ghost use Rattle.line_search.specs.Areas.{axisNames};
 ghost use Rattle.name_groups.specs.Groups.{Lists};
 ghost use Rattle.named.specs.Placements.{resolutionOf};
 ghost use Rattle.panel_tables.specs.Placements.{axisNumber};
+ghost use Rattle.panel_tables.specs.Regions.{areaBytesIn, areaWordsIn, placementBytesIn, placementWordsIn};
 ghost use Rattle.tables.specs.Runs.{partOf};
 ghost use Rattle.panel_resolving.specs.Chosen.{OnlyOne, chosenSets, groupingFor, numbersBy, onAxis, runGrouped};
 ghost use Rattle.panel_resolving.specs.Names.{bearsBy, resolutionBy};
@@ -20,11 +21,10 @@ use coordinates::Axis;
 use name_groups::index::group_entries;
 use name_groups::key::Grouping;
 use named::Resolution;
-use panel_tables::area::AREA_BYTES;
-use panel_tables::area::AREA_WORDS;
-use panel_tables::placement::PLACEMENT_BYTES;
-use panel_tables::placement::PLACEMENT_WORDS;
 use panel_tables::placement::placement_at;
+use panel_tables::region::PANEL_BYTES;
+use panel_tables::region::PANEL_WORDS;
+use panel_tables::region::placement_words;
 
 // The placements of an axis among `count` from `first` on, and what they are resolved beside.
 pub(crate) struct Run {
@@ -69,21 +69,19 @@ pub(crate) fn write_beside(
     run: Run,
     index: &[u64],
     store: &[u8],
-    areas: &[u64; AREA_WORDS],
-    areabytes: &[u8; AREA_BYTES],
-    placements: &[u64; PLACEMENT_WORDS],
-    names: &[u8; PLACEMENT_BYTES],
+    words: &[u64; PANEL_WORDS],
+    bytes: &[u8; PANEL_BYTES],
     numbers: &mut [i32],
 ) -> Resolution
     requires { ⌜ (run .first + run .count ≤ 4294967295) × (6 * run .count ≤ length (now numbers)) ⌝ }
     requires { ⌜ Lists (run .around .grouping) (now index) (now store) ⌝ }
-    ensures { λ r. ⌜ (now (numbers .exit) ≡ chosenSets (onAxis (run .around .axis) (now (placements .entry))) (numbersBy (resolutionBy (run .around .explicit) (bearsBy (run .around) (now (index .entry)) (now (store .entry)) (now (areas .entry)) (now (areabytes .entry))) (now (names .entry))) (now (placements .entry))) 0 (run .first) (run .count) (now (numbers .entry))) × OnlyOne run (now (placements .entry)) (resolutionBy (run .around .explicit) (bearsBy (run .around) (now (index .entry)) (now (store .entry)) (now (areas .entry)) (now (areabytes .entry))) (now (names .entry))) r ⌝ }
+    ensures { λ r. ⌜ (now (numbers .exit) ≡ chosenSets (onAxis (run .around .axis) (placementWordsIn (now (words .entry)))) (numbersBy (resolutionBy (run .around .explicit) (bearsBy (run .around) (now (index .entry)) (now (store .entry)) (areaWordsIn (now (words .entry))) (areaBytesIn (now (bytes .entry)))) (placementBytesIn (now (bytes .entry)))) (placementWordsIn (now (words .entry)))) 0 (run .first) (run .count) (now (numbers .entry))) × OnlyOne run (placementWordsIn (now (words .entry))) (resolutionBy (run .around .explicit) (bearsBy (run .around) (now (index .entry)) (now (store .entry)) (areaWordsIn (now (words .entry))) (areaBytesIn (now (bytes .entry)))) (placementBytesIn (now (bytes .entry)))) r ⌝ }
 {
     let around = run.around;
     let mut last = refused_resolution();
     let mut i: u32 = 0;
     while i < run.count {
-        let place = placement_at(placements, run.first + i);
+        let place = placement_at(placement_words(words), run.first + i);
         let axis = place.axis;
         let own = around.axis;
         if !same_axis(axis, own) {
@@ -91,7 +89,7 @@ pub(crate) fn write_beside(
             continue;
         }
         let line = line_placement(place);
-        let resolved = resolve_line_names(around, index, store, areas, areabytes, names, line);
+        let resolved = resolve_line_names(around, index, store, words, bytes, line);
         put_placement(numbers, 6 * i as usize, placed_by(resolved, axis, false));
         last = resolved;
         i += 1;
@@ -123,30 +121,19 @@ fn write_few(
     run: Run,
     entries: &[u64],
     store: &[u8],
-    areas: &[u64; AREA_WORDS],
-    areabytes: &[u8; AREA_BYTES],
-    placements: &[u64; PLACEMENT_WORDS],
-    names: &[u8; PLACEMENT_BYTES],
+    words: &[u64; PANEL_WORDS],
+    bytes: &[u8; PANEL_BYTES],
     numbers: &mut [i32],
 )
     requires { ⌜ (run .first + run .count ≤ 4294967295) × (6 * run .count ≤ length (now numbers)) ⌝ }
     requires { ⌜ length (now entries) ≤ 128 ⌝ }
-    ensures { λ _. ⌜ now (numbers .exit) ≡ chosenSets (onAxis (run .around .axis) (now (placements .entry))) (numbersBy (resolutionOf (axisNames (run .around .explicit) (run .around .axis) (now (entries .entry)) (now (store .entry)) (partOf (now (areas .entry)) 0 (run .around .areas)) (partOf (now (areas .entry)) 64 (run .around .areas)) (now (areabytes .entry))) (now (names .entry))) (now (placements .entry))) 0 (run .first) (run .count) (now (numbers .entry)) ⌝ }
+    ensures { λ _. ⌜ now (numbers .exit) ≡ chosenSets (onAxis (run .around .axis) (placementWordsIn (now (words .entry)))) (numbersBy (resolutionOf (axisNames (run .around .explicit) (run .around .axis) (now (entries .entry)) (now (store .entry)) (partOf (areaWordsIn (now (words .entry))) 0 (run .around .areas)) (partOf (areaWordsIn (now (words .entry))) 64 (run .around .areas)) (areaBytesIn (now (bytes .entry)))) (placementBytesIn (now (bytes .entry)))) (placementWordsIn (now (words .entry)))) 0 (run .first) (run .count) (now (numbers .entry)) ⌝ }
 {
     let mut index = [0u64; FEW_WORDS];
     let mut keys = [0u16; FEW_ENTRIES];
     group_entries(Grouping::Few, entries, store, &mut keys, &mut index);
     let grouped = run_grouped(run, Grouping::Few);
-    let _last = write_beside(
-        grouped,
-        &index,
-        store,
-        areas,
-        areabytes,
-        placements,
-        names,
-        numbers,
-    );
+    let _last = write_beside(grouped, &index, store, words, bytes, numbers);
 }
 
 // Writes the placements of the axis beside at most 4,096 entries, which are grouped first.
@@ -154,30 +141,19 @@ fn write_many(
     run: Run,
     entries: &[u64],
     store: &[u8],
-    areas: &[u64; AREA_WORDS],
-    areabytes: &[u8; AREA_BYTES],
-    placements: &[u64; PLACEMENT_WORDS],
-    names: &[u8; PLACEMENT_BYTES],
+    words: &[u64; PANEL_WORDS],
+    bytes: &[u8; PANEL_BYTES],
     numbers: &mut [i32],
 )
     requires { ⌜ (run .first + run .count ≤ 4294967295) × (6 * run .count ≤ length (now numbers)) ⌝ }
     requires { ⌜ length (now entries) ≤ 4096 ⌝ }
-    ensures { λ _. ⌜ now (numbers .exit) ≡ chosenSets (onAxis (run .around .axis) (now (placements .entry))) (numbersBy (resolutionOf (axisNames (run .around .explicit) (run .around .axis) (now (entries .entry)) (now (store .entry)) (partOf (now (areas .entry)) 0 (run .around .areas)) (partOf (now (areas .entry)) 64 (run .around .areas)) (now (areabytes .entry))) (now (names .entry))) (now (placements .entry))) 0 (run .first) (run .count) (now (numbers .entry)) ⌝ }
+    ensures { λ _. ⌜ now (numbers .exit) ≡ chosenSets (onAxis (run .around .axis) (placementWordsIn (now (words .entry)))) (numbersBy (resolutionOf (axisNames (run .around .explicit) (run .around .axis) (now (entries .entry)) (now (store .entry)) (partOf (areaWordsIn (now (words .entry))) 0 (run .around .areas)) (partOf (areaWordsIn (now (words .entry))) 64 (run .around .areas)) (areaBytesIn (now (bytes .entry)))) (placementBytesIn (now (bytes .entry)))) (placementWordsIn (now (words .entry)))) 0 (run .first) (run .count) (now (numbers .entry)) ⌝ }
 {
     let mut index = [0u64; MANY_WORDS];
     let mut keys = [0u16; MANY_ENTRIES];
     group_entries(Grouping::Many, entries, store, &mut keys, &mut index);
     let grouped = run_grouped(run, Grouping::Many);
-    let _last = write_beside(
-        grouped,
-        &index,
-        store,
-        areas,
-        areabytes,
-        placements,
-        names,
-        numbers,
-    );
+    let _last = write_beside(grouped, &index, store, words, bytes, numbers);
 }
 
 // How the entries are kept for a run of so many placements: together where they are few, or more than an axis has.
@@ -201,48 +177,19 @@ pub(crate) fn write_axis(
     run: Run,
     entries: &[u64],
     store: &[u8],
-    areas: &[u64; AREA_WORDS],
-    areabytes: &[u8; AREA_BYTES],
-    placements: &[u64; PLACEMENT_WORDS],
-    names: &[u8; PLACEMENT_BYTES],
+    words: &[u64; PANEL_WORDS],
+    bytes: &[u8; PANEL_BYTES],
     numbers: &mut [i32],
 )
     requires { ⌜ (run .first + run .count ≤ 4294967295) × (6 * run .count ≤ length (now numbers)) ⌝ }
-    ensures { λ _. ⌜ now (numbers .exit) ≡ chosenSets (onAxis (run .around .axis) (now (placements .entry))) (numbersBy (resolutionOf (axisNames (run .around .explicit) (run .around .axis) (now (entries .entry)) (now (store .entry)) (partOf (now (areas .entry)) 0 (run .around .areas)) (partOf (now (areas .entry)) 64 (run .around .areas)) (now (areabytes .entry))) (now (names .entry))) (now (placements .entry))) 0 (run .first) (run .count) (now (numbers .entry)) ⌝ }
+    ensures { λ _. ⌜ now (numbers .exit) ≡ chosenSets (onAxis (run .around .axis) (placementWordsIn (now (words .entry)))) (numbersBy (resolutionOf (axisNames (run .around .explicit) (run .around .axis) (now (entries .entry)) (now (store .entry)) (partOf (areaWordsIn (now (words .entry))) 0 (run .around .areas)) (partOf (areaWordsIn (now (words .entry))) 64 (run .around .areas)) (areaBytesIn (now (bytes .entry)))) (placementBytesIn (now (bytes .entry)))) (placementWordsIn (now (words .entry)))) 0 (run .first) (run .count) (now (numbers .entry)) ⌝ }
 {
     match grouping_for(entries.len(), run.count) {
         Grouping::Whole => {
             let together = run_grouped(run, Grouping::Whole);
-            let _last = write_beside(
-                together,
-                entries,
-                store,
-                areas,
-                areabytes,
-                placements,
-                names,
-                numbers,
-            );
+            let _last = write_beside(together, entries, store, words, bytes, numbers);
         }
-        Grouping::Few => write_few(
-            run,
-            entries,
-            store,
-            areas,
-            areabytes,
-            placements,
-            names,
-            numbers,
-        ),
-        Grouping::Many => write_many(
-            run,
-            entries,
-            store,
-            areas,
-            areabytes,
-            placements,
-            names,
-            numbers,
-        ),
+        Grouping::Few => write_few(run, entries, store, words, bytes, numbers),
+        Grouping::Many => write_many(run, entries, store, words, bytes, numbers),
     }
 }

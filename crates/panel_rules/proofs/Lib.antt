@@ -33,3 +33,4 @@ pub mod Alone
 pub mod ColumnCalls
 pub mod ColumnAnswers
 pub mod ColumnsAlone
+pub mod Lent

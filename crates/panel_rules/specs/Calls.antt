@@ -24,6 +24,7 @@ use Rattle.tables.specs.declared.AxisState.{AxisState}
 use Rattle.tables.specs.Runs.{partOf}
 use Rattle.panel_tables.specs.declared.Panel.{Panel}
 use Rattle.panel_tables.specs.Axes.{stateIn, withState}
+use Rattle.panel_tables.specs.Regions.{axisWordsIn, areaWordsIn, placementWordsIn, areaBytesIn, placementBytesIn}
 use Rattle.panel_rules.specs.declared.EntryAnswer.{EntryAnswer}
 use Rattle.panel_rules.specs.declared.AxisSize.{AxisSize}
 
@@ -40,6 +41,22 @@ pub record NameTables : Type 0 where
 pub record NamedWords : Type 0 where
   pub words : List ℕ
   pub bytes : List ℕ
+
+-- the same, of the words, the bytes and the stores that are lent with a panel
+abbrev pub nameTablesIn : List ℕ → List ℕ → List ℕ → NameTables
+nameTablesIn words columnStore rowStore =
+    record {
+      columns = axisWordsIn Column words;
+      rows = axisWordsIn Row words;
+      columnStore = columnStore;
+      rowStore = rowStore;
+    }
+
+abbrev pub areaTableIn : List ℕ → List ℕ → NamedWords
+areaTableIn words bytes = record { words = areaWordsIn words; bytes = areaBytesIn bytes }
+
+abbrev pub placementTableIn : List ℕ → List ℕ → NamedWords
+placementTableIn words bytes = record { words = placementWordsIn words; bytes = placementBytesIn bytes }
 
 abbrev pub wordsIn : NameTables → Axis → List ℕ
 wordsIn t a = ofAxis a (t .columns) (t .rows)

@@ -7,3 +7,4 @@ pub mod Same
 pub mod Back
 pub mod Limits
 pub mod Axes
+pub mod Regions

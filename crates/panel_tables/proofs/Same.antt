@@ -9,6 +9,7 @@ use lib.ListN.{length, set, replicate, length-append, length-map}
 use lib.Seq.{sets}
 use borrow.Author.Tests.{ltb-true, ltb-false, le-ltb, lt-ltb, leb-true, leb-false}
 use Rattle.coordinates.specs.declared.axis.Axis.{Axis}
+use Rattle.coordinates.specs.declared.axis.Axis.the-variants.{Column, Row}
 use Rattle.tables.specs.Lay.{pad, Region, lay, joined}
 use Rattle.tables.specs.Runs.{bytesOf, wordsFrom, putBytes}
 use Rattle.tables.specs.View.{AxisView, emptyAxis, noRoom}
@@ -19,11 +20,13 @@ use Rattle.tables.specs.Written.{regionsOf, wordsWith, axisWords, namesStore, s
 use Rattle.tables.proofs.Same.{axis-empty}
 use Rattle.tables.proofs.Lays.{length-pad, pad-put, pad-puts, pad-none, lay-put, lay-none}
 use Rattle.tables.proofs.Runs.{bytes-more, length-words, words-more}
+use Rattle.tables.proofs.Regions.{zeros-part}
 use Rattle.panel_tables.specs.declared.AreaEdges.{AreaEdges}
 use Rattle.panel_tables.specs.View.{Area, End, Placement, PanelView, emptyView, edgesOutside, areaStep, endOutside, placeStep}
 use Rattle.panel_tables.specs.Areas.{edgesWord, putArea}
 use Rattle.panel_tables.specs.Placements.{axisNumber, endWord, placementFault, putPlacement}
-use Rattle.panel_tables.specs.Written.{zeroPanel, zeroPanelReading, areaNameOf, areaEdgesWord, areaNameWord, areaBytesOf, areaRegions, areaWords, areaStore, AxisEnd, endsOf, endNameOf, axisEndWord, placementBytesOf, placementWords, placementStore, panelOf, PanelHeld, heldPanel, stepped, ofAreas, ofPlacements}
+use Rattle.panel_tables.specs.Regions.{panelWords, panelBytes, axisWordsIn, areaWordsIn, placementWordsIn, marksIn, areaBytesIn, placementBytesIn}
+use Rattle.panel_tables.specs.Written.{zeroPanel, zeroPanelReading, areaNameOf, areaEdgesWord, areaNameWord, areaBytesOf, areaRegions, areaWords, areaStore, AxisEnd, endsOf, endNameOf, axisEndWord, placementBytesOf, placementWords, placementStore, panelOf, PanelHeld, panelHeldOf, heldPanel, stepped, ofAreas, ofPlacements}
 use Rattle.panel_tables.proofs.Fits.{FitsPanel, area-bytes, placement-bytes}
 
 -- bytes in a store that has room
@@ -244,10 +247,32 @@ parts : (s s2 : AxisState) (r r2 : AxisReading) (w w2 m m2 n n2 a a2 b b2 p p2 q
     → s ≡ s2 → r ≡ r2 → w ≡ w2 → m ≡ m2 → n ≡ n2 → a ≡ a2 → b ≡ b2 → p ≡ p2 → q ≡ q2 → held s r w m n a b p q ≡ held s2 r2 w2 m2 n2 a2 b2 p2 q2
 parts s s2 r r2 w w2 m m2 n n2 a a2 b b2 p p2 q q2 e1 e2 e3 e4 e5 e6 e7 e8 e9 = cc
 
-pub empty-same : heldPanel emptyView
+empty-same : heldPanel emptyView
     ≡ held zeroState zeroReading (replicate 12480 0) (replicate 30000 0) (replicate 32768 0) (replicate 128 0) (replicate 2048 0) (replicate 512 0) (replicate 16384 0)
 unfolding heldPanel emptyView
 empty-same =
     parts (stateOf emptyAxis) zeroState (readingOf emptyAxis) zeroReading (axisWords emptyAxis) (replicate 12480 0) (emptyAxis .marks) (replicate 30000 0) (namesStore emptyAxis) (replicate 32768 0)
     (areaWords []) (replicate 128 0) (areaStore []) (replicate 2048 0) (placementWords []) (replicate 512 0) (placementStore []) (replicate 16384 0)
     state-none reading-none words-none marks-none bytes-none areas-none area-bytes-none placements-none placement-bytes-none
+
+-- the same, in words and bytes of which each region is zeros
+zeros-held : (w b n c m a x p q : List ℕ)
+    → axisWordsIn Column w ≡ c → axisWordsIn Row w ≡ c → marksIn Column b ≡ m → marksIn Row b ≡ m → areaWordsIn w ≡ a → areaBytesIn b ≡ x → placementWordsIn w ≡ p → placementBytesIn b ≡ q
+    → panelHeldOf zeroPanel zeroPanelReading w b n n ≡ held zeroState zeroReading c m n a x p q
+unfolding panelHeldOf
+zeros-held w b n c m a x p q e1 e2 e3 e4 e5 e6 e7 e8 = rw (e1, e2, e3, e4, e5, e6, e7, e8)
+
+pub zeros-same : heldPanel emptyView ≡ panelHeldOf zeroPanel zeroPanelReading (replicate panelWords 0) (replicate panelBytes 0) (replicate 32768 0) (replicate 32768 0)
+unfolding axisWordsIn marksIn areaWordsIn areaBytesIn placementWordsIn placementBytesIn
+zeros-same =
+    empty-same
+    ∙ sym
+    (zeros-held (replicate panelWords 0) (replicate panelBytes 0) (replicate 32768 0) (replicate 12480 0) (replicate 30000 0) (replicate 128 0) (replicate 2048 0) (replicate 512 0) (replicate 16384 0)
+    (zeros-part panelWords 0 12480 (omega arith))
+    (zeros-part panelWords 12480 12480 (omega arith))
+    (zeros-part panelBytes 0 30000 (omega arith))
+    (zeros-part panelBytes 30000 30000 (omega arith))
+    (zeros-part panelWords 24960 128 (omega arith))
+    (zeros-part panelBytes 60000 2048 (omega arith))
+    (zeros-part panelWords 25088 512 (omega arith))
+    (zeros-part panelBytes 62048 16384 (omega arith)))

@@ -3,5 +3,6 @@ pub mod View
 pub mod Numbers
 pub mod Areas
 pub mod Placements
+pub mod Regions
 pub mod Written
 pub mod Axes

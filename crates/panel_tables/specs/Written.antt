@@ -3,6 +3,7 @@ use Prim.Native.Nat.{ℕ, _+_}
 use mathlib.Core.List.{List, [], _∷_, _++_, map}
 use lib.ListN.{length}
 use Rattle.coordinates.specs.declared.axis.Axis.{Axis}
+use Rattle.coordinates.specs.declared.axis.Axis.the-variants.{Column, Row}
 use Rattle.tables.specs.Lay.{pad, Region, region, lay}
 use Rattle.tables.specs.Runs.{bytesOf, wordsFrom}
 use Rattle.tables.specs.View.{AxisView, AxisOutcome}
@@ -13,6 +14,7 @@ use Rattle.panel_tables.specs.declared.Reading.{Reading}
 use Rattle.panel_tables.specs.View.{Area, End, Placement, PanelView, PanelOutcome}
 use Rattle.panel_tables.specs.Areas.{edgesWord, InAreas, put}
 use Rattle.panel_tables.specs.Placements.{axisNumber, endWord}
+use Rattle.panel_tables.specs.Regions.{axisWordsIn, areaWordsIn, placementWordsIn, marksIn, areaBytesIn, placementBytesIn}
 
 abbrev pub zeroPanel : Panel
 zeroPanel = record { columns = zeroState; rows = zeroState; areas = 0; areabytes = 0; placements = 0; placementbytes = 0 }
@@ -95,6 +97,24 @@ pub record PanelHeld : Type 0 where
   pub areaBytes : List ℕ
   pub placements : List ℕ
   pub placementBytes : List ℕ
+
+-- the same, of the words and the bytes that are lent, and the names' bytes of both axes
+unfoldable pub panelHeldOf : Panel → Reading → List ℕ → List ℕ → List ℕ → List ℕ → PanelHeld
+panelHeldOf p r words bytes columnBytes rowBytes =
+    record {
+      panel = p;
+      reading = r;
+      columns = axisWordsIn Column words;
+      rows = axisWordsIn Row words;
+      columnMarks = marksIn Column bytes;
+      rowMarks = marksIn Row bytes;
+      columnBytes = columnBytes;
+      rowBytes = rowBytes;
+      areas = areaWordsIn words;
+      areaBytes = areaBytesIn bytes;
+      placements = placementWordsIn words;
+      placementBytes = placementBytesIn bytes;
+    }
 
 unfoldable pub heldPanel : PanelView → PanelHeld
 heldPanel v =

@@ -28,7 +28,7 @@ pub fn edges_of(word: u64) -> AreaEdges
 }
 
 // The word of area i in the region that starts there; 0 past its end.
-fn word_of(words: &[u64; AREA_WORDS], start: usize, index: u32) -> u64
+fn word_of(words: &[u64], start: usize, index: u32) -> u64
     requires { ⌜ start ≤ 64 ⌝ }
     ensures { λ r. ⌜ r ≡ wordOf (now (words .entry)) start index ⌝ }
 {
@@ -39,7 +39,7 @@ fn word_of(words: &[u64; AREA_WORDS], start: usize, index: u32) -> u64
 }
 
 // Area i of the table. Any words give one.
-pub fn area_at(words: &[u64; AREA_WORDS], index: u32) -> AreaPlace
+pub fn area_at(words: &[u64], index: u32) -> AreaPlace
     ensures { λ r. ⌜ r ≡ areaAt (now (words .entry)) index ⌝ }
 {
     let edges = edges_of(word_of(words, 0, index));
@@ -52,7 +52,7 @@ pub fn area_at(words: &[u64; AREA_WORDS], index: u32) -> AreaPlace
 }
 
 // The name of area i: a part of the bytes.
-pub fn area_name<'a>(words: &[u64; AREA_WORDS], bytes: &'a [u8; AREA_BYTES], index: u32) -> &'a [u8]
+pub fn area_name<'a>(words: &[u64], bytes: &'a [u8], index: u32) -> &'a [u8]
     ensures { λ r. ⌜ now r ≡ areaName (now (words .entry)) (now (bytes .entry)) index ⌝ }
 {
     let place = area_at(words, index);
@@ -70,12 +70,7 @@ fn at_most_64(n: u32) -> u32
 }
 
 // Whether one of so many areas has that name.
-pub fn has_area(
-    areas: u32,
-    words: &[u64; AREA_WORDS],
-    bytes: &[u8; AREA_BYTES],
-    name: &[u8],
-) -> bool
+pub fn has_area(areas: u32, words: &[u64], bytes: &[u8], name: &[u8]) -> bool
     ensures { λ r. ⌜ r ≡ hasAreaIn areas (now (words .entry)) (now (bytes .entry)) (now (name .entry)) ⌝ }
 {
     let mut k = at_most_64(areas);

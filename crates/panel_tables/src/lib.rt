@@ -3,6 +3,7 @@ pub mod area;
 pub mod axis;
 pub mod number;
 pub mod placement;
+pub mod region;
 pub mod state;
 
 use coordinates::Axis;

@@ -50,7 +50,7 @@ pub fn used_name(kind: u32, name: &[u8]) -> &[u8]
 }
 
 // The first word of placement i, 0 past the end.
-fn start_word(words: &[u64; PLACEMENT_WORDS], index: u32) -> u64
+fn start_word(words: &[u64], index: u32) -> u64
     ensures { λ r. ⌜ r ≡ startWord (now (words .entry)) index ⌝ }
 {
     let at = index as usize;
@@ -61,7 +61,7 @@ fn start_word(words: &[u64; PLACEMENT_WORDS], index: u32) -> u64
 }
 
 // The second.
-fn finish_word(words: &[u64; PLACEMENT_WORDS], index: u32) -> u64
+fn finish_word(words: &[u64], index: u32) -> u64
     ensures { λ r. ⌜ r ≡ finishWord (now (words .entry)) index ⌝ }
 {
     let at = index as usize;
@@ -72,7 +72,7 @@ fn finish_word(words: &[u64; PLACEMENT_WORDS], index: u32) -> u64
 }
 
 // Placement i of the table. Any words give one.
-pub fn placement_at(words: &[u64; PLACEMENT_WORDS], index: u32) -> PlacementPlace
+pub fn placement_at(words: &[u64], index: u32) -> PlacementPlace
     ensures { λ r. ⌜ r ≡ placementAt (now (words .entry)) index ⌝ }
 {
     let first = start_word(words, index);

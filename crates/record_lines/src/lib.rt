@@ -1,7 +1,8 @@
 // One line of a panel sheet by itself: the record that its fields make, or its fault, and where its names lie.
-pub mod lines;
+mod lines;
+mod read;
 
-pub use lines::read_record;
+pub use read::read_record;
 use records::Record;
 use text::Place;
 

@@ -1,11 +1,7 @@
-// The other lines, and the record of any line.
+// The lines that stand beside a template: `area`, `name`, `extra`, `item`, `place`. A line comes with the starts of its fields and their number.
 ghost use mathlib.Core.Path.{_≡_};
-ghost use Rattle.text.specs.Split.{split, index};
-ghost use Rattle.text.specs.Places.{partAt, fieldsBy};
-ghost use Rattle.records.specs.Words.{kindWords};
-ghost use Rattle.records.specs.Names.{ofFirst, ofSecond, firstName, secondName};
-ghost use Rattle.records.specs.Records.{edgesOf, madeArea, areaLine, madeName, nameLine, madeExtra, extraLine, madeItem, itemLine, madePlace, placeLine, byKind, recordOf};
-use crate::LineRecord;
+ghost use Rattle.text.specs.Places.{fieldsBy};
+ghost use Rattle.records.specs.Records.{edgesOf, madeArea, areaLine, madeName, nameLine, madeExtra, extraLine, madeItem, itemLine, madePlace, placeLine};
 use coordinates::refusal::AREA;
 use coordinates::refusal::UNREAD;
 use record_parts::ends::end;
@@ -18,12 +14,6 @@ use records::field::Field;
 use records::field::axis;
 use records::field::count;
 use records::name::name_fault;
-use template_lines::templates::axis_line;
-use template_lines::templates::end_line;
-use template_lines::templates::repeat_line;
-use template_lines::templates::sizes_line;
-use text::field_place;
-use text::fields::FIELDS;
 use text::fields::STARTS;
 
 // An area's edges, each start below its end.
@@ -58,7 +48,7 @@ fn make_area(name: u32, a: Field, b: Field, c: Field, d: Field) -> Record
 }
 
 // `area`, name, row start, row end, column start, column end
-fn area_line(line: &[u8], starts: &[usize; STARTS], fields: usize) -> Record
+pub(crate) fn area_line(line: &[u8], starts: &[usize; STARTS], fields: usize) -> Record
     ensures { λ r. ⌜ r ≡ areaLine (fieldsBy (now (starts .entry)) (now (line .entry)) fields) ⌝ }
 {
     if fields != 6 {
@@ -85,7 +75,7 @@ fn make_name(a: AxisField, name: u32) -> Record
 }
 
 // `name`, axis, name
-fn name_line(line: &[u8], starts: &[usize; STARTS], fields: usize) -> Record
+pub(crate) fn name_line(line: &[u8], starts: &[usize; STARTS], fields: usize) -> Record
     ensures { λ r. ⌜ r ≡ nameLine (fieldsBy (now (starts .entry)) (now (line .entry)) fields) ⌝ }
 {
     if fields != 3 {
@@ -109,7 +99,7 @@ fn make_extra(a: AxisField, n: Field, p: Field) -> Record
 }
 
 // `extra`, axis, negative and positive implicit counts
-fn extra_line(line: &[u8], starts: &[usize; STARTS], fields: usize) -> Record
+pub(crate) fn extra_line(line: &[u8], starts: &[usize; STARTS], fields: usize) -> Record
     ensures { λ r. ⌜ r ≡ extraLine (fieldsBy (now (starts .entry)) (now (line .entry)) fields) ⌝ }
 {
     if fields != 4 {
@@ -134,7 +124,7 @@ fn make_item(a: AxisField, i: Field) -> Record
 }
 
 // `item`, axis, track index
-fn item_line(line: &[u8], starts: &[usize; STARTS], fields: usize) -> Record
+pub(crate) fn item_line(line: &[u8], starts: &[usize; STARTS], fields: usize) -> Record
     ensures { λ r. ⌜ r ≡ itemLine (fieldsBy (now (starts .entry)) (now (line .entry)) fields) ⌝ }
 {
     if fields != 3 {
@@ -160,7 +150,7 @@ fn make_place(a: AxisField, s: EndField, e: EndField) -> Record
 }
 
 // `place`, axis, then kind, name, number for the start and for the end
-fn place_line(line: &[u8], starts: &[usize; STARTS], fields: usize) -> Record
+pub(crate) fn place_line(line: &[u8], starts: &[usize; STARTS], fields: usize) -> Record
     ensures { λ r. ⌜ r ≡ placeLine (fieldsBy (now (starts .entry)) (now (line .entry)) fields) ⌝ }
 {
     if fields != 8 {
@@ -178,112 +168,4 @@ fn place_line(line: &[u8], starts: &[usize; STARTS], fields: usize) -> Record
         text::field(line, starts, 7),
     );
     make_place(a, s, e)
-}
-
-fn by_kind(k: usize, line: &[u8], starts: &[usize; STARTS], fields: usize) -> Record
-    ensures { λ r. ⌜ r ≡ byKind k (fieldsBy (now (starts .entry)) (now (line .entry)) fields) ⌝ }
-{
-    match k {
-        0 => axis_line(line, starts, fields),
-        1 => area_line(line, starts, fields),
-        2 => name_line(line, starts, fields),
-        3 => sizes_line(false, line, starts, fields),
-        4 => repeat_line(line, starts, fields),
-        5 => end_line(line, starts, fields),
-        6 => sizes_line(true, line, starts, fields),
-        7 => extra_line(line, starts, fields),
-        8 => item_line(line, starts, fields),
-        9 => place_line(line, starts, fields),
-        _ => Record::Fault(UNREAD),
-    }
-}
-
-// Which kind of record a first field names, the commonest asked first.
-fn kind(f: &[u8]) -> usize
-    ensures { λ r. ⌜ r ≡ index (now (f .entry)) kindWords ⌝ }
-{
-    if text::equal(b"name", f) {
-        return 2;
-    }
-    if text::equal(b"place", f) {
-        return 9;
-    }
-    if text::equal(b"track", f) {
-        return 3;
-    }
-    if text::equal(b"item", f) {
-        return 8;
-    }
-    if text::equal(b"area", f) {
-        return 1;
-    }
-    if text::equal(b"extra", f) {
-        return 7;
-    }
-    if text::equal(b"repeat", f) {
-        return 4;
-    }
-    if text::equal(b"end", f) {
-        return 5;
-    }
-    if text::equal(b"spare", f) {
-        return 6;
-    }
-    if text::equal(b"axis", f) {
-        return 0;
-    }
-    10
-}
-
-// The field of a record that holds its first name; past the fields that are kept where there is none.
-fn first_name_field(said: Record) -> usize
-    ensures { λ r. ⌜ r ≡ ofFirst 14 (λ k. k) said ⌝ }
-{
-    match said {
-        Record::Fault(_) => FIELDS,
-        Record::Axis(_) => FIELDS,
-        Record::Area(_) => 1,
-        Record::Name(_) => 2,
-        Record::Track(_, _, _) => FIELDS,
-        Record::Repeat(_, _) => FIELDS,
-        Record::End(_) => FIELDS,
-        Record::Spare(_, _, _) => FIELDS,
-        Record::Extra(_, _, _) => FIELDS,
-        Record::Item(_, _) => FIELDS,
-        Record::Place(_, _, _) => 3,
-    }
-}
-
-// The field of a record that holds its second name, likewise.
-fn second_name_field(said: Record) -> usize
-    ensures { λ r. ⌜ r ≡ ofSecond 14 (λ k. k) said ⌝ }
-{
-    match said {
-        Record::Fault(_) => FIELDS,
-        Record::Axis(_) => FIELDS,
-        Record::Area(_) => FIELDS,
-        Record::Name(_) => FIELDS,
-        Record::Track(_, _, _) => FIELDS,
-        Record::Repeat(_, _) => FIELDS,
-        Record::End(_) => FIELDS,
-        Record::Spare(_, _, _) => FIELDS,
-        Record::Extra(_, _, _) => FIELDS,
-        Record::Item(_, _) => FIELDS,
-        Record::Place(_, _, _) => 6,
-    }
-}
-
-// The record that a line makes, and where its names lie in the line.
-pub fn read_record(line: &[u8]) -> LineRecord
-    ensures { λ r. ⌜ (r .said ≡ recordOf (split 9 (now (line .entry)))) × (partAt (now (line .entry)) (r .first) ≡ firstName (r .said) (split 9 (now (line .entry)))) × (partAt (now (line .entry)) (r .second) ≡ secondName (r .said) (split 9 (now (line .entry)))) ⌝ }
-{
-    let mut starts = [0usize; STARTS];
-    let fields = text::cut_parts(line, 9, &mut starts);
-    let k = kind(text::field(line, &starts, 0));
-    let said = by_kind(k, line, &starts, fields);
-    LineRecord {
-        said,
-        first: field_place(&starts, first_name_field(said)),
-        second: field_place(&starts, second_name_field(said)),
-    }
 }

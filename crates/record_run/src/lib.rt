@@ -3,9 +3,9 @@ ghost use mathlib.Core.Path.{_≡_};
 ghost use Prim.Native.Nat.{_+_, _*_, _≤_};
 ghost use lib.ListN.{length};
 ghost use lib.Seq.{sets};
-ghost use Rattle.name_store.specs.LineNames.{ofAxis};
 ghost use Rattle.grid_track.specs.Records.{tracksIn, recordsIn};
 ghost use Rattle.panel_tables.specs.Axes.{stateIn};
+ghost use Rattle.panel_tables.specs.Regions.{axisWordsIn};
 ghost use Rattle.panel_rules.specs.Calls.{axisTracks};
 ghost use Rattle.panel_numbers.specs.Records.{runWords, runRefusal, runCount, WrittenRun, writtenRun};
 use coordinates::Axis;
@@ -17,8 +17,10 @@ use panel_numbers::CountAnswer;
 use panel_numbers::numbers::counted;
 use panel_numbers::numbers::uncounted;
 use panel_tables::Panel;
+use panel_tables::axis::state_in;
+use panel_tables::region::PANEL_WORDS;
+use panel_tables::region::axis_words;
 use tables::AxisState;
-use tables::layout::AXIS_WORDS;
 use written_tracks::Repeated;
 use written_tracks::plan::track_count;
 
@@ -125,17 +127,14 @@ fn write_on(
 // Writes the records of an axis of a panel from `first` on, as many as there are and as fit.
 pub fn write_run(
     panel: Panel,
-    columns: &[u64; AXIS_WORDS],
-    rows: &[u64; AXIS_WORDS],
+    words: &[u64; PANEL_WORDS],
     axis: Axis,
     items: &[u8],
     first: u32,
-    words: &mut [u64],
+    records: &mut [u64],
 ) -> CountAnswer
-    ensures { λ r. ⌜ record { answer = r; words = now (words .exit) } ≡ writtenRun (stateIn panel axis) (ofAxis axis (now (columns .entry)) (now (rows .entry))) (now (items .entry)) first (now (words .entry)) ⌝ }
+    ensures { λ r. ⌜ record { answer = r; words = now (records .exit) } ≡ writtenRun (stateIn panel axis) (axisWordsIn axis (now (words .entry))) (now (items .entry)) first (now (records .entry)) ⌝ }
 {
-    match axis {
-        Axis::Column => write_on(panel.columns, columns, items, first, words),
-        Axis::Row => write_on(panel.rows, rows, items, first, words),
-    }
+    let state = state_in(panel, axis);
+    write_on(state, axis_words(words, axis), items, first, records)
 }

@@ -16,15 +16,17 @@ use Rattle.tables.specs.Written.{namesStore}
 use Rattle.tables.proofs.Fits.{Fits}
 use Rattle.tables.proofs.Lays.{pad-take}
 use Rattle.panel_tables.specs.View.{emptyView}
-use Rattle.panel_tables.specs.Written.{zeroPanel, zeroPanelReading, PanelHeld}
+use Rattle.panel_tables.specs.declared.Panel.{Panel}
+use Rattle.panel_tables.specs.declared.Reading.{Reading}
+use Rattle.panel_tables.specs.Regions.{panelWords, panelBytes}
+use Rattle.panel_tables.specs.Written.{zeroPanel, zeroPanelReading, PanelHeld, panelHeldOf}
 use Rattle.panel_tables.proofs.Fits.{FitsPanel, empty-fits-panel}
-use Rattle.panel_tables.proofs.Same.{empty-same}
+use Rattle.panel_tables.proofs.Same.{zeros-same}
 use Rattle.sheet_rules.specs.Sheet.{Outcome, run, sheetOf}
-use Rattle.sheet_rules.specs.Panels.{sizedState, sizedPanel, Tables, pasted, tablesOf}
+use Rattle.sheet_rules.specs.Panels.{sizedState, sizedPanel, Tables, tablesIn, pasted, tablesOf}
 use Rattle.sheet_rules.specs.Read.{SheetRead, shortStores, refusedSheet, readBy, readSheet}
 use Rattle.sheet_rules.proofs.Fits.{sheet-fits}
-use Rattle.sheet_line.specs.Lines.{heldAs}
-use Rattle.sheet.specs.Runs.{HeldRun, heldRun, heldAfter, heldSheet}
+use Rattle.sheet.specs.Runs.{HeldRun, stopped, heldRun, heldAfter, heldSheet}
 use Rattle.sheet.proofs.Follows.{heldSized, Follows, run-follows}
 
 -- ---- the store of an axis
@@ -99,14 +101,14 @@ module _ (o : Outcome) (t : Tables) where
 
 -- zeros, to read into
 abbrev pub zeroHeld : PanelHeld
-zeroHeld = heldAs zeroPanel zeroPanelReading (replicate 12480 0) (replicate 12480 0) (replicate 30000 0) (replicate 30000 0) (replicate 32768 0) (replicate 32768 0) (replicate 128 0) (replicate 2048 0) (replicate 512 0) (replicate 16384 0)
+zeroHeld = panelHeldOf zeroPanel zeroPanelReading (replicate panelWords 0) (replicate panelBytes 0) (replicate 32768 0) (replicate 32768 0)
 
 -- a sheet that is not too long
 sheet-follows : (s : List ℕ) → length s ≤ 32768 → Follows (heldSheet s zeroHeld) (sheetOf s)
 unfolding sheetOf heldSheet
 sheet-follows s k =
     rw (le-ltb 32768 (length s) k)
-    (subst (λ (h : PanelHeld). Follows (heldAfter (heldRun 1 (split 10 s) h)) (run 1 (split 10 s) emptyView)) empty-same
+    (subst (λ (h : PanelHeld). Follows (heldAfter (heldRun 1 (split 10 s) h)) (run 1 (split 10 s) emptyView)) zeros-same
     (run-follows 1 (split 10 s) emptyView empty-fits-panel))
 
 -- a sheet too long
@@ -115,24 +117,33 @@ unfolding readSheet sheetOf readBy
 read-long s t k = rw (lt-ltb 32768 (length s) k)
 
 -- what was read into zeros
-module _ (s : List ℕ) (t : Tables) (r : HeldRun) (e : r ≡ heldSheet s zeroHeld) (few : length s ≤ 32768) where
+module _ (s : List ℕ) (r : HeldRun) (e : r ≡ heldSheet s zeroHeld) (few : length s ≤ 32768) where
   read-follows : Follows r (sheetOf s)
   read-follows = subst (λ (x : HeldRun). Follows x (sheetOf s)) (sym e) (sheet-follows s few)
 
-  pub read-refused : (r .fault ≡ 0 → ⊥) → refusedSheet (record { number = r .fault; line = r .line }) t ≡ readSheet s t
+  pub read-refused : (t : Tables) → (r .fault ≡ 0 → ⊥) → refusedSheet (record { number = r .fault; line = r .line }) t ≡ readSheet s t
   unfolding readSheet
-  read-refused z =
+  read-refused t z =
       let f : Follows r (sheetOf s) = read-follows in
       let y : sheetOf s .fault ≡ 0 → ⊥ = λ x. z (f .fault ∙ x) in
       rw (f .fault, f .line y) (answer-refused (sheetOf s) t y)
 
-  pub read-short : r .fault ≡ 0 → shortStores t ≡ true → refusedSheet (refusalOf short) t ≡ readSheet s t
-  unfolding readSheet
-  read-short z k = answer-short (sheetOf s) t (sym (read-follows .fault) ∙ z) k
+  -- into the words and the bytes that are lent, and the stores
+  module _ (w b cs rs : List ℕ) (z : r .fault ≡ 0) where
+    pub read-short : (ltb (length cs) 32768 || ltb (length rs) 32768) ≡ true → refusedSheet (refusalOf short) (tablesIn w b cs rs) ≡ readSheet s (tablesIn w b cs rs)
+    unfolding readSheet tablesIn
+    read-short k = answer-short (sheetOf s) (tablesIn w b cs rs) (sym (read-follows .fault) ∙ z) k
 
-  pub read-done : r .fault ≡ 0 → shortStores t ≡ false → answerIn (r .held) t ≡ readSheet s t
-  unfolding readSheet
-  read-done z k =
-      let y : sheetOf s .fault ≡ 0 = sym (read-follows .fault) ∙ z in
-      ap (λ (h : PanelHeld). answerIn h t) (read-follows .held y)
-      ∙ answer-done (sheetOf s) t (sheet-fits s) y k
+    pub read-done : (ltb (length cs) 32768 || ltb (length rs) 32768) ≡ false → answerIn (r .held) (tablesIn w b cs rs) ≡ readSheet s (tablesIn w b cs rs)
+    unfolding readSheet tablesIn
+    read-done k =
+        let y : sheetOf s .fault ≡ 0 = sym (read-follows .fault) ∙ z in
+        ap (λ (h : PanelHeld). answerIn h (tablesIn w b cs rs)) (read-follows .held y)
+        ∙ answer-done (sheetOf s) (tablesIn w b cs rs) (sheet-fits s) y k
+
+-- what is answered from words and bytes, where nothing is refused
+pub answer-in : (p : Panel) (q : Reading) (v a c d w b cs rs : List ℕ)
+    → record { answer = record { refusal = noRefusal; panel = p }; tables = tablesIn v a (putBytes cs 0 (partOf c 0 (p .columns .used))) (putBytes rs 0 (partOf d 0 (p .rows .used))) }
+    ≡ answerIn (panelHeldOf p q v a c d) (tablesIn w b cs rs)
+unfolding tablesIn panelHeldOf
+answer-in p q v a c d w b cs rs = refl

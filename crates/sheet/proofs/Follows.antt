@@ -21,7 +21,7 @@ use Rattle.sheet_rules.specs.Lines.{lineStep}
 use Rattle.sheet_rules.specs.Sheet.{axisFault, endFault, Outcome, outcome, ended, run}
 use Rattle.sheet_rules.specs.Panels.{entryWords, sizedPanel}
 use Rattle.sheet_rules.proofs.Fits.{line-fits}
-use Rattle.sheet_line.specs.Lines.{lineIn, heldAs}
+use Rattle.sheet_line.specs.Lines.{lineIn}
 use Rattle.sheet_line.proofs.Same.{line-fault, line-held}
 use Rattle.sheet_end.specs.End.{EndedAxis, endFaultIn, endIn}
 use Rattle.sheet_end.proofs.Same.{end-fault, end-same}
@@ -30,7 +30,20 @@ use Rattle.sheet.specs.Runs.{HeldRun, stopped, heldRun, endedPanel, held
 -- what is held for a view whose sheet has ended
 unfoldable pub heldSized : PanelView → PanelHeld
 heldSized v =
-    heldAs (sizedPanel v) (panelReadingOf v) (wordsWith (v .columns) (entryWords (v .columns))) (wordsWith (v .rows) (entryWords (v .rows))) (v .columns .marks) (v .rows .marks) (namesStore (v .columns)) (namesStore (v .rows)) (areaWords (v .areas)) (areaStore (v .areas)) (placementWords (v .placements)) (placementStore (v .placements))
+    record {
+      panel = sizedPanel v;
+      reading = panelReadingOf v;
+      columns = wordsWith (v .columns) (entryWords (v .columns));
+      rows = wordsWith (v .rows) (entryWords (v .rows));
+      columnMarks = v .columns .marks;
+      rowMarks = v .rows .marks;
+      columnBytes = namesStore (v .columns);
+      rowBytes = namesStore (v .rows);
+      areas = areaWords (v .areas);
+      areaBytes = areaStore (v .areas);
+      placements = placementWords (v .placements);
+      placementBytes = placementStore (v .placements);
+    }
 
 -- a run and what it means: a refused one holds nothing that is answered
 pub record Follows (r : HeldRun) (o : Outcome) : Type 0 where

@@ -7,7 +7,11 @@ use lib.Dec.{eqb}
 use lib.ListN.{length}
 use borrow.Author.Tests.{eq-eqb, ne-eqb}
 use Rattle.text.specs.Split.{split, onto}
-use Rattle.panel_tables.specs.Written.{PanelHeld, PanelStepped}
+use Rattle.coordinates.specs.declared.axis.Axis.the-variants.{Column, Row}
+use Rattle.panel_tables.specs.declared.Panel.{Panel}
+use Rattle.panel_tables.specs.declared.Reading.{Reading}
+use Rattle.panel_tables.specs.Regions.{axisWordsIn, areaWordsIn, placementWordsIn}
+use Rattle.panel_tables.specs.Written.{PanelHeld, PanelStepped, panelHeldOf}
 use Rattle.sheet_line.specs.Lines.{lineIn}
 use Rattle.sheet.specs.Runs.{HeldRun, stopped, heldRun, EndedPanel, endedPanel, atEnd, heldAfter, heldSheet}
 
@@ -57,14 +61,24 @@ run-last n h = refl
 
 -- ---- the end after the lines
 
-module _ (s : List ℕ) (h : PanelHeld) (r : HeldRun) (q : r ≡ heldRun 1 (split 10 s) h) where
+module _ (s : List ℕ) (h : PanelHeld) where
   -- a refused line
-  pub end-none : (r .fault ≡ 0 → ⊥) → r ≡ heldSheet s h
+  pub end-none : (r : HeldRun) → r ≡ heldRun 1 (split 10 s) h → (r .fault ≡ 0 → ⊥) → r ≡ heldSheet s h
   unfolding heldSheet heldAfter
-  end-none z = rw (← q, ne-eqb (r .fault) 0 z)
+  end-none r q z = rw (← q, ne-eqb (r .fault) 0 z)
 
   -- none is refused
-  pub end-after : r .fault ≡ 0 → (e : EndedPanel) → e ≡ endedPanel (r .held .panel) (r .held .reading) (r .held .columns) (r .held .rows)
+  end-after : (r : HeldRun) → r ≡ heldRun 1 (split 10 s) h → r .fault ≡ 0 → (e : EndedPanel) → e ≡ endedPanel (r .held .panel) (r .held .reading) (r .held .columns) (r .held .rows)
       → stopped (e .fault) (r .line) (atEnd (r .held) e) ≡ heldSheet s h
   unfolding heldSheet heldAfter
-  end-after z e p = rw (← q, eq-eqb (r .fault) 0 z, ← p)
+  end-after r q z e p = rw (← q, eq-eqb (r .fault) 0 z, ← p)
+
+  -- none is refused, and the end leaves the areas and the placements among the words
+  pub end-words : (f n g : ℕ) (p u : Panel) (q : Reading) (w v b c d : List ℕ)
+      → stopped f n (panelHeldOf p q w b c d) ≡ heldRun 1 (split 10 s) h → f ≡ 0
+      → record { fault = g; panel = u; columns = axisWordsIn Column v; rows = axisWordsIn Row v } ≡ endedPanel p q (axisWordsIn Column w) (axisWordsIn Row w)
+      → areaWordsIn v ≡ areaWordsIn w → placementWordsIn v ≡ placementWordsIn w
+      → stopped g n (panelHeldOf u q v b c d) ≡ heldSheet s h
+  unfolding panelHeldOf
+  end-words f n g p u q w v b c d r z e x y =
+      rw (x, y) (end-after (stopped f n (panelHeldOf p q w b c d)) r z (record { fault = g; panel = u; columns = axisWordsIn Column v; rows = axisWordsIn Row v }) e)

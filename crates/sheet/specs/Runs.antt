@@ -9,8 +9,7 @@ use Rattle.records.specs.Faults.{firstOf}
 use Rattle.panel_tables.specs.declared.Panel.{Panel}
 use Rattle.panel_tables.specs.declared.Reading.{Reading}
 use Rattle.panel_tables.specs.Written.{PanelHeld, PanelStepped}
-use Rattle.sheet_rules.specs.Panels.{Tables}
-use Rattle.sheet_line.specs.Lines.{lineIn, heldAs}
+use Rattle.sheet_line.specs.Lines.{lineIn}
 use Rattle.sheet_end.specs.End.{EndedAxis, endIn}
 
 -- a refusal's number, 0 where there is none, its line, and what is held
@@ -70,7 +69,21 @@ endedPanel p r columns rows = endedBy p (endIn (p .columns) (r .columns) columns
 
 -- what is held, with the panel and the words that the end leaves
 abbrev pub atEnd : PanelHeld → EndedPanel → PanelHeld
-atEnd h e = heldAs (e .panel) (h .reading) (e .columns) (e .rows) (h .columnMarks) (h .rowMarks) (h .columnBytes) (h .rowBytes) (h .areas) (h .areaBytes) (h .placements) (h .placementBytes)
+atEnd h e =
+    record {
+      panel = e .panel;
+      reading = h .reading;
+      columns = e .columns;
+      rows = e .rows;
+      columnMarks = h .columnMarks;
+      rowMarks = h .rowMarks;
+      columnBytes = h .columnBytes;
+      rowBytes = h .rowBytes;
+      areas = h .areas;
+      areaBytes = h .areaBytes;
+      placements = h .placements;
+      placementBytes = h .placementBytes;
+    }
 
 -- the end, of which n is the line
 abbrev pub heldEnd : ℕ → PanelHeld → HeldRun
@@ -85,19 +98,3 @@ heldAfter r = cond (eqb (r .fault) 0) (heldEnd (r .line) (r .held)) r
 -- lines and end, from the first line on
 unfoldable pub heldSheet : List ℕ → PanelHeld → HeldRun
 heldSheet s h = heldAfter (heldRun 1 (split 10 s) h)
-
--- everything lent with a panel, from the arrays and stores
-abbrev pub inTables : List ℕ → List ℕ → List ℕ → List ℕ → List ℕ → List ℕ → List ℕ → List ℕ → List ℕ → List ℕ → Tables
-inTables columns rows columnMarks rowMarks areas areaBytes placements placementBytes columnStore rowStore =
-    record {
-      columns = columns;
-      rows = rows;
-      columnMarks = columnMarks;
-      rowMarks = rowMarks;
-      areas = areas;
-      areaBytes = areaBytes;
-      placements = placements;
-      placementBytes = placementBytes;
-      columnStore = columnStore;
-      rowStore = rowStore;
-    }

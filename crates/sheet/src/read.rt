@@ -2,22 +2,18 @@
 ghost use mathlib.Core.Path.{_≡_};
 ghost use Rattle.tables.specs.Runs.{putBytes, partOf};
 ghost use Rattle.panel_tables.specs.Written.{zeroPanel};
+ghost use Rattle.sheet_rules.specs.Panels.{tablesIn};
 ghost use Rattle.sheet_rules.specs.Read.{SheetRead, readSheet};
-ghost use Rattle.sheet.specs.Runs.{inTables};
 use crate::end::read_panel;
 use coordinates::Refusal;
 use coordinates::refusal::SHORT;
 use coordinates::refusal::UNREAD;
 use coordinates::refusal::no_refusal;
-use panel_tables::area::AREA_BYTES;
-use panel_tables::area::AREA_WORDS;
-use panel_tables::placement::PLACEMENT_BYTES;
-use panel_tables::placement::PLACEMENT_WORDS;
+use panel_tables::region::PANEL_BYTES;
+use panel_tables::region::PANEL_WORDS;
 use panel_tables::state::zero_panel;
 use sheet_rules::SheetAnswer;
 use tables::layout::AXIS_BYTES;
-use tables::layout::AXIS_MARKS;
-use tables::layout::AXIS_WORDS;
 use tables::name::name_part;
 use tables::name::put_bytes;
 
@@ -45,44 +41,26 @@ fn copy_names(store: &mut [u8], bytes: &[u8; AXIS_BYTES], used: u32)
 // The panel that a sheet describes, in the answer and the lent arrays and stores. On a refusal all that is lent stays as it was.
 pub fn read_sheet(
     sheet: &[u8],
-    columns: &mut [u64; AXIS_WORDS],
-    rows: &mut [u64; AXIS_WORDS],
-    columnmarks: &mut [u8; AXIS_MARKS],
-    rowmarks: &mut [u8; AXIS_MARKS],
-    areas: &mut [u64; AREA_WORDS],
-    areabytes: &mut [u8; AREA_BYTES],
-    placements: &mut [u64; PLACEMENT_WORDS],
-    placementbytes: &mut [u8; PLACEMENT_BYTES],
+    words: &mut [u64; PANEL_WORDS],
+    bytes: &mut [u8; PANEL_BYTES],
     columnstore: &mut [u8],
     rowstore: &mut [u8],
 ) -> SheetAnswer
-    ensures { λ r. ⌜ record { answer = r; tables = inTables (now (columns .exit)) (now (rows .exit)) (now (columnmarks .exit)) (now (rowmarks .exit)) (now (areas .exit)) (now (areabytes .exit)) (now (placements .exit)) (now (placementbytes .exit)) (now (columnstore .exit)) (now (rowstore .exit)) } ≡ readSheet (now (sheet .entry)) (inTables (now (columns .entry)) (now (rows .entry)) (now (columnmarks .entry)) (now (rowmarks .entry)) (now (areas .entry)) (now (areabytes .entry)) (now (placements .entry)) (now (placementbytes .entry)) (now (columnstore .entry)) (now (rowstore .entry))) ⌝ }
+    ensures { λ r. ⌜ record { answer = r; tables = tablesIn (now (words .exit)) (now (bytes .exit)) (now (columnstore .exit)) (now (rowstore .exit)) } ≡ readSheet (now (sheet .entry)) (tablesIn (now (words .entry)) (now (bytes .entry)) (now (columnstore .entry)) (now (rowstore .entry))) ⌝ }
 {
     if SHEET_BYTES < sheet.len() {
         return refused_sheet(UNREAD, 0);
     }
-    let mut columnwords = [0u64; AXIS_WORDS];
-    let mut rowwords = [0u64; AXIS_WORDS];
-    let mut columnitems = [0u8; AXIS_MARKS];
-    let mut rowitems = [0u8; AXIS_MARKS];
+    let mut panelwords = [0u64; PANEL_WORDS];
+    let mut panelbytes = [0u8; PANEL_BYTES];
     let mut columnbytes = [0u8; AXIS_BYTES];
     let mut rowbytes = [0u8; AXIS_BYTES];
-    let mut areawords = [0u64; AREA_WORDS];
-    let mut areanames = [0u8; AREA_BYTES];
-    let mut placementwords = [0u64; PLACEMENT_WORDS];
-    let mut placementnames = [0u8; PLACEMENT_BYTES];
     let run = read_panel(
         sheet,
-        &mut columnwords,
-        &mut rowwords,
-        &mut columnitems,
-        &mut rowitems,
+        &mut panelwords,
+        &mut panelbytes,
         &mut columnbytes,
         &mut rowbytes,
-        &mut areawords,
-        &mut areanames,
-        &mut placementwords,
-        &mut placementnames,
     );
     let fault = run.fault;
     if fault != 0 {
@@ -91,14 +69,8 @@ pub fn read_sheet(
     if (columnstore.len() < AXIS_BYTES) | (rowstore.len() < AXIS_BYTES) {
         return refused_sheet(SHORT, 0);
     }
-    *columns = columnwords;
-    *rows = rowwords;
-    *columnmarks = columnitems;
-    *rowmarks = rowitems;
-    *areas = areawords;
-    *areabytes = areanames;
-    *placements = placementwords;
-    *placementbytes = placementnames;
+    *words = panelwords;
+    *bytes = panelbytes;
     copy_names(columnstore, &columnbytes, run.panel.columns.used);
     copy_names(rowstore, &rowbytes, run.panel.rows.used);
     let panel = run.panel;

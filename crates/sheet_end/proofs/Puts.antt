@@ -5,13 +5,16 @@ use mathlib.Core.Bool.{Bool, true, false, cond, _||_}
 use mathlib.Core.List.{List, [], _∷_, map}
 use native.Mathlib.Omega.{arith}
 use borrow.Author.Tests.{le-ltb}
-use lib.Dec.{ltb}
+use lib.Dec.{eqb, ltb}
 use lib.ListN.{length, drop, length-map}
 use lib.Seq.{sets, length-sets, sets-eq, take-at}
 use Rattle.name_store.specs.declared.NameEntry.{NameEntry}
 use Rattle.template_names.specs.declared.WrittenNames.{WrittenNames}
 use Rattle.template_names.specs.Writing.{writtenEntries, entryWord, TableAfter, namesWritten}
+use Rattle.tables.specs.declared.AxisState.{AxisState}
+use Rattle.tables.specs.declared.AxisReading.{AxisReading}
 use Rattle.tables.specs.Runs.{partOf}
+use Rattle.sheet_end.specs.End.{EndedAxis, endFaultIn, entriesIn, endIn}
 
 -- no entries, nothing to put
 pub none-put : (w : List ℕ) (l : List NameEntry) (n : ℕ) → n ≡ length l → n ≡ 0 → w ≡ sets w 8384 (map entryWord l)
@@ -40,3 +43,12 @@ module _ (names components d after : List ℕ) (repetitions : ℕ) (r : WrittenN
       let s : after ≡ sets d 0 (map entryWord w) =
       ap (λ (t : TableAfter). t .entries) e ∙ rw (le-ltb 4096 (length w) (omega arith), le-ltb (length d) (length w) (omega arith)) in
       rw (s, sets-eq (map entryWord w) d 0 (omega arith)) (take-at (map entryWord w) (drop (0 + length (map entryWord w)) d) n l)
+
+-- the end of an axis keeps the length of its words
+pub end-length : (s : AxisState) (r : AxisReading) (w : List ℕ) → length (endIn s r w .words) ≡ length w
+unfolding endIn
+end-length s r w = go (eqb (endFaultIn s r w) 0) _ _ (length-sets w 8384 (map entryWord (entriesIn s w))) refl
+  where
+    go : (t : Bool) (a b : EndedAxis) → length (a .words) ≡ length w → length (b .words) ≡ length w → length (cond t a b .words) ≡ length w
+    go true a b x y = x
+    go false a b x y = y

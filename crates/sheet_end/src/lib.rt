@@ -11,7 +11,6 @@ use crate::written::count_entries;
 use crate::written::put_entries;
 use tables::AxisReading;
 use tables::AxisState;
-use tables::layout::AXIS_WORDS;
 
 // An axis after the last line: the number of its refusal, 0 where there is none, and its state, on a refusal as it came.
 pub struct AxisEnd {
@@ -37,7 +36,7 @@ fn end_fault(kind: u32, refused: u32, entries: u32) -> u32
 
 // The line after the last, for one axis: its size is put into its state and its entries into their region of the words.
 // 1: a repeat is open; 4: an explicit count above 10,000; 8: more than 4,096 entries. A refused axis stays as it came.
-pub fn end_axis(state: AxisState, reading: AxisReading, words: &mut [u64; AXIS_WORDS]) -> AxisEnd
+pub fn end_axis(state: AxisState, reading: AxisReading, words: &mut [u64]) -> AxisEnd
     ensures { λ r. ⌜ record { answer = r; words = now (words .exit) } ≡ endIn state reading (now (words .entry)) ⌝ }
 {
     let size = size_in(state, words);

@@ -8,7 +8,6 @@ use explicit_size::compute_explicit_grid_size_in_axis;
 use sizing::word::length_of;
 use sizing::word::sizing_of;
 use tables::AxisState;
-use tables::layout::AXIS_WORDS;
 use tables::layout::MAXIMUMS;
 use tables::layout::MINIMUMS;
 use tables::layout::words_part;
@@ -34,7 +33,7 @@ pub fn strategy_in(state: AxisState) -> AutoRepeatStrategy
 }
 
 // The explicit size, as layer 3 finds it.
-pub fn size_in(state: AxisState, words: &[u64; AXIS_WORDS]) -> ExplicitSize
+pub fn size_in(state: AxisState, words: &[u64]) -> ExplicitSize
     ensures { λ r. ⌜ r ≡ sizeIn state (now (words .entry)) ⌝ }
 {
     compute_explicit_grid_size_in_axis(

@@ -7,16 +7,16 @@ ghost use lib.Seq.{sets};
 ghost use Rattle.template_names.specs.Writing.{writtenEntries, entryWord, namesWritten};
 ghost use Rattle.sheet_end.specs.End.{componentsIn, namesIn};
 use tables::AxisState;
-use tables::layout::AXIS_WORDS;
 use tables::layout::ENTRIES;
 use tables::layout::NAMES;
 use tables::layout::words_part;
+use tables::write::set_word;
 use template_names::WrittenNames;
 use template_names::count::count_written_names;
 use template_names::write_out::write_names;
 
 // How many entries an axis has with so many repetitions, held at 4,097.
-pub fn count_entries(state: AxisState, repetitions: u32, words: &[u64; AXIS_WORDS]) -> u32
+pub fn count_entries(state: AxisState, repetitions: u32, words: &[u64]) -> u32
     ensures { λ r. ⌜ r ≡ min 4097 (length (writtenEntries (namesIn state (now (words .entry))) (componentsIn state (now (words .entry))) repetitions)) ⌝ }
 {
     count_written_names(
@@ -30,7 +30,7 @@ pub fn count_entries(state: AxisState, repetitions: u32, words: &[u64; AXIS_WORD
 fn write_entries(
     state: AxisState,
     repetitions: u32,
-    words: &[u64; AXIS_WORDS],
+    words: &[u64],
     entries: &mut [u64; 4096],
 ) -> WrittenNames
     ensures { λ r. ⌜ record { answer = r; entries = now (entries .exit) } ≡ namesWritten (namesIn state (now (words .entry))) (componentsIn state (now (words .entry))) repetitions (now (entries .entry)) ⌝ }
@@ -43,15 +43,15 @@ fn write_entries(
     )
 }
 
-// Copies a table into the words from a place on.
+// Copies a table into the words from a place on, as far as they reach.
 fn copy_words(words: &mut [u64], at: usize, table: &[u64])
-    requires { ⌜ at + length (now table) ≤ length (now words) ⌝ }
+    requires { ⌜ at + length (now table) ≤ 12480 ⌝ }
     ensures { λ _. ⌜ now (words .exit) ≡ sets (now (words .entry)) at (now (table .entry)) ⌝ }
 {
     let mut j: usize = 0;
     let mut o = at;
     while j < table.len() {
-        words[o] = table[j];
+        set_word(words, o, table[j]);
         o += 1;
         j += 1;
     }
@@ -59,12 +59,7 @@ fn copy_words(words: &mut [u64], at: usize, table: &[u64])
 
 // Writes the entries of an axis into their place in the words. Names and entries lie in the same words, so a table of its own
 // is written first, where there are entries.
-pub(crate) fn put_entries(
-    state: AxisState,
-    repetitions: u32,
-    count: u32,
-    words: &mut [u64; AXIS_WORDS],
-)
+pub(crate) fn put_entries(state: AxisState, repetitions: u32, count: u32, words: &mut [u64])
     requires { ⌜ (count ≡ length (writtenEntries (namesIn state (now words)) (componentsIn state (now words)) repetitions)) × (count ≤ 4096) ⌝ }
     ensures { λ _. ⌜ now (words .exit) ≡ sets (now (words .entry)) 8384 (map entryWord (writtenEntries (namesIn state (now (words .entry))) (componentsIn state (now (words .entry))) repetitions)) ⌝ }
 {

@@ -9,8 +9,6 @@ use Rattle.records.specs.declared.Record.the-variants.{Fault, Axis as AxisLine,
 use Rattle.records.specs.Words.{at}
 use Rattle.records.specs.Faults.{firstOf}
 use Rattle.records.specs.Records.{recordOf, faultOf}
-use Rattle.panel_tables.specs.declared.Panel.{Panel}
-use Rattle.panel_tables.specs.declared.Reading.{Reading}
 use Rattle.panel_tables.specs.Areas.{hasAreaIn}
 use Rattle.panel_tables.specs.Axes.{readingIn}
 use Rattle.panel_tables.specs.Written.{PanelHeld, PanelStepped}
@@ -80,21 +78,3 @@ recordIn h fs r =
 -- a line as its fields
 unfoldable pub lineIn : PanelHeld → List (List ℕ) → PanelStepped
 lineIn h fs = recordIn h fs (recordOf fs)
-
--- what a panel holds, from the state, the reading and the arrays lent
-abbrev pub heldAs : Panel → Reading → List ℕ → List ℕ → List ℕ → List ℕ → List ℕ → List ℕ → List ℕ → List ℕ → List ℕ → List ℕ → PanelHeld
-heldAs p r columns rows columnMarks rowMarks columnBytes rowBytes areas areaBytes placements placementBytes =
-    record {
-      panel = p;
-      reading = r;
-      columns = columns;
-      rows = rows;
-      columnMarks = columnMarks;
-      rowMarks = rowMarks;
-      columnBytes = columnBytes;
-      rowBytes = rowBytes;
-      areas = areas;
-      areaBytes = areaBytes;
-      placements = placements;
-      placementBytes = placementBytes;
-    }

@@ -1,6 +1,6 @@
 -- What a record is written to, and the faults of a record before it is written over no more than they look at.
 use Prim.Native.Nat.{ℕ}
-use mathlib.Core.List.{List}
+use mathlib.Core.List.{List, [], _∷_}
 use mathlib.Core.Bool.{cond}
 use lib.Dec.{eqb}
 use Rattle.coordinates.specs.declared.axis.Axis.{Axis}
@@ -8,7 +8,6 @@ use Rattle.coordinates.specs.declared.axis.Axis.the-variants.{Column, Row}
 use Rattle.records.specs.declared.Record.{Record}
 use Rattle.records.specs.declared.Record.the-variants.{Fault, Axis as AxisLine, Area, Name, Track, Repeat, End, Spare, Extra, Item, Place}
 use Rattle.records.specs.declared.PlaceEnd.{PlaceEnd}
-use Rattle.records.specs.Words.{at}
 use Rattle.records.specs.Faults.{firstOf}
 use Rattle.records.specs.Records.{faultOf}
 use Rattle.panel_tables.specs.declared.Panel.{Panel}
@@ -46,22 +45,26 @@ partOf (Extra a n p) = axisPart a
 partOf (Item a i) = axisPart a
 partOf (Place a s e) = Placements a s e
 
--- an area with its name, which is field 1
-abbrev pub areaIn : Panel → List ℕ → List ℕ → List (List ℕ) → AreaEdges → InAreas
-areaIn p words bytes fs e = putArea p words bytes (at fs 1) e
+-- the fields of a `name` record as far as its name
+abbrev pub named : List ℕ → List (List ℕ)
+named name = [] ∷ [] ∷ name ∷ []
 
--- a placement with its names, which are fields 3 and 6
-abbrev pub placeIn : Panel → List ℕ → List ℕ → List (List ℕ) → Axis → PlaceEnd → PlaceEnd → InAreas
-placeIn p words bytes fs a s e =
-    putPlacement p words bytes a (placedEnd (at fs 3) s .end) (placedEnd (at fs 3) s .name) (placedEnd (at fs 6) e .end) (placedEnd (at fs 6) e .name)
+-- a placement with its names
+abbrev pub placeIn : Panel → List ℕ → List ℕ → Axis → PlaceEnd → List ℕ → PlaceEnd → List ℕ → InAreas
+placeIn p words bytes a s first e second =
+    putPlacement p words bytes a (placedEnd first s .end) (placedEnd first s .name) (placedEnd second e .end) (placedEnd second e .name)
 
--- the record written there
-abbrev pub partStep : PanelHeld → List (List ℕ) → Record → Part → PanelStepped
-partStep h fs r Nothing = stayed h
-partStep h fs r Columns = onHeld h Column fs r
-partStep h fs r Rows = onHeld h Row fs r
-partStep h fs r (Areas e) = ofAreas h (areaIn (h .panel) (h .areas) (h .areaBytes) fs e)
-partStep h fs r (Placements a s e) = ofPlacements h (placeIn (h .panel) (h .placements) (h .placementBytes) fs a s e)
+-- the record written there, with its names
+abbrev pub partStep : PanelHeld → List ℕ → List ℕ → Record → Part → PanelStepped
+partStep h first second r Nothing = stayed h
+partStep h first second r Columns = onHeld h Column (named first) r
+partStep h first second r Rows = onHeld h Row (named first) r
+partStep h first second r (Areas e) = ofAreas h (putArea (h .panel) (h .areas) (h .areaBytes) first e)
+partStep h first second r (Placements a s e) = ofPlacements h (placeIn (h .panel) (h .placements) (h .placementBytes) a s first e second)
+
+-- what a record does with its names
+abbrev pub namedStep : PanelHeld → List ℕ → List ℕ → Record → PanelStepped
+namedStep h first second r = partStep h first second r (partOf r)
 
 -- ---- the faults before
 
@@ -73,23 +76,23 @@ axisTwice r a = cond (eqb (readingIn r a .seen) 0) 0 6
 abbrev pub areaTwice : ℕ → List ℕ → List ℕ → List ℕ → ℕ
 areaTwice areas words bytes n = cond (hasAreaIn areas words bytes n) 6 0
 
--- either; the name of an `area` record is field 1
-abbrev pub twiceOf : ℕ → Reading → List ℕ → List ℕ → List (List ℕ) → Record → ℕ
-twiceOf areas reading words bytes fs (Fault n) = 0
-twiceOf areas reading words bytes fs (AxisLine a) = axisTwice reading (a .axis)
-twiceOf areas reading words bytes fs (Area a) = areaTwice areas words bytes (at fs 1)
-twiceOf areas reading words bytes fs (Name a) = 0
-twiceOf areas reading words bytes fs (Track a min max) = 0
-twiceOf areas reading words bytes fs (Repeat a n) = 0
-twiceOf areas reading words bytes fs (End a) = 0
-twiceOf areas reading words bytes fs (Spare a min max) = 0
-twiceOf areas reading words bytes fs (Extra a n p) = 0
-twiceOf areas reading words bytes fs (Item a i) = 0
-twiceOf areas reading words bytes fs (Place a s e) = 0
+-- either, where a record's first name is `name`
+abbrev pub twiceOf : ℕ → Reading → List ℕ → List ℕ → List ℕ → Record → ℕ
+twiceOf areas reading words bytes name (Fault n) = 0
+twiceOf areas reading words bytes name (AxisLine a) = axisTwice reading (a .axis)
+twiceOf areas reading words bytes name (Area a) = areaTwice areas words bytes name
+twiceOf areas reading words bytes name (Name a) = 0
+twiceOf areas reading words bytes name (Track a min max) = 0
+twiceOf areas reading words bytes name (Repeat a n) = 0
+twiceOf areas reading words bytes name (End a) = 0
+twiceOf areas reading words bytes name (Spare a min max) = 0
+twiceOf areas reading words bytes name (Extra a n p) = 0
+twiceOf areas reading words bytes name (Item a i) = 0
+twiceOf areas reading words bytes name (Place a s e) = 0
 
 -- of the faults before, the one that comes first
-abbrev pub beforeOf : ℕ → Reading → List ℕ → List ℕ → List (List ℕ) → Record → ℕ
-beforeOf areas reading words bytes fs r = firstOf (faultOf r) (firstOf (twiceOf areas reading words bytes fs r) (lateIn (reading .stage) r))
+abbrev pub beforeOf : ℕ → Reading → List ℕ → List ℕ → List ℕ → Record → ℕ
+beforeOf areas reading words bytes name r = firstOf (faultOf r) (firstOf (twiceOf areas reading words bytes name r) (lateIn (reading .stage) r))
 
 -- ---- the line
 

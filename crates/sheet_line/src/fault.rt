@@ -1,6 +1,5 @@
 // The faults that a record has before it is written: by itself, by an earlier record of the same, by the kind order.
 ghost use mathlib.Core.Path.{_≡_};
-ghost use Rattle.text.specs.Split.{split};
 ghost use Rattle.records.specs.Records.{faultOf};
 ghost use Rattle.sheet_line.specs.Lines.{stageIn, lateIn};
 ghost use Rattle.sheet_line.specs.Parts.{axisTwice, areaTwice, twiceOf, beforeOf};
@@ -8,8 +7,6 @@ use coordinates::Axis;
 use coordinates::refusal::LATE;
 use coordinates::refusal::TWICE;
 use panel_tables::Reading;
-use panel_tables::area::AREA_BYTES;
-use panel_tables::area::AREA_WORDS;
 use panel_tables::area::has_area;
 use panel_tables::axis::reading_in;
 use records::Record;
@@ -46,12 +43,7 @@ fn axis_twice(reading: Reading, axis: Axis) -> u32
 }
 
 // An area name again.
-fn area_twice(
-    count: u32,
-    areas: &[u64; AREA_WORDS],
-    areabytes: &[u8; AREA_BYTES],
-    name: &[u8],
-) -> u32
+fn area_twice(count: u32, areas: &[u64], areabytes: &[u8], name: &[u8]) -> u32
     ensures { λ r. ⌜ r ≡ areaTwice count (now (areas .entry)) (now (areabytes .entry)) (now (name .entry)) ⌝ }
 {
     if has_area(count, areas, areabytes, name) {
@@ -60,16 +52,16 @@ fn area_twice(
     0
 }
 
-// An area name or axis record again; the name of an `area` record is field 1 of the line.
+// An area name or axis record again, where a record's first name is `name`.
 fn twice(
     count: u32,
     reading: Reading,
-    areas: &[u64; AREA_WORDS],
-    areabytes: &[u8; AREA_BYTES],
-    line: &[u8],
+    areas: &[u64],
+    areabytes: &[u8],
+    name: &[u8],
     said: Record,
 ) -> u32
-    ensures { λ r. ⌜ r ≡ twiceOf count reading (now (areas .entry)) (now (areabytes .entry)) (split 9 (now (line .entry))) said ⌝ }
+    ensures { λ r. ⌜ r ≡ twiceOf count reading (now (areas .entry)) (now (areabytes .entry)) (now (name .entry)) said ⌝ }
 {
     match said {
         Record::Fault(_) => 0,
@@ -77,7 +69,7 @@ fn twice(
             let axis = a.axis;
             axis_twice(reading, axis)
         }
-        Record::Area(_) => area_twice(count, areas, areabytes, text::part(line, 9, 1)),
+        Record::Area(_) => area_twice(count, areas, areabytes, name),
         Record::Name(_) => 0,
         Record::Track(_, _, _) => 0,
         Record::Repeat(_, _) => 0,
@@ -119,19 +111,19 @@ fn late(reached: u32, said: Record) -> u32
     0
 }
 
-// Of the faults that a record has before it is written, the one that comes first.
+// Of the faults that a record whose first name is `name` has before it is written, the one that comes first.
 pub fn fault_before(
     count: u32,
     reading: Reading,
-    areas: &[u64; AREA_WORDS],
-    areabytes: &[u8; AREA_BYTES],
-    line: &[u8],
+    areas: &[u64],
+    areabytes: &[u8],
+    name: &[u8],
     said: Record,
 ) -> u32
-    ensures { λ r. ⌜ r ≡ beforeOf count reading (now (areas .entry)) (now (areabytes .entry)) (split 9 (now (line .entry))) said ⌝ }
+    ensures { λ r. ⌜ r ≡ beforeOf count reading (now (areas .entry)) (now (areabytes .entry)) (now (name .entry)) said ⌝ }
 {
     let first = own(said);
-    let again = twice(count, reading, areas, areabytes, line, said);
+    let again = twice(count, reading, areas, areabytes, name, said);
     let after = late(reading.stage, said);
     first_fault(first, first_fault(again, after))
 }

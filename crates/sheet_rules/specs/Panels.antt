@@ -9,6 +9,8 @@ use Rattle.tables.specs.View.{AxisView, nameOf, axisNames, axisBytes}
 use Rattle.tables.specs.Written.{componentsFrom, recordWord, stateOf, wordsWith}
 use Rattle.panel_tables.specs.declared.Panel.{Panel}
 use Rattle.panel_tables.specs.View.{PanelView}
+use Rattle.coordinates.specs.declared.axis.Axis.the-variants.{Column, Row}
+use Rattle.panel_tables.specs.Regions.{axisWordsIn, areaWordsIn, placementWordsIn, marksIn, areaBytesIn, placementBytesIn}
 use Rattle.panel_tables.specs.Written.{panelOf, areaWords, areaStore, placementWords, placementStore}
 use Rattle.sheet_rules.specs.Sheet.{sizeOf, explicitOf}
 
@@ -71,6 +73,22 @@ pub record Tables : Type 0 where
   pub placementBytes : List ℕ
   pub columnStore : List ℕ
   pub rowStore : List ℕ
+
+-- the same, of the words, the bytes and the two stores that are lent
+unfoldable pub tablesIn : List ℕ → List ℕ → List ℕ → List ℕ → Tables
+tablesIn words bytes columnStore rowStore =
+    record {
+      columns = axisWordsIn Column words;
+      rows = axisWordsIn Row words;
+      columnMarks = marksIn Column bytes;
+      rowMarks = marksIn Row bytes;
+      areas = areaWordsIn words;
+      areaBytes = areaBytesIn bytes;
+      placements = placementWordsIn words;
+      placementBytes = placementBytesIn bytes;
+      columnStore = columnStore;
+      rowStore = rowStore;
+    }
 
 -- the names' bytes first, and the rest of the store as it was
 abbrev pub pasted : AxisView → List ℕ → List ℕ

@@ -4,23 +4,25 @@ mod panel;
 
 ghost use mathlib.Core.Path.{_≡_};
 ghost use Rattle.text.specs.Split.{split};
-ghost use Rattle.sheet_line.specs.Lines.{lineIn, heldAs};
-ghost use Rattle.sheet_line.specs.Parts.{stagedRead};
+ghost use Rattle.panel_tables.specs.Regions.{areaWordsIn, areaBytesIn};
+ghost use Rattle.panel_tables.specs.Written.{panelHeldOf};
+ghost use Rattle.sheet_line.specs.Lines.{lineIn};
+ghost use Rattle.sheet_line.specs.Parts.{beforeOf, stagedRead};
 use panel::panel_record;
 use panel_tables::Panel;
 use panel_tables::PanelRead;
 use panel_tables::Reading;
-use panel_tables::area::AREA_BYTES;
-use panel_tables::area::AREA_WORDS;
-use panel_tables::placement::PLACEMENT_BYTES;
-use panel_tables::placement::PLACEMENT_WORDS;
+use panel_tables::region::PANEL_BYTES;
+use panel_tables::region::PANEL_WORDS;
+use panel_tables::region::area_bytes;
+use panel_tables::region::area_words;
 use record_lines::read_record;
+use records::Record;
 use records::first_fault;
 use sheet_line::fault::fault_before;
 use sheet_line::fault::stage;
 use tables::layout::AXIS_BYTES;
-use tables::layout::AXIS_MARKS;
-use tables::layout::AXIS_WORDS;
+use text::part_at;
 
 // An answer with the line's fault and its place in the kind order.
 fn at_stage(fault: u32, stage: u32, read: PanelRead) -> PanelRead
@@ -36,43 +38,59 @@ fn at_stage(fault: u32, stage: u32, read: PanelRead) -> PanelRead
     }
 }
 
+// The faults of a record whose first name is `name` before it is written.
+fn fault_here(
+    panel: Panel,
+    reading: Reading,
+    words: &[u64; PANEL_WORDS],
+    bytes: &[u8; PANEL_BYTES],
+    name: &[u8],
+    said: Record,
+) -> u32
+    ensures { λ r. ⌜ r ≡ beforeOf (panel .areas) reading (areaWordsIn (now (words .entry))) (areaBytesIn (now (bytes .entry))) (now (name .entry)) said ⌝ }
+{
+    fault_before(
+        panel.areas,
+        reading,
+        area_words(words),
+        area_bytes(bytes),
+        name,
+        said,
+    )
+}
+
 // What a line does to a panel, to the reading of it and to its tables. The fault is the first of the line's, 0 where it has none;
 // a line with a fault may have written.
 pub fn read_line(
     panel: Panel,
     reading: Reading,
-    columns: &mut [u64; AXIS_WORDS],
-    rows: &mut [u64; AXIS_WORDS],
-    columnmarks: &mut [u8; AXIS_MARKS],
-    rowmarks: &mut [u8; AXIS_MARKS],
+    words: &mut [u64; PANEL_WORDS],
+    bytes: &mut [u8; PANEL_BYTES],
     columnbytes: &mut [u8; AXIS_BYTES],
     rowbytes: &mut [u8; AXIS_BYTES],
-    areas: &mut [u64; AREA_WORDS],
-    areabytes: &mut [u8; AREA_BYTES],
-    placements: &mut [u64; PLACEMENT_WORDS],
-    placementbytes: &mut [u8; PLACEMENT_BYTES],
     line: &[u8],
 ) -> PanelRead
-    ensures { λ r. ⌜ record { fault = r .fault; held = heldAs (r .panel) (r .reading) (now (columns .exit)) (now (rows .exit)) (now (columnmarks .exit)) (now (rowmarks .exit)) (now (columnbytes .exit)) (now (rowbytes .exit)) (now (areas .exit)) (now (areabytes .exit)) (now (placements .exit)) (now (placementbytes .exit)) } ≡ lineIn (heldAs panel reading (now (columns .entry)) (now (rows .entry)) (now (columnmarks .entry)) (now (rowmarks .entry)) (now (columnbytes .entry)) (now (rowbytes .entry)) (now (areas .entry)) (now (areabytes .entry)) (now (placements .entry)) (now (placementbytes .entry))) (split 9 (now (line .entry))) ⌝ }
+    ensures { λ r. ⌜ record { fault = r .fault; held = panelHeldOf (r .panel) (r .reading) (now (words .exit)) (now (bytes .exit)) (now (columnbytes .exit)) (now (rowbytes .exit)) } ≡ lineIn (panelHeldOf panel reading (now (words .entry)) (now (bytes .entry)) (now (columnbytes .entry)) (now (rowbytes .entry))) (split 9 (now (line .entry))) ⌝ }
 {
     let there = read_record(line);
     let said = there.said;
-    let before = fault_before(panel.areas, reading, areas, areabytes, line, said);
+    let before = fault_here(
+        panel,
+        reading,
+        words,
+        bytes,
+        part_at(line, there.first),
+        said,
+    );
     let read = panel_record(
         panel,
         reading,
-        columns,
-        rows,
-        columnmarks,
-        rowmarks,
+        words,
+        bytes,
         columnbytes,
         rowbytes,
-        areas,
-        areabytes,
-        placements,
-        placementbytes,
         line,
-        said,
+        there,
     );
     let fault = first_fault(before, read.fault);
     at_stage(fault, stage(reading.stage, said), read)

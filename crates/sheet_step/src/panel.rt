@@ -1,10 +1,11 @@
 // What a record does to the panel: it is written to one axis, to the areas or to the placements.
 ghost use mathlib.Core.Path.{_≡_};
-ghost use Rattle.text.specs.Split.{split};
+ghost use lib.ListN.{length};
+ghost use Rattle.text.specs.Places.{partAt};
+ghost use Rattle.panel_tables.specs.Written.{panelHeldOf};
 ghost use Rattle.sheet_rules.specs.Lines.{edgesOf};
-ghost use Rattle.sheet_rules.specs.Steps.{heldStep};
-ghost use Rattle.sheet_line.specs.Lines.{heldAs};
-ghost use Rattle.sheet_line.specs.Parts.{axisPart, partOf, areaIn, placeIn};
+ghost use Rattle.sheet_line.specs.Parts.{axisPart, partOf, namedStep};
+ghost use Rattle.sheet_step.specs.Regions.{onAxis, onAreas, onPlacements};
 use crate::axis::axis_record;
 use coordinates::Axis;
 use panel_records::area_record::put_area;
@@ -18,17 +19,30 @@ use panel_tables::Reading;
 use panel_tables::area::AREA_BYTES;
 use panel_tables::area::AREA_WORDS;
 use panel_tables::axis::read_by;
+use panel_tables::axis::reading_in;
+use panel_tables::axis::state_in;
 use panel_tables::placement::PLACEMENT_BYTES;
 use panel_tables::placement::PLACEMENT_WORDS;
 use panel_tables::placement::used_name;
+use panel_tables::region::AREA_NAMES_START;
+use panel_tables::region::AREAS;
+use panel_tables::region::PANEL_BYTES;
+use panel_tables::region::PANEL_WORDS;
+use panel_tables::region::PLACEMENT_NAMES_START;
+use panel_tables::region::PLACEMENTS;
+use panel_tables::region::first_mark;
+use panel_tables::region::first_word;
 use panel_tables::state::put;
+use record_lines::LineRecord;
 use records::AreaRecord;
 use records::PlaceEnd;
 use records::Record;
 use sheet_line::Part;
+use tables::AxisPut;
 use tables::layout::AXIS_BYTES;
 use tables::layout::AXIS_MARKS;
 use tables::layout::AXIS_WORDS;
+use text::part_at;
 
 // The tables of an axis.
 fn axis_part(axis: Axis) -> Part
@@ -74,19 +88,6 @@ fn part_of(said: Record) -> Part
     }
 }
 
-// An area; its name is field 1 of the line.
-fn area_record(
-    panel: Panel,
-    words: &mut [u64; AREA_WORDS],
-    bytes: &mut [u8; AREA_BYTES],
-    line: &[u8],
-    edges: AreaEdges,
-) -> PanelPut
-    ensures { λ r. ⌜ record { answer = r; words = now (words .exit); bytes = now (bytes .exit) } ≡ areaIn panel (now (words .entry)) (now (bytes .entry)) (split 9 (now (line .entry))) edges ⌝ }
-{
-    put_area(panel, words, bytes, text::part(line, 9, 1), edges)
-}
-
 // An end as a placement has it.
 fn placed(end: PlaceEnd) -> PlacementEnd
     ensures { λ r. ⌜ r ≡ record { kind = end .kind; number = end .number } ⌝ }
@@ -97,29 +98,102 @@ fn placed(end: PlaceEnd) -> PlacementEnd
     }
 }
 
-// A placement; its names are fields 3 and 6 of the line, empty where they are unused.
-fn place_record(
+// A record of an axis, written into the axis's parts of the words and of the marks, and into its names.
+fn on_axis(
+    axis: Axis,
     panel: Panel,
-    words: &mut [u64; PLACEMENT_WORDS],
-    bytes: &mut [u8; PLACEMENT_BYTES],
-    line: &[u8],
+    reading: Reading,
+    words: &mut [u64],
+    bytes: &mut [u8],
+    store: &mut [u8],
+    name: &[u8],
+    said: Record,
+) -> AxisPut
+    requires { ⌜ (length (now words) ≡ 25600) × (length (now bytes) ≡ 78432) ⌝ }
+    ensures { λ r. ⌜ record { answer = r; words = now (words .exit); marks = now (bytes .exit); bytes = now (store .exit) } ≡ onAxis axis panel reading (now (words .entry)) (now (bytes .entry)) (now (store .entry)) (now (name .entry)) said ⌝ }
+{
+    let first = first_word(axis);
+    let mark = first_mark(axis);
+    let end = first + AXIS_WORDS;
+    let last = mark + AXIS_MARKS;
+    let state = state_in(panel, axis);
+    let then = reading_in(reading, axis);
+    axis_record(
+        state,
+        then,
+        &mut words[first..end],
+        &mut bytes[mark..last],
+        store,
+        name,
+        said,
+    )
+}
+
+// Where the names of areas start in the bytes: a call, so that no proof counts up to it.
+fn area_names_start() -> usize
+    ensures { λ r. ⌜ r ≡ 60000 ⌝ }
+{
+    AREA_NAMES_START
+}
+
+// Where the names of placements start in the bytes, likewise.
+fn placement_names_start() -> usize
+    ensures { λ r. ⌜ r ≡ 62048 ⌝ }
+{
+    PLACEMENT_NAMES_START
+}
+
+// An area, written into the areas' parts of the words and of the bytes.
+fn on_areas(
+    panel: Panel,
+    words: &mut [u64],
+    bytes: &mut [u8],
+    name: &[u8],
+    edges: AreaEdges,
+) -> PanelPut
+    requires { ⌜ (length (now words) ≡ 25600) × (length (now bytes) ≡ 78432) ⌝ }
+    ensures { λ r. ⌜ record { answer = r; words = now (words .exit); bytes = now (bytes .exit) } ≡ onAreas panel (now (words .entry)) (now (bytes .entry)) (now (name .entry)) edges ⌝ }
+{
+    let first = AREAS;
+    let start = area_names_start();
+    let end = first + AREA_WORDS;
+    let last = start + AREA_BYTES;
+    put_area(
+        panel,
+        &mut words[first..end],
+        &mut bytes[start..last],
+        name,
+        edges,
+    )
+}
+
+// A placement with its names, written into the placements' parts of the words and of the bytes; an unused name is empty.
+fn on_placements(
+    panel: Panel,
+    words: &mut [u64],
+    bytes: &mut [u8],
     axis: Axis,
     start: PlaceEnd,
+    first: &[u8],
     end: PlaceEnd,
+    second: &[u8],
 ) -> PanelPut
-    ensures { λ r. ⌜ record { answer = r; words = now (words .exit); bytes = now (bytes .exit) } ≡ placeIn panel (now (words .entry)) (now (bytes .entry)) (split 9 (now (line .entry))) axis start end ⌝ }
+    requires { ⌜ (length (now words) ≡ 25600) × (length (now bytes) ≡ 78432) ⌝ }
+    ensures { λ r. ⌜ record { answer = r; words = now (words .exit); bytes = now (bytes .exit) } ≡ onPlacements panel (now (words .entry)) (now (bytes .entry)) axis start (now (first .entry)) end (now (second .entry)) ⌝ }
 {
-    let first = used_name(start.kind, text::part(line, 9, 3));
-    let last = used_name(end.kind, text::part(line, 9, 6));
+    let at = PLACEMENTS;
+    let name = placement_names_start();
+    let until = at + PLACEMENT_WORDS;
+    let last = name + PLACEMENT_BYTES;
     put_placement(
         panel,
-        words,
-        bytes,
+        &mut words[at..until],
+        &mut bytes[name..last],
         axis,
         placed(start),
-        first,
+        used_name(start.kind, first),
         placed(end),
-        last,
+        used_name(end.kind, second),
     )
 }
 
@@ -135,45 +209,37 @@ fn with_reading(answer: PanelPut, reading: Reading) -> PanelRead
     }
 }
 
-// A record on the panel, the reading of it and its tables; whether it has a fault or may stand there is not looked at.
+// A record of a line with its names on the panel, the reading of it and its tables; whether it has a fault or may stand there is not looked at.
 pub fn panel_record(
     panel: Panel,
     reading: Reading,
-    columns: &mut [u64; AXIS_WORDS],
-    rows: &mut [u64; AXIS_WORDS],
-    columnmarks: &mut [u8; AXIS_MARKS],
-    rowmarks: &mut [u8; AXIS_MARKS],
+    words: &mut [u64; PANEL_WORDS],
+    bytes: &mut [u8; PANEL_BYTES],
     columnbytes: &mut [u8; AXIS_BYTES],
     rowbytes: &mut [u8; AXIS_BYTES],
-    areas: &mut [u64; AREA_WORDS],
-    areabytes: &mut [u8; AREA_BYTES],
-    placements: &mut [u64; PLACEMENT_WORDS],
-    placementbytes: &mut [u8; PLACEMENT_BYTES],
     line: &[u8],
-    said: Record,
+    there: LineRecord,
 ) -> PanelRead
-    ensures { λ r. ⌜ record { fault = r .fault; held = heldAs (r .panel) (r .reading) (now (columns .exit)) (now (rows .exit)) (now (columnmarks .exit)) (now (rowmarks .exit)) (now (columnbytes .exit)) (now (rowbytes .exit)) (now (areas .exit)) (now (areabytes .exit)) (now (placements .exit)) (now (placementbytes .exit)) } ≡ heldStep (heldAs panel reading (now (columns .entry)) (now (rows .entry)) (now (columnmarks .entry)) (now (rowmarks .entry)) (now (columnbytes .entry)) (now (rowbytes .entry)) (now (areas .entry)) (now (areabytes .entry)) (now (placements .entry)) (now (placementbytes .entry))) (split 9 (now (line .entry))) said ⌝ }
+    ensures { λ r. ⌜ record { fault = r .fault; held = panelHeldOf (r .panel) (r .reading) (now (words .exit)) (now (bytes .exit)) (now (columnbytes .exit)) (now (rowbytes .exit)) } ≡ namedStep (panelHeldOf panel reading (now (words .entry)) (now (bytes .entry)) (now (columnbytes .entry)) (now (rowbytes .entry))) (partAt (now (line .entry)) (there .first)) (partAt (now (line .entry)) (there .second)) (there .said) ⌝ }
 {
+    let said = there.said;
+    let first = part_at(line, there.first);
+    let second = part_at(line, there.second);
     match part_of(said) {
         Part::Nothing => with_reading(put(0, panel), reading),
         Part::Columns => {
-            let state = panel.columns;
-            let then = reading.columns;
-            let answer = axis_record(state, then, columns, columnmarks, columnbytes, line, said);
-            read_by(panel, reading, Axis::Column, answer)
+            let axis = Axis::Column;
+            let answer = on_axis(axis, panel, reading, words, bytes, columnbytes, first, said);
+            read_by(panel, reading, axis, answer)
         }
         Part::Rows => {
-            let state = panel.rows;
-            let then = reading.rows;
-            let answer = axis_record(state, then, rows, rowmarks, rowbytes, line, said);
-            read_by(panel, reading, Axis::Row, answer)
+            let axis = Axis::Row;
+            let answer = on_axis(axis, panel, reading, words, bytes, rowbytes, first, said);
+            read_by(panel, reading, axis, answer)
         }
-        Part::Areas(edges) => with_reading(
-            area_record(panel, areas, areabytes, line, edges),
-            reading,
-        ),
+        Part::Areas(edges) => with_reading(on_areas(panel, words, bytes, first, edges), reading),
         Part::Placements(axis, start, end) => {
-            let answer = place_record(panel, placements, placementbytes, line, axis, start, end);
+            let answer = on_placements(panel, words, bytes, axis, start, first, end, second);
             with_reading(answer, reading)
         }
     }

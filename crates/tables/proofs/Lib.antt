@@ -12,3 +12,4 @@ pub mod Same
 pub mod Kept
 pub mod Back
 pub mod Limits
+pub mod Regions

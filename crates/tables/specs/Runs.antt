@@ -25,3 +25,7 @@ putBytes bytes offset name =
 -- the bytes of a name, as far as the store reaches
 abbrev pub partOf : List ℕ → ℕ → ℕ → List ℕ
 partOf bytes offset length = take length (drop offset bytes)
+
+-- a list with others in the place of `length` from `offset` on
+abbrev pub withPart : List ℕ → ℕ → ℕ → List ℕ → List ℕ
+withPart s offset length others = take offset s ++ (others ++ drop length (drop offset s))

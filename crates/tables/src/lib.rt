@@ -2,6 +2,7 @@
 pub mod layout;
 pub mod name;
 pub mod state;
+pub mod write;
 
 // An axis of a panel: its `axis` record (whether it has an inner size, the bits of that, rule 0 `max` or 1 `min`, the gap's word),
 // what the tables hold of it, its implicit counts, its explicit size, and the tracks that areas span.

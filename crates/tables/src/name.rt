@@ -9,11 +9,10 @@ ghost use Rattle.tables.specs.Runs.{putBytes, partOf};
 use crate::AxisPut;
 use crate::AxisReading;
 use crate::AxisState;
-use crate::layout::AXIS_BYTES;
-use crate::layout::AXIS_WORDS;
 use crate::layout::NAMES;
 use crate::layout::name_word;
 use crate::state::put;
+use crate::write::set_word;
 
 // The bytes of a name from `at` on.
 fn copy_bytes(store: &mut [u8], at: usize, name: &[u8])
@@ -37,6 +36,21 @@ pub fn put_bytes(store: &mut [u8], at: usize, name: &[u8])
         return;
     }
     if store.len() - at < name.len() {
+        return;
+    }
+    copy_bytes(store, at, name);
+}
+
+// The same as far as the store reaches.
+fn copy_what_fits(store: &mut [u8], at: usize, name: &[u8])
+    ensures { λ _. ⌜ now (store .exit) ≡ sets (now (store .entry)) at (now (name .entry)) ⌝ }
+{
+    if store.len() <= at {
+        return;
+    }
+    let room = store.len() - at;
+    if room < name.len() {
+        copy_bytes(store, at, &name[0..room]);
         return;
     }
     copy_bytes(store, at, name);
@@ -86,8 +100,8 @@ fn place_in(reading: AxisReading) -> u64
 pub fn put_name(
     state: AxisState,
     reading: AxisReading,
-    words: &mut [u64; AXIS_WORDS],
-    bytes: &mut [u8; AXIS_BYTES],
+    words: &mut [u64],
+    bytes: &mut [u8],
     name: &[u8],
 ) -> AxisPut
     ensures { λ r. ⌜ record { answer = r; words = now (words .exit); bytes = now (bytes .exit) } ≡ putName state reading (now (words .entry)) (now (bytes .entry)) (now (name .entry)) ⌝ }
@@ -98,13 +112,9 @@ pub fn put_name(
     if no_room(4096, 32768, names, used, length) {
         return put(8, state, reading);
     }
-    words[NAMES + names as usize] = name_word(
-        state.components,
-        place_in(reading),
-        used,
-        length as u64,
-    );
-    copy_bytes(bytes, used as usize, name);
+    let word = name_word(state.components, place_in(reading), used, length as u64);
+    set_word(words, NAMES + names as usize, word);
+    copy_what_fits(bytes, used as usize, name);
     let mut after = state;
     after.names = names + 1;
     after.used = used + length as u32;

@@ -2,30 +2,21 @@
 use crate::expected::seen_part;
 use coordinates::Axis;
 use panel_answer::AnswerLine;
-use panel_answer::next_line;
-use panel_answer::put_line;
+use panel_answer::line::is_end;
+use panel_answer::line::next_line;
+use panel_answer::line::put_line;
 use panel_tables::Panel;
-use panel_tables::area::AREA_BYTES;
-use panel_tables::area::AREA_WORDS;
-use panel_tables::placement::PLACEMENT_BYTES;
-use panel_tables::placement::PLACEMENT_WORDS;
-use tables::layout::AXIS_WORDS;
+use panel_tables::region::PANEL_BYTES;
+use panel_tables::region::PANEL_WORDS;
 
 // Whether a line stands in the expected text: a cut one has no records.
 fn is_listed(at: AnswerLine, cut: bool) -> bool {
     match at {
+        AnswerLine::Refused(_) => true,
         AnswerLine::Size(_) => true,
         AnswerLine::Record(_, _, _) => !cut,
         AnswerLine::Place(_) => true,
         AnswerLine::End => false,
-    }
-}
-
-fn is_end(at: AnswerLine) -> bool {
-    if let AnswerLine::End = at {
-        true
-    } else {
-        false
     }
 }
 
@@ -34,34 +25,14 @@ fn seen_line(
     expected: &[u8],
     seen: usize,
     panel: Panel,
-    columns: &[u64; AXIS_WORDS],
-    rows: &[u64; AXIS_WORDS],
-    columnmarks: &[u8],
-    rowmarks: &[u8],
-    areas: &[u64; AREA_WORDS],
-    areabytes: &[u8; AREA_BYTES],
-    placements: &[u64; PLACEMENT_WORDS],
-    placementbytes: &[u8; PLACEMENT_BYTES],
+    words: &[u64; PANEL_WORDS],
+    bytes: &[u8; PANEL_BYTES],
     columnstore: &[u8],
     rowstore: &[u8],
     at: AnswerLine,
 ) -> usize {
     let mut line = [0u8; 128];
-    let count = put_line(
-        &mut line,
-        panel,
-        columns,
-        rows,
-        columnmarks,
-        rowmarks,
-        areas,
-        areabytes,
-        placements,
-        placementbytes,
-        columnstore,
-        rowstore,
-        at,
-    );
+    let count = put_line(&mut line, panel, words, bytes, columnstore, rowstore, at);
     seen_part(expected, seen, &line[..count])
 }
 
@@ -71,14 +42,8 @@ pub fn seen_answer(
     seen: usize,
     cut: bool,
     panel: Panel,
-    columns: &[u64; AXIS_WORDS],
-    rows: &[u64; AXIS_WORDS],
-    columnmarks: &[u8],
-    rowmarks: &[u8],
-    areas: &[u64; AREA_WORDS],
-    areabytes: &[u8; AREA_BYTES],
-    placements: &[u64; PLACEMENT_WORDS],
-    placementbytes: &[u8; PLACEMENT_BYTES],
+    words: &[u64; PANEL_WORDS],
+    bytes: &[u8; PANEL_BYTES],
     columnstore: &[u8],
     rowstore: &[u8],
 ) -> usize {
@@ -94,20 +59,14 @@ pub fn seen_answer(
                 expected,
                 last,
                 panel,
-                columns,
-                rows,
-                columnmarks,
-                rowmarks,
-                areas,
-                areabytes,
-                placements,
-                placementbytes,
+                words,
+                bytes,
                 columnstore,
                 rowstore,
                 at,
             );
         }
-        at = next_line(panel, columns, rows, columnmarks, rowmarks, at);
+        at = next_line(panel, words, bytes, at);
         turns += 1;
     }
     last

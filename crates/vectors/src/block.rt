@@ -14,13 +14,9 @@ use crate::input::line_at;
 use crate::input::number_of;
 use crate::names::seen_names;
 use panel_tables::Panel;
-use panel_tables::area::AREA_BYTES;
-use panel_tables::area::AREA_WORDS;
-use panel_tables::placement::PLACEMENT_BYTES;
-use panel_tables::placement::PLACEMENT_WORDS;
+use panel_tables::region::PANEL_BYTES;
+use panel_tables::region::PANEL_WORDS;
 use sheet_rules::SheetAnswer;
-use tables::layout::AXIS_MARKS;
-use tables::layout::AXIS_WORDS;
 
 // Where the parts of a block lie: whether the lengths of stores are given, and these; the sheet, the calls and the expected text.
 pub struct Block {
@@ -83,14 +79,8 @@ pub fn block_at(input: &[u8], at: usize) -> Block {
 fn read_block(
     sheet: &[u8],
     block: Block,
-    columns: &mut [u64; AXIS_WORDS],
-    rows: &mut [u64; AXIS_WORDS],
-    columnmarks: &mut [u8; AXIS_MARKS],
-    rowmarks: &mut [u8; AXIS_MARKS],
-    areas: &mut [u64; AREA_WORDS],
-    areabytes: &mut [u8; AREA_BYTES],
-    placements: &mut [u64; PLACEMENT_WORDS],
-    placementbytes: &mut [u8; PLACEMENT_BYTES],
+    words: &mut [u64; PANEL_WORDS],
+    bytes: &mut [u8; PANEL_BYTES],
     columnstore: &mut [u8],
     rowstore: &mut [u8],
 ) -> SheetAnswer {
@@ -98,14 +88,8 @@ fn read_block(
     let rowlength = lent(rowstore, block.given, block.rowbytes);
     sheet::read_sheet(
         sheet,
-        columns,
-        rows,
-        columnmarks,
-        rowmarks,
-        areas,
-        areabytes,
-        placements,
-        placementbytes,
+        words,
+        bytes,
         &mut columnstore[..columnlength],
         &mut rowstore[..rowlength],
     )
@@ -117,43 +101,20 @@ fn seen_accepted(
     expected: &[u8],
     block: Block,
     panel: Panel,
-    columns: &mut [u64; AXIS_WORDS],
-    rows: &mut [u64; AXIS_WORDS],
-    columnmarks: &[u8; AXIS_MARKS],
-    rowmarks: &[u8; AXIS_MARKS],
-    areas: &[u64; AREA_WORDS],
-    areabytes: &[u8; AREA_BYTES],
-    placements: &[u64; PLACEMENT_WORDS],
-    placementbytes: &[u8; PLACEMENT_BYTES],
+    words: &mut [u64; PANEL_WORDS],
+    bytes: &[u8; PANEL_BYTES],
     columnstore: &mut [u8],
     rowstore: &mut [u8],
 ) -> usize {
-    let called = call_lines(
-        input,
-        block.calls,
-        block.callcount,
-        block.given,
-        expected,
-        panel,
-        columns,
-        rows,
-        columnstore,
-        rowstore,
-    );
+    let called = call_lines(input, block, expected, panel, words, columnstore, rowstore);
     let held = called.panel;
     let seen = seen_answer(
         expected,
         called.seen,
         block.cut,
         held,
-        columns,
-        rows,
-        columnmarks,
-        rowmarks,
-        areas,
-        areabytes,
-        placements,
-        placementbytes,
+        words,
+        bytes,
         columnstore,
         rowstore,
     );
@@ -162,8 +123,7 @@ fn seen_accepted(
         seen,
         block.cut,
         held,
-        columns,
-        rows,
+        words,
         columnstore,
         rowstore,
     )
@@ -173,14 +133,8 @@ fn seen_accepted(
 pub fn is_same(
     input: &[u8],
     block: Block,
-    columns: &mut [u64; AXIS_WORDS],
-    rows: &mut [u64; AXIS_WORDS],
-    columnmarks: &mut [u8; AXIS_MARKS],
-    rowmarks: &mut [u8; AXIS_MARKS],
-    areas: &mut [u64; AREA_WORDS],
-    areabytes: &mut [u8; AREA_BYTES],
-    placements: &mut [u64; PLACEMENT_WORDS],
-    placementbytes: &mut [u8; PLACEMENT_BYTES],
+    words: &mut [u64; PANEL_WORDS],
+    bytes: &mut [u8; PANEL_BYTES],
     columnstore: &mut [u8],
     rowstore: &mut [u8],
 ) -> bool {
@@ -188,14 +142,8 @@ pub fn is_same(
     let answer = read_block(
         between(input, block.sheet, block.sheetend),
         block,
-        columns,
-        rows,
-        columnmarks,
-        rowmarks,
-        areas,
-        areabytes,
-        placements,
-        placementbytes,
+        words,
+        bytes,
         columnstore,
         rowstore,
     );
@@ -209,14 +157,8 @@ pub fn is_same(
         expected,
         block,
         panel,
-        columns,
-        rows,
-        columnmarks,
-        rowmarks,
-        areas,
-        areabytes,
-        placements,
-        placementbytes,
+        words,
+        bytes,
         columnstore,
         rowstore,
     )

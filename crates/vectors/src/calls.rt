@@ -1,6 +1,7 @@
 // The entry calls of a block.
 ghost use Prim.Native.Nat.{_≤_};
 ghost use Rattle.io.specs.Counts.{Counts};
+use crate::block::Block;
 use crate::expected::seen_entry;
 use crate::input::after_line;
 use crate::input::between;
@@ -10,7 +11,7 @@ use coordinates::Axis;
 use panel_entry::entering::enter_name;
 use panel_rules::EntryAnswer;
 use panel_tables::Panel;
-use tables::layout::AXIS_WORDS;
+use panel_tables::region::PANEL_WORDS;
 
 // A panel after calls, and the place up to which the expected text is seen.
 pub struct Called {
@@ -67,8 +68,7 @@ fn call_line(
     line: &[u8],
     given: bool,
     panel: Panel,
-    columns: &mut [u64; AXIS_WORDS],
-    rows: &mut [u64; AXIS_WORDS],
+    words: &mut [u64; PANEL_WORDS],
     columnstore: &mut [u8],
     rowstore: &mut [u8],
 ) -> EntryAnswer {
@@ -77,8 +77,7 @@ fn call_line(
     let rowbytes = lent(rowstore, given, number_of(text::part(line, 9, 1)));
     enter_name(
         panel,
-        columns,
-        rows,
+        words,
         &mut columnstore[..columnbytes],
         &mut rowstore[..rowbytes],
         axis_of(text::part(line, 9, first)),
@@ -87,37 +86,34 @@ fn call_line(
     )
 }
 
-// So many calls, each a line from a place on.
+// The calls of a block, each a line.
 pub fn call_lines(
     input: &[u8],
-    at: usize,
-    count: u32,
-    given: bool,
+    block: Block,
     expected: &[u8],
     panel: Panel,
-    columns: &mut [u64; AXIS_WORDS],
-    rows: &mut [u64; AXIS_WORDS],
+    words: &mut [u64; PANEL_WORDS],
     columnstore: &mut [u8],
     rowstore: &mut [u8],
 ) -> Called {
+    let given = block.given;
     let mut held = panel;
-    let mut place = at;
+    let mut place = block.calls;
     let mut seen: usize = 0;
-    let mut made: u32 = 0;
-    while made < count {
+    let mut left = block.callcount;
+    while 0 < left {
         let answer = call_line(
             line_at(input, place),
             given,
             held,
-            columns,
-            rows,
+            words,
             columnstore,
             rowstore,
         );
         held = answer.panel;
         seen = seen_entry(expected, seen, answer.refusal);
         place = after_line(input, place);
-        made += 1;
+        left -= 1;
     }
     Called { panel: held, seen }
 }

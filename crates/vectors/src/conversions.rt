@@ -1,10 +1,13 @@
-// Rows of conversions: explicit count, grid line, refusal, origin-zero line, and the grid line back.
+// Rows of conversions: explicit count, grid line, refusal, origin-zero line, and the grid line back; or explicit count, `-`, refusal,
+// origin-zero line, its grid line, and refusal and tracks that it implies before the grid, and after it.
 use crate::input::after_line;
 use crate::input::line_at;
 use crate::input::number_of;
 use coordinates::signed::joined;
 use coordinates::signed::split;
 use grid_lines::GridLine;
+use grid_lines::OriginZeroLine;
+use grid_lines::line::CountAnswer;
 use numeral::Index;
 use std::num::wrapping_add_u32;
 
@@ -23,7 +26,7 @@ fn whole_of(field: &[u8]) -> i16 {
     }
 }
 
-// Whether a row holds.
+// Whether a row of a grid line holds.
 fn is_right(row: &[u8]) -> bool {
     let explicit = (number_of(text::part(row, 9, 0)) % 65536) as u16;
     let refusal = number_of(text::part(row, 9, 2));
@@ -43,9 +46,47 @@ fn is_right(row: &[u8]) -> bool {
     found.0 == whole_of(text::part(row, 9, 4))
 }
 
+// Whether a refusal and a count are those that two fields write.
+fn is_count(answer: CountAnswer, number: &[u8], count: &[u8]) -> bool {
+    let refusal = answer.refusal;
+    if refusal.number != number_of(number) {
+        return false;
+    }
+    answer.count == number_of(count)
+}
+
+// Whether a row of an origin-zero line holds.
+fn is_origin_right(row: &[u8]) -> bool {
+    let explicit = (number_of(text::part(row, 9, 0)) % 65536) as u16;
+    let line = OriginZeroLine(whole_of(text::part(row, 9, 3)));
+    let back = line.into_grid_line(explicit);
+    let refusal = back.refusal;
+    let found = back.line;
+    if refusal.number != number_of(text::part(row, 9, 2)) {
+        return false;
+    }
+    if found.0 != whole_of(text::part(row, 9, 4)) {
+        return false;
+    }
+    let before = line.implied_negative_implicit_tracks();
+    if !is_count(before, text::part(row, 9, 5), text::part(row, 9, 6)) {
+        return false;
+    }
+    let after = line.implied_positive_implicit_tracks(explicit);
+    is_count(after, text::part(row, 9, 7), text::part(row, 9, 8))
+}
+
+// Whether a row of either kind holds.
+fn is_row_right(row: &[u8]) -> bool {
+    if text::equal(text::part(row, 9, 1), b"-") {
+        return is_origin_right(row);
+    }
+    is_right(row)
+}
+
 // One more where a row doesn't hold.
 fn counted(row: &[u8], different: u32) -> u32 {
-    if is_right(row) {
+    if is_row_right(row) {
         return different;
     }
     wrapping_add_u32(different, 1)

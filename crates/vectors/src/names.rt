@@ -6,7 +6,7 @@ use coordinates::Axis;
 use panel_grid::size::line_count;
 use panel_naming::naming::line_name;
 use panel_tables::Panel;
-use tables::layout::AXIS_WORDS;
+use panel_tables::region::PANEL_WORDS;
 
 // The word and the axis.
 fn seen_axis(expected: &[u8], seen: usize, axis: Axis) -> usize {
@@ -21,8 +21,7 @@ fn seen_list<'a>(
     expected: &[u8],
     seen: usize,
     panel: Panel,
-    columns: &[u64; AXIS_WORDS],
-    rows: &[u64; AXIS_WORDS],
+    words: &[u64; PANEL_WORDS],
     columnstore: &'a [u8],
     rowstore: &'a [u8],
     axis: Axis,
@@ -31,16 +30,7 @@ fn seen_list<'a>(
     let mut last = seen;
     let mut place: u32 = 0;
     while place < 4096 {
-        let name = line_name(
-            panel,
-            columns,
-            rows,
-            columnstore,
-            rowstore,
-            axis,
-            line,
-            place,
-        );
+        let name = line_name(panel, words, columnstore, rowstore, axis, line, place);
         if name.len() == 0 {
             return last;
         }
@@ -50,32 +40,37 @@ fn seen_list<'a>(
     last
 }
 
-// The list of one line; a cut text has none that is empty.
+// Whether the expected text has the list of a line: a cut text has none that is empty.
+fn is_listed<'a>(
+    cut: bool,
+    panel: Panel,
+    words: &[u64; PANEL_WORDS],
+    columnstore: &'a [u8],
+    rowstore: &'a [u8],
+    axis: Axis,
+    line: u32,
+) -> bool {
+    let first = line_name(panel, words, columnstore, rowstore, axis, line, 0);
+    !(cut & (first.len() == 0))
+}
+
+// The list of one line.
 fn seen_line<'a>(
     expected: &[u8],
     seen: usize,
-    cut: bool,
     panel: Panel,
-    columns: &[u64; AXIS_WORDS],
-    rows: &[u64; AXIS_WORDS],
+    words: &[u64; PANEL_WORDS],
     columnstore: &'a [u8],
     rowstore: &'a [u8],
     axis: Axis,
     line: u32,
 ) -> usize {
-    if cut {
-        let first = line_name(panel, columns, rows, columnstore, rowstore, axis, line, 0);
-        if first.len() == 0 {
-            return seen;
-        }
-    }
     let last = seen_number(expected, seen_axis(expected, seen, axis), line as u64);
     let last = seen_list(
         expected,
         last,
         panel,
-        columns,
-        rows,
+        words,
         columnstore,
         rowstore,
         axis,
@@ -101,8 +96,7 @@ fn seen_lists<'a>(
     seen: usize,
     cut: bool,
     panel: Panel,
-    columns: &[u64; AXIS_WORDS],
-    rows: &[u64; AXIS_WORDS],
+    words: &[u64; PANEL_WORDS],
     columnstore: &'a [u8],
     rowstore: &'a [u8],
     axis: Axis,
@@ -112,18 +106,18 @@ fn seen_lists<'a>(
     let mut line: u32 = 0;
     while line < count {
         line += 1;
-        last = seen_line(
-            expected,
-            last,
-            cut,
-            panel,
-            columns,
-            rows,
-            columnstore,
-            rowstore,
-            axis,
-            line,
-        );
+        if is_listed(cut, panel, words, columnstore, rowstore, axis, line) {
+            last = seen_line(
+                expected,
+                last,
+                panel,
+                words,
+                columnstore,
+                rowstore,
+                axis,
+                line,
+            );
+        }
     }
     last
 }
@@ -134,8 +128,7 @@ pub fn seen_names<'a>(
     seen: usize,
     cut: bool,
     panel: Panel,
-    columns: &[u64; AXIS_WORDS],
-    rows: &[u64; AXIS_WORDS],
+    words: &[u64; PANEL_WORDS],
     columnstore: &'a [u8],
     rowstore: &'a [u8],
 ) -> usize {
@@ -144,8 +137,7 @@ pub fn seen_names<'a>(
         seen,
         cut,
         panel,
-        columns,
-        rows,
+        words,
         columnstore,
         rowstore,
         Axis::Column,
@@ -155,8 +147,7 @@ pub fn seen_names<'a>(
         last,
         cut,
         panel,
-        columns,
-        rows,
+        words,
         columnstore,
         rowstore,
         Axis::Row,

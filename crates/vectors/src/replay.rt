@@ -11,12 +11,8 @@ use crate::input::Head;
 use crate::input::LINES;
 use crate::input::head_at;
 use crate::input::line_at;
-use panel_tables::area::AREA_BYTES;
-use panel_tables::area::AREA_WORDS;
-use panel_tables::placement::PLACEMENT_BYTES;
-use panel_tables::placement::PLACEMENT_WORDS;
-use tables::layout::AXIS_MARKS;
-use tables::layout::AXIS_WORDS;
+use panel_tables::region::PANEL_BYTES;
+use panel_tables::region::PANEL_WORDS;
 
 // A block or a list of rows that was replayed, and where the next starts.
 struct Replayed {
@@ -41,32 +37,13 @@ fn replay_block(
     input: &[u8],
     at: usize,
     counts: Counts,
-    columns: &mut [u64; AXIS_WORDS],
-    rows: &mut [u64; AXIS_WORDS],
-    columnmarks: &mut [u8; AXIS_MARKS],
-    rowmarks: &mut [u8; AXIS_MARKS],
-    areas: &mut [u64; AREA_WORDS],
-    areabytes: &mut [u8; AREA_BYTES],
-    placements: &mut [u64; PLACEMENT_WORDS],
-    placementbytes: &mut [u8; PLACEMENT_BYTES],
+    words: &mut [u64; PANEL_WORDS],
+    bytes: &mut [u8; PANEL_BYTES],
     columnstore: &mut [u8],
     rowstore: &mut [u8],
 ) -> Replayed {
     let block = block_at(input, at);
-    let same = is_same(
-        input,
-        block,
-        columns,
-        rows,
-        columnmarks,
-        rowmarks,
-        areas,
-        areabytes,
-        placements,
-        placementbytes,
-        columnstore,
-        rowstore,
-    );
+    let same = is_same(input, block, words, bytes, columnstore, rowstore);
     if !same {
         print_different(counts, line_at(input, at));
     }
@@ -81,14 +58,8 @@ fn replay_at(
     input: &[u8],
     at: usize,
     counts: Counts,
-    columns: &mut [u64; AXIS_WORDS],
-    rows: &mut [u64; AXIS_WORDS],
-    columnmarks: &mut [u8; AXIS_MARKS],
-    rowmarks: &mut [u8; AXIS_MARKS],
-    areas: &mut [u64; AREA_WORDS],
-    areabytes: &mut [u8; AREA_BYTES],
-    placements: &mut [u64; PLACEMENT_WORDS],
-    placementbytes: &mut [u8; PLACEMENT_BYTES],
+    words: &mut [u64; PANEL_WORDS],
+    bytes: &mut [u8; PANEL_BYTES],
     columnstore: &mut [u8],
     rowstore: &mut [u8],
 ) -> Replayed {
@@ -96,34 +67,14 @@ fn replay_at(
     if head.word == LINES {
         return replay_list(input, at, head, counts);
     }
-    replay_block(
-        input,
-        at,
-        counts,
-        columns,
-        rows,
-        columnmarks,
-        rowmarks,
-        areas,
-        areabytes,
-        placements,
-        placementbytes,
-        columnstore,
-        rowstore,
-    )
+    replay_block(input, at, counts, words, bytes, columnstore, rowstore)
 }
 
 // All that standard input holds, at most a million blocks.
 pub fn replay_all(
     buffer: &mut [u8],
-    columns: &mut [u64; AXIS_WORDS],
-    rows: &mut [u64; AXIS_WORDS],
-    columnmarks: &mut [u8; AXIS_MARKS],
-    rowmarks: &mut [u8; AXIS_MARKS],
-    areas: &mut [u64; AREA_WORDS],
-    areabytes: &mut [u8; AREA_BYTES],
-    placements: &mut [u64; PLACEMENT_WORDS],
-    placementbytes: &mut [u8; PLACEMENT_BYTES],
+    words: &mut [u64; PANEL_WORDS],
+    bytes: &mut [u8; PANEL_BYTES],
     columnstore: &mut [u8],
     rowstore: &mut [u8],
 ) -> Counts {
@@ -147,14 +98,8 @@ pub fn replay_all(
             &buffer[..held],
             first,
             counts,
-            columns,
-            rows,
-            columnmarks,
-            rowmarks,
-            areas,
-            areabytes,
-            placements,
-            placementbytes,
+            words,
+            bytes,
             columnstore,
             rowstore,
         );

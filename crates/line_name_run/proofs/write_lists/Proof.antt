@@ -2,8 +2,8 @@ use borrow.Author.Needs.{needs}
 use Rattle.line_name_run.proofs.write_lists.Statement.{statement}
 use Rattle.line_name_run.proofs.write_lists.Tie as tie
 
-shorter-requires : tie.Need-shorter-requires
-shorter-requires c κs = search needs
+smaller-requires : tie.Need-smaller-requires
+smaller-requires c κs = search needs
 
 enum-told : tie.Need-enum-told
 enum-told c = search needs
@@ -17,28 +17,20 @@ enum-told-2 c = search needs
 write-on-requires-2 : tie.Need-write-on-requires-2
 write-on-requires-2 c κs = search needs
 
-same-length : tie.Need-same-length
-same-length c = search needs
-
 returns : tie.Need-returns
-returns c = rw (c .before .before .before .before .enum-told .given .1, ← c .before .before .before .before .before .before .shorter .ensures) (c .before .before .write-on .ensures)
-
-same-length-2 : tie.Need-same-length-2
-same-length-2 c = search needs
+returns c = rw (c .before .before .enum-told .given .1, ← c .before .before .before .before .smaller .ensures) (c .write-on .ensures)
 
 returns-2 : tie.Need-returns-2
-returns-2 c = rw (c .before .before .before .before .enum-told2 .given .1, ← c .before .before .before .before .before .before .shorter .ensures) (c .before .before .write-on2 .ensures)
+returns-2 c = rw (c .before .before .enum-told2 .given .1, ← c .before .before .before .before .smaller .ensures) (c .write-on2 .ensures)
 
 pub write-lists-spec : {M : Type 1} → statement M
 write-lists-spec =
     tie.close
     (tie.spec
-    shorter-requires
+    smaller-requires
     enum-told
     write-on-requires
     enum-told-2
     write-on-requires-2
-    same-length
     returns
-    same-length-2
     returns-2)

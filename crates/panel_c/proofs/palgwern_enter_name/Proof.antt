@@ -1,4 +1,4 @@
-use mathlib.Core.Path.{ap}
+use mathlib.Core.Path.{refl, ap}
 use borrow.Author.Tests.{le-leb, lt-leb}
 use Rattle.panel_numbers.specs.Answers.{panelEntered, nameEntered}
 use borrow.Author.Needs.{needs}
@@ -10,7 +10,7 @@ entry-in-no-axis-requires c κs = search needs
 
 returns : tie.Need-returns
 unfolding nameEntered
-returns c = rw (lt-leb _ 1 (c .before .if1 .taken), c .entry-in-no-axis .ensures)
+returns c = (rw (lt-leb _ 1 (c .before .if1 .taken), c .entry-in-no-axis .ensures), (refl, refl))
 
 axis-of-requires : tie.Need-axis-of-requires
 axis-of-requires c κs = search needs
@@ -26,7 +26,9 @@ same-length-2 c = search needs
 
 returns-2 : tie.Need-returns-2
 unfolding nameEntered
-returns-2 c = rw (le-leb _ 1 (c .before .before .before .before .before .before .before .before .before .before .before .before .if1 .left), ← c .before .before .before .before .before .before .before .axis-of .ensures) (ap panelEntered (c .before .before .before .before .before .before .enter-name .ensures))
+returns-2 c =
+    let k = c .before .before .before .before .before .before .enter-name in
+    (rw (le-leb _ 1 (c .before .before .before .before .before .before .before .before .before .before .before .if1 .left), ← c .before .before .before .before .before .before .before .axis-of .ensures) (ap panelEntered (k .ensures .0)), k .ensures .1)
 
 pub palgwern-enter-name-spec : {M : Type 1} → statement M
 palgwern-enter-name-spec =

@@ -17,12 +17,9 @@ axis-of-requires c κs = search needs
 write-lists-requires : tie.Need-write-lists-requires
 write-lists-requires c κs = search needs
 
-same-length : tie.Need-same-length
-same-length c = search needs
-
 returns-2 : tie.Need-returns-2
 unfolding listsWritten
-returns-2 c = rw (le-leb _ 1 (c .before .before .before .before .before .if1 .left), ← c .before .before .before .before .axis-of .ensures) (c .before .before .write-lists .ensures)
+returns-2 c = rw (le-leb _ 1 (c .before .before .before .if1 .left), ← c .before .before .axis-of .ensures) (c .write-lists .ensures)
 
 pub palgwern-line-names-spec : {M : Type 1} → statement M
 palgwern-line-names-spec =
@@ -32,5 +29,4 @@ palgwern-line-names-spec =
     returns
     axis-of-requires
     write-lists-requires
-    same-length
     returns-2)

@@ -5,16 +5,12 @@ use Rattle.panel_c.proofs.palgwern_resolve_placements.Tie as tie
 write-placements-requires : tie.Need-write-placements-requires
 write-placements-requires c κs = search needs
 
-same-length : tie.Need-same-length
-same-length c = search needs
-
 returns : tie.Need-returns
-returns c = c .before .write-placements .ensures
+returns c = c .write-placements .ensures
 
 pub palgwern-resolve-placements-spec : {M : Type 1} → statement M
 palgwern-resolve-placements-spec =
     tie.close
     (tie.spec
     write-placements-requires
-    same-length
     returns)

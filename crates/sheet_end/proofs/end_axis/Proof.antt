@@ -12,9 +12,12 @@ count-entries-requires c κs = search needs
 end-fault-requires : tie.Need-end-fault-requires
 end-fault-requires c κs = search needs
 
+same-length : tie.Need-same-length
+same-length c = search needs
+
 returns : tie.Need-returns
 returns c =
-    let a = c .before .before .before .before .before .before .args in
+    let a = c .before .before .before .before .before .before .before .args in
     let x = c .before .before .before .before .size-in in
     let y = c .before .before .count-entries in
     let z = c .before .end-fault in
@@ -22,20 +25,23 @@ returns c =
 
 put-entries-requires : tie.Need-put-entries-requires
 put-entries-requires c κs =
-    let a = c .before .before .before .before .before .before .before .args in
+    let a = c .before .before .before .before .before .before .before .before .args in
     let x = c .before .before .before .before .before .size-in in
     let y = c .before .before .before .count-entries in
     let z = c .before .before .end-fault in
     let o = c .before .if1 .left in
     (count-is (a .state) (a .reading) (a .words .now) (x .result) (y .result) (z .result) (x .ensures) (y .ensures) (z .ensures) o, count-few (a .state) (a .reading) (a .words .now) (x .result) (y .result) (z .result) (x .ensures) (y .ensures) (z .ensures) o)
 
+same-length-2 : tie.Need-same-length-2
+same-length-2 c = search needs
+
 returns-2 : tie.Need-returns-2
 returns-2 c =
-    let a = c .before .before .before .before .before .before .before .before .args in
-    let x = c .before .before .before .before .before .before .size-in in
-    let y = c .before .before .before .before .count-entries in
-    let z = c .before .before .before .end-fault in
-    accepted-end (a .state) (a .reading) (a .words .now) (x .result) (y .result) (z .result) (x .ensures) (y .ensures) (z .ensures) (c .before .before .if1 .left) _ (c .put-entries .ensures)
+    let a = c .before .before .before .before .before .before .before .before .before .before .before .args in
+    let x = c .before .before .before .before .before .before .before .before .size-in in
+    let y = c .before .before .before .before .before .before .count-entries in
+    let z = c .before .before .before .before .before .end-fault in
+    accepted-end (a .state) (a .reading) (a .words .now) (x .result) (y .result) (z .result) (x .ensures) (y .ensures) (z .ensures) (c .before .before .before .before .if1 .left) _ (c .before .before .put-entries .ensures)
 
 pub end-axis-spec : {M : Type 1} → statement M
 end-axis-spec =
@@ -44,6 +50,8 @@ end-axis-spec =
     size-in-requires
     count-entries-requires
     end-fault-requires
+    same-length
     returns
     put-entries-requires
+    same-length-2
     returns-2)

@@ -1,6 +1,10 @@
+use Prim.Native.Nat.{ℕ}
+use mathlib.Core.Path.{ap, _∙_}
+use mathlib.Core.List.{List}
 use Rattle.text.specs.Split.{split}
-use Rattle.panel_tables.specs.Written.{PanelHeld}
-use Rattle.sheet_line.specs.Lines.{heldAs}
+use Rattle.panel_tables.specs.Regions.{areaWordsIn, areaBytesIn}
+use Rattle.panel_tables.specs.Written.{PanelHeld, panelHeldOf}
+use Rattle.sheet_line.specs.Parts.{beforeOf}
 use Rattle.sheet_line.proofs.Parts.{line-by}
 use borrow.Author.Needs.{needs}
 use Rattle.sheet_step.proofs.read_line.Statement.{statement}
@@ -9,8 +13,11 @@ use Rattle.sheet_step.proofs.read_line.Tie as tie
 read-record-requires : tie.Need-read-record-requires
 read-record-requires c κs = search needs
 
-fault-before-requires : tie.Need-fault-before-requires
-fault-before-requires c κs = search needs
+part-at-requires : tie.Need-part-at-requires
+part-at-requires c κs = search needs
+
+fault-here-requires : tie.Need-fault-here-requires
+fault-here-requires c κs = search needs
 
 panel-record-requires : tie.Need-panel-record-requires
 panel-record-requires c κs = search needs
@@ -25,14 +32,24 @@ at-stage-requires : tie.Need-at-stage-requires
 at-stage-requires c κs = search needs
 
 returns : tie.Need-returns
-returns c = let a = c .before .before .before .before .before .before .before .before .before .before .before .before .before .before .before .before .before .before .before .args in let h : PanelHeld = heldAs (a .panel) (a .reading) (a .columns .now) (a .rows .now) (a .columnmarks .now) (a .rowmarks .now) (a .columnbytes .now) (a .rowbytes .now) (a .areas .now) (a .areabytes .now) (a .placements .now) (a .placementbytes .now) in let fs = split 9 (a .line .now) in simp (c .at-stage .ensures) (line-by h fs (c .before .before .before .before .before .before .before .before .before .before .before .before .before .before .before .before .before .read-record .ensures .0) (c .before .before .before .before .before .before .before .before .before .before .before .before .before .before .fault-before .ensures) (c .before .before .before .panel-record .ensures) (c .before .stage .ensures) (c .before .before .first-fault .ensures))
+unfolding panelHeldOf
+returns c =
+    let a = c .before .before .before .before .before .before .before .before .before .before .before .before .before .before .args in
+    let h : PanelHeld = panelHeldOf (a .panel) (a .reading) (a .words .now) (a .bytes .now) (a .columnbytes .now) (a .rowbytes .now) in
+    let there = c .before .before .before .before .before .before .before .before .before .before .before .before .read-record in
+    simp (c .at-stage .ensures)
+    (line-by h (split 9 (a .line .now)) (there .ensures .0) (there .ensures .1) (there .ensures .2)
+    (c .before .before .before .before .before .before .before .before .fault-here .ensures
+    ∙ ap (λ (n : List ℕ). beforeOf (a .panel .areas) (a .reading) (areaWordsIn (a .words .now)) (areaBytesIn (a .bytes .now)) n (there .result .said)) (c .before .before .before .before .before .before .before .before .before .part-at .ensures))
+    (c .before .before .before .panel-record .ensures) (c .before .stage .ensures) (c .before .before .first-fault .ensures))
 
 pub read-line-spec : {M : Type 1} → statement M
 read-line-spec =
     tie.close
     (tie.spec
     read-record-requires
-    fault-before-requires
+    part-at-requires
+    fault-here-requires
     panel-record-requires
     first-fault-requires
     stage-requires

@@ -11,29 +11,23 @@ returns : tie.Need-returns
 unfolding putSpare
 returns c = rw (c .put .ensures, lt-ltb _ _ (c .before .if1 .taken))
 
-cast-words : tie.Need-cast-words
-cast-words c = search needs
+cast-set-word : tie.Need-cast-set-word
+cast-set-word c = search needs
 
-add-words : tie.Need-add-words
-add-words c = search needs
+add-set-word : tie.Need-add-set-word
+add-set-word c = search needs
 
-mul-words : tie.Need-mul-words
-mul-words c = search needs
+set-word-requires : tie.Need-set-word-requires
+set-word-requires c κs = search needs
 
-element-write-words : tie.Need-element-write-words
-element-write-words c = search needs
+cast-set-word-2 : tie.Need-cast-set-word-2
+cast-set-word-2 c = search needs
 
-cast-words-2 : tie.Need-cast-words-2
-cast-words-2 c = search needs
+add-set-word-2 : tie.Need-add-set-word-2
+add-set-word-2 c = search needs
 
-add-words-2 : tie.Need-add-words-2
-add-words-2 c = search needs
-
-mul-words-2 : tie.Need-mul-words-2
-mul-words-2 c = search needs
-
-element-write-words-2 : tie.Need-element-write-words-2
-element-write-words-2 c = search needs
+set-word-requires-2 : tie.Need-set-word-requires-2
+set-word-requires-2 c κs = search needs
 
 add-after : tie.Need-add-after
 add-after c = search needs
@@ -41,9 +35,12 @@ add-after c = search needs
 put-requires-2 : tie.Need-put-requires-2
 put-requires-2 c κs = search needs
 
+same-length : tie.Need-same-length
+same-length c = search needs
+
 returns-2 : tie.Need-returns-2
 unfolding putSpare
-returns-2 c = rw (c .put2 .ensures, le-ltb _ _ (c .before .if1 .left))
+returns-2 c = rw (c .put2 .ensures, c .before .before .before .set-word2 .ensures, c .before .before .before .before .before .before .before .set-word .ensures, le-ltb _ _ (c .before .before .before .before .before .before .before .before .before .if1 .left))
 
 pub put-spare-spec : {M : Type 1} → statement M
 put-spare-spec =
@@ -51,14 +48,13 @@ put-spare-spec =
     (tie.spec
     put-requires
     returns
-    cast-words
-    add-words
-    mul-words
-    element-write-words
-    cast-words-2
-    add-words-2
-    mul-words-2
-    element-write-words-2
+    cast-set-word
+    add-set-word
+    set-word-requires
+    cast-set-word-2
+    add-set-word-2
+    set-word-requires-2
     add-after
     put-requires-2
+    same-length
     returns-2)

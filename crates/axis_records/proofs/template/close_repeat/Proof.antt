@@ -21,14 +21,11 @@ returns-2 c = rw (c .put2 .ensures, ne-eqb _ _ (c .before .before .if1 .left), l
 component-word-requires : tie.Need-component-word-requires
 component-word-requires c κs = search needs
 
-cast-words : tie.Need-cast-words
-cast-words c = search needs
+cast-set-word : tie.Need-cast-set-word
+cast-set-word c = search needs
 
-mul-words : tie.Need-mul-words
-mul-words c = search needs
-
-element-write-words : tie.Need-element-write-words
-element-write-words c = search needs
+set-word-requires : tie.Need-set-word-requires
+set-word-requires c κs = search needs
 
 add-after : tie.Need-add-after
 add-after c = search needs
@@ -36,9 +33,12 @@ add-after c = search needs
 put-requires-3 : tie.Need-put-requires-3
 put-requires-3 c κs = search needs
 
+same-length : tie.Need-same-length
+same-length c = search needs
+
 returns-3 : tie.Need-returns-3
 unfolding closeRepeat
-returns-3 c = rw (c .put3 .ensures, c .before .component-word .ensures, ne-eqb _ _ (c .before .before .before .if1 .left), le-ltb _ _ (c .before .before .if2 .left))
+returns-3 c = rw (c .put3 .ensures, c .before .before .before .set-word .ensures, c .before .before .before .before .before .component-word .ensures, ne-eqb _ _ (c .before .before .before .before .before .before .before .if1 .left), le-ltb _ _ (c .before .before .before .before .before .before .if2 .left))
 
 pub close-repeat-spec : {M : Type 1} → statement M
 close-repeat-spec =
@@ -49,9 +49,9 @@ close-repeat-spec =
     put-requires-2
     returns-2
     component-word-requires
-    cast-words
-    mul-words
-    element-write-words
+    cast-set-word
+    set-word-requires
     add-after
     put-requires-3
+    same-length
     returns-3)

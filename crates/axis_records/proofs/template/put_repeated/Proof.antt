@@ -18,29 +18,23 @@ returns-2 : tie.Need-returns-2
 unfolding putRepeated
 returns-2 c = rw (c .put2 .ensures, le-ltb _ _ (c .before .before .if1 .left), lt-ltb _ _ (c .before .if2 .taken))
 
-cast-words : tie.Need-cast-words
-cast-words c = search needs
+cast-set-word : tie.Need-cast-set-word
+cast-set-word c = search needs
 
-add-words : tie.Need-add-words
-add-words c = search needs
+add-set-word : tie.Need-add-set-word
+add-set-word c = search needs
 
-mul-words : tie.Need-mul-words
-mul-words c = search needs
+set-word-requires : tie.Need-set-word-requires
+set-word-requires c κs = search needs
 
-element-write-words : tie.Need-element-write-words
-element-write-words c = search needs
+cast-set-word-2 : tie.Need-cast-set-word-2
+cast-set-word-2 c = search needs
 
-cast-words-2 : tie.Need-cast-words-2
-cast-words-2 c = search needs
+add-set-word-2 : tie.Need-add-set-word-2
+add-set-word-2 c = search needs
 
-add-words-2 : tie.Need-add-words-2
-add-words-2 c = search needs
-
-mul-words-2 : tie.Need-mul-words-2
-mul-words-2 c = search needs
-
-element-write-words-2 : tie.Need-element-write-words-2
-element-write-words-2 c = search needs
+set-word-requires-2 : tie.Need-set-word-requires-2
+set-word-requires-2 c κs = search needs
 
 add-after : tie.Need-add-after
 add-after c = search needs
@@ -51,9 +45,12 @@ add-then c = search needs
 put-requires-3 : tie.Need-put-requires-3
 put-requires-3 c κs = search needs
 
+same-length : tie.Need-same-length
+same-length c = search needs
+
 returns-3 : tie.Need-returns-3
 unfolding putRepeated
-returns-3 c = rw (c .put3 .ensures, le-ltb _ _ (c .before .before .if1 .left), le-ltb _ _ (c .before .if2 .left))
+returns-3 c = rw (c .put3 .ensures, c .before .before .before .set-word2 .ensures, c .before .before .before .before .before .before .before .set-word .ensures, le-ltb _ _ (c .before .before .before .before .before .before .before .before .before .before .if1 .left), le-ltb _ _ (c .before .before .before .before .before .before .before .before .before .if2 .left))
 
 pub put-repeated-spec : {M : Type 1} → statement M
 put-repeated-spec =
@@ -63,15 +60,14 @@ put-repeated-spec =
     returns
     put-requires-2
     returns-2
-    cast-words
-    add-words
-    mul-words
-    element-write-words
-    cast-words-2
-    add-words-2
-    mul-words-2
-    element-write-words-2
+    cast-set-word
+    add-set-word
+    set-word-requires
+    cast-set-word-2
+    add-set-word-2
+    set-word-requires-2
     add-after
     add-then
     put-requires-3
+    same-length
     returns-3)

@@ -21,38 +21,29 @@ returns-2 c = rw (c .put2 .ensures, le-ltb _ _ (c .before .before .if1 .left), l
 component-word-requires : tie.Need-component-word-requires
 component-word-requires c κs = search needs
 
-cast-words : tie.Need-cast-words
-cast-words c = search needs
+cast-set-word : tie.Need-cast-set-word
+cast-set-word c = search needs
 
-mul-words : tie.Need-mul-words
-mul-words c = search needs
+set-word-requires : tie.Need-set-word-requires
+set-word-requires c κs = search needs
 
-element-write-words : tie.Need-element-write-words
-element-write-words c = search needs
+cast-set-word-2 : tie.Need-cast-set-word-2
+cast-set-word-2 c = search needs
 
-cast-words-2 : tie.Need-cast-words-2
-cast-words-2 c = search needs
+add-set-word : tie.Need-add-set-word
+add-set-word c = search needs
 
-add-words : tie.Need-add-words
-add-words c = search needs
+set-word-requires-2 : tie.Need-set-word-requires-2
+set-word-requires-2 c κs = search needs
 
-mul-words-2 : tie.Need-mul-words-2
-mul-words-2 c = search needs
+cast-set-word-3 : tie.Need-cast-set-word-3
+cast-set-word-3 c = search needs
 
-element-write-words-2 : tie.Need-element-write-words-2
-element-write-words-2 c = search needs
+add-set-word-2 : tie.Need-add-set-word-2
+add-set-word-2 c = search needs
 
-cast-words-3 : tie.Need-cast-words-3
-cast-words-3 c = search needs
-
-add-words-2 : tie.Need-add-words-2
-add-words-2 c = search needs
-
-mul-words-3 : tie.Need-mul-words-3
-mul-words-3 c = search needs
-
-element-write-words-3 : tie.Need-element-write-words-3
-element-write-words-3 c = search needs
+set-word-requires-3 : tie.Need-set-word-requires-3
+set-word-requires-3 c κs = search needs
 
 add-after : tie.Need-add-after
 add-after c = search needs
@@ -63,9 +54,12 @@ add-after-2 c = search needs
 put-requires-3 : tie.Need-put-requires-3
 put-requires-3 c κs = search needs
 
+same-length : tie.Need-same-length
+same-length c = search needs
+
 returns-3 : tie.Need-returns-3
 unfolding putSingle
-returns-3 c = rw (c .put3 .ensures, c .before .component-word .ensures, le-ltb _ _ (c .before .before .before .if1 .left), le-ltb _ _ (c .before .before .if2 .left))
+returns-3 c = rw (c .put3 .ensures, c .before .before .before .set-word3 .ensures, c .before .before .before .before .before .before .before .set-word2 .ensures, c .before .before .before .before .before .before .before .before .before .before .before .set-word .ensures, c .before .before .before .before .before .before .before .before .before .before .before .before .before .component-word .ensures, le-ltb _ _ (c .before .before .before .before .before .before .before .before .before .before .before .before .before .before .before .if1 .left), le-ltb _ _ (c .before .before .before .before .before .before .before .before .before .before .before .before .before .before .if2 .left))
 
 pub put-single-spec : {M : Type 1} → statement M
 put-single-spec =
@@ -76,18 +70,16 @@ put-single-spec =
     put-requires-2
     returns-2
     component-word-requires
-    cast-words
-    mul-words
-    element-write-words
-    cast-words-2
-    add-words
-    mul-words-2
-    element-write-words-2
-    cast-words-3
-    add-words-2
-    mul-words-3
-    element-write-words-3
+    cast-set-word
+    set-word-requires
+    cast-set-word-2
+    add-set-word
+    set-word-requires-2
+    cast-set-word-3
+    add-set-word-2
+    set-word-requires-3
     add-after
     add-after-2
     put-requires-3
+    same-length
     returns-3)

@@ -7,16 +7,30 @@ use Rattle.axis_records.proofs.template.put_track.Tie as tie
 put-single-requires : tie.Need-put-single-requires
 put-single-requires c κs = search needs
 
+same-length : tie.Need-same-length
+same-length c = search needs
+
 returns : tie.Need-returns
 unfolding putTrack
-returns c = rw (eq-eqb _ _ (c .before .before .if1 .taken)) (c .put-single .ensures)
+returns c = rw (eq-eqb _ _ (c .before .before .before .before .if1 .taken)) (c .before .before .put-single .ensures)
 
 put-repeated-requires : tie.Need-put-repeated-requires
 put-repeated-requires c κs = search needs
 
+same-length-2 : tie.Need-same-length-2
+same-length-2 c = search needs
+
 returns-2 : tie.Need-returns-2
 unfolding putTrack
-returns-2 c = rw (ne-eqb _ _ (c .before .before .if1 .left)) (c .put-repeated .ensures)
+returns-2 c = rw (ne-eqb _ _ (c .before .before .before .before .if1 .left)) (c .before .before .put-repeated .ensures)
 
 pub put-track-spec : {M : Type 1} → statement M
-put-track-spec = tie.close (tie.spec put-single-requires returns put-repeated-requires returns-2)
+put-track-spec =
+    tie.close
+    (tie.spec
+    put-single-requires
+    same-length
+    returns
+    put-repeated-requires
+    same-length-2
+    returns-2)

@@ -15,8 +15,8 @@ add-if1 c = search needs
 next-record-requires : tie.Need-next-record-requires
 next-record-requires c κs = search needs
 
-add-t14 : tie.Need-add-t14
-add-t14 c = search needs
+add-t13 : tie.Need-add-t13
+add-t13 c = search needs
 
 returns : tie.Need-returns
 returns c = rw (lt-ltb _ _ (rw (c .before .before .record-count .ensures) at (c .before .if1 .taken)), c .next-record .ensures)
@@ -35,7 +35,7 @@ next-record-spec =
     cast-count
     add-if1
     next-record-requires
-    add-t14
+    add-t13
     returns
     after-axis-requires
     returns-2)

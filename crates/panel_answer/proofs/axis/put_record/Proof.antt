@@ -5,8 +5,11 @@ use borrow.Author.Needs.{needs}
 use Rattle.panel_answer.proofs.axis.put_record.Statement.{statement}
 use Rattle.panel_answer.proofs.axis.put_record.Tie as tie
 
-record-of-requires : tie.Need-record-of-requires
-record-of-requires c κs = search needs
+marks-requires : tie.Need-marks-requires
+marks-requires c κs = search needs
+
+record-in-requires : tie.Need-record-in-requires
+record-in-requires c κs = search needs
 
 record-line-requires : tie.Need-record-line-requires
 record-line-requires c κs = search needs
@@ -15,7 +18,8 @@ same-length : tie.Need-same-length
 same-length c = search needs
 
 returns : tie.Need-returns
-returns c = line-as (ap (recordLine (c .before .before .before .before .before .before .before .before .args .index)) (c .before .before .before .before .record-of .ensures)) (c .before .before .record-line .ensures)
+returns c = line-as (ap (recordLine (c .before .before .before .before .before .before .before .args .index)) (rw (← c .before .before .before .before .before .marks .ensures) (c .before .before .before .before .record-in .ensures))) (c .before .before .record-line .ensures)
 
 pub put-record-spec : {M : Type 1} → statement M
-put-record-spec = tie.close (tie.spec record-of-requires record-line-requires same-length returns)
+put-record-spec =
+    tie.close (tie.spec marks-requires record-in-requires record-line-requires same-length returns)

@@ -1,4 +1,4 @@
-use Rattle.panel_entry.proofs.Entered.{entered}
+use Rattle.panel_entry.proofs.Entered.{entered, others-entered}
 use Rattle.coordinates.specs.declared.axis.Axis.the-variants.{Column, Row}
 use borrow.Author.Needs.{needs}
 use Rattle.panel_entry.proofs.entering.enter_in.Statement.{statement}
@@ -23,13 +23,19 @@ same-length : tie.Need-same-length
 same-length c = search needs
 
 returns : tie.Need-returns
-returns c = let a = c .before .before .before .before .before .before .before .before .before .before .before .args in rw (c .before .before .before .before .before .enum-told .given .1) (entered (a .panel) (record { columns = a .columns .now; rows = a .rows .now; columnStore = a .columnstore .now; rowStore = a .rowstore .now }) (a .line) (a .name .now) Column (c .before .before .before .before .before .before .before .no-refusal .result) _ (c .before .before .before .before .before .before .before .no-refusal .ensures) (c .before .before .enter-on .ensures))
+returns c = let a = c .before .before .before .before .before .before .before .before .before .before .before .args in let k = c .before .before .before .before .before .before .before .before .before .before .before .pre in rw (c .before .before .before .before .before .enum-told .given .1) (
+  entered (a .words .now) (a .columnstore .now) (a .rowstore .now) (a .line) (a .name .now) _ (a .panel) Column (c .before .before .before .before .before .before .before .no-refusal .result) (rw (c .before .before .before .before .before .enum-told .given .1) at (k .few)) (c .before .before .before .before .before .before .before .no-refusal .ensures) (c .before .before .enter-on .ensures),
+  others-entered (a .words .now) (a .columnstore .now) (a .rowstore .now) (a .line) (a .name .now) _ (a .panel .columns) Column _ (rw (c .before .before .before .before .before .enum-told .given .1) at (k .few)) (c .before .before .enter-on .ensures),
+)
 
 same-length-2 : tie.Need-same-length-2
 same-length-2 c = search needs
 
 returns-2 : tie.Need-returns-2
-returns-2 c = let a = c .before .before .before .before .before .before .before .before .before .before .before .args in rw (c .before .before .before .before .before .enum-told2 .given .1) (entered (a .panel) (record { columns = a .columns .now; rows = a .rows .now; columnStore = a .columnstore .now; rowStore = a .rowstore .now }) (a .line) (a .name .now) Row (c .before .before .before .before .before .before .before .no-refusal .result) _ (c .before .before .before .before .before .before .before .no-refusal .ensures) (c .before .before .enter-on2 .ensures))
+returns-2 c = let a = c .before .before .before .before .before .before .before .before .before .before .before .args in let k = c .before .before .before .before .before .before .before .before .before .before .before .pre in rw (c .before .before .before .before .before .enum-told2 .given .1) (
+  entered (a .words .now) (a .columnstore .now) (a .rowstore .now) (a .line) (a .name .now) _ (a .panel) Row (c .before .before .before .before .before .before .before .no-refusal .result) (rw (c .before .before .before .before .before .enum-told2 .given .1) at (k .few)) (c .before .before .before .before .before .before .before .no-refusal .ensures) (c .before .before .enter-on2 .ensures),
+  others-entered (a .words .now) (a .columnstore .now) (a .rowstore .now) (a .line) (a .name .now) _ (a .panel .rows) Row _ (rw (c .before .before .before .before .before .enum-told2 .given .1) at (k .few)) (c .before .before .enter-on2 .ensures),
+)
 
 pub enter-in-spec : {M : Type 1} → statement M
 enter-in-spec =

@@ -1,5 +1,6 @@
 use Rattle.panel_entry.proofs.Entered.{refusal-is, refused, made, roomy}
-use mathlib.Core.Path.{sym, _∙_}
+use Rattle.panel_rules.specs.Calls.{nameTablesIn}
+use mathlib.Core.Path.{refl, sym, _∙_}
 use borrow.Author.Needs.{needs}
 use Rattle.panel_entry.proofs.entering.enter_name.Statement.{statement}
 use Rattle.panel_entry.proofs.entering.enter_name.Tie as tie
@@ -17,10 +18,15 @@ refusal-of-requires : tie.Need-refusal-of-requires
 refusal-of-requires c κs = search needs
 
 returns : tie.Need-returns
-returns c = let a = c .before .before .before .before .before .before .before .before .args in refused (a .panel) (record { columns = a .columns .now; rows = a .rows .now; columnStore = a .columnstore .now; rowStore = a .rowstore .now }) (a .line) (a .name .now) (a .axis) (c .before .before .entry-refusal .result) (c .refusal-of .result) (c .before .if1 .taken) (refusal-is (a .panel) (record { columns = a .columns .now; rows = a .rows .now; columnStore = a .columnstore .now; rowStore = a .rowstore .now }) (a .line) (a .name .now) (a .axis) (c .before .before .before .before .state-in .result) (c .before .before .before .smaller .result) (c .before .before .entry-refusal .result) (c .before .before .before .before .state-in .ensures) (c .before .before .before .smaller .ensures) (c .before .before .entry-refusal .ensures)) (c .refusal-of .ensures)
+returns c = let a = c .before .before .before .before .before .before .before .before .args in let t = nameTablesIn (a .words .now) (a .columnstore .now) (a .rowstore .now) in (
+  refused (a .panel) t (a .line) (a .name .now) (a .axis) (c .before .before .entry-refusal .result) (c .refusal-of .result) (c .before .if1 .taken)
+      (refusal-is (a .panel) t (a .line) (a .name .now) (a .axis) (c .before .before .before .before .state-in .result) (c .before .before .before .smaller .result) (c .before .before .entry-refusal .result) (c .before .before .before .before .state-in .ensures) (c .before .before .before .smaller .ensures) (c .before .before .entry-refusal .ensures)) (c .refusal-of .ensures),
+  (refl, refl),
+)
 
 enter-in-requires : tie.Need-enter-in-requires
-enter-in-requires c κs = let a = c .before .before .before .before .before .before .before .before .before .before .before .args in roomy (a .panel) (record { columns = a .columns .now; rows = a .rows .now; columnStore = a .columnstore .now; rowStore = a .rowstore .now }) (a .line) (a .name .now) (a .axis) (sym (refusal-is (a .panel) (record { columns = a .columns .now; rows = a .rows .now; columnStore = a .columnstore .now; rowStore = a .rowstore .now }) (a .line) (a .name .now) (a .axis) (c .before .before .before .before .before .before .before .state-in .result) (c .before .before .before .before .before .before .smaller .result) (c .before .before .before .before .before .entry-refusal .result) (c .before .before .before .before .before .before .before .state-in .ensures) (c .before .before .before .before .before .before .smaller .ensures) (c .before .before .before .before .before .entry-refusal .ensures)) ∙ c .before .before .before .before .if1 .left)
+enter-in-requires c κs = let a = c .before .before .before .before .before .before .before .before .before .before .args in let t = nameTablesIn (a .words .now) (a .columnstore .now) (a .rowstore .now) in
+    roomy (a .panel) t (a .line) (a .name .now) (a .axis) (sym (refusal-is (a .panel) t (a .line) (a .name .now) (a .axis) (c .before .before .before .before .before .before .state-in .result) (c .before .before .before .before .before .smaller .result) (c .before .before .before .before .entry-refusal .result) (c .before .before .before .before .before .before .state-in .ensures) (c .before .before .before .before .before .smaller .ensures) (c .before .before .before .before .entry-refusal .ensures)) ∙ c .before .before .before .if1 .left)
 
 same-length : tie.Need-same-length
 same-length c = search needs
@@ -29,7 +35,10 @@ same-length-2 : tie.Need-same-length-2
 same-length-2 c = search needs
 
 returns-2 : tie.Need-returns-2
-returns-2 c = let a = c .before .before .before .before .before .before .before .before .before .before .before .before .before .before .before .before .args in c .before .before .before .before .enter-in .ensures ∙ made (a .panel) (record { columns = a .columns .now; rows = a .rows .now; columnStore = a .columnstore .now; rowStore = a .rowstore .now }) (a .line) (a .name .now) (a .axis) (sym (refusal-is (a .panel) (record { columns = a .columns .now; rows = a .rows .now; columnStore = a .columnstore .now; rowStore = a .rowstore .now }) (a .line) (a .name .now) (a .axis) (c .before .before .before .before .before .before .before .before .before .before .before .before .state-in .result) (c .before .before .before .before .before .before .before .before .before .before .before .smaller .result) (c .before .before .before .before .before .before .before .before .before .before .entry-refusal .result) (c .before .before .before .before .before .before .before .before .before .before .before .before .state-in .ensures) (c .before .before .before .before .before .before .before .before .before .before .before .smaller .ensures) (c .before .before .before .before .before .before .before .before .before .before .entry-refusal .ensures)) ∙ c .before .before .before .before .before .before .before .before .before .if1 .left)
+returns-2 c = let a = c .before .before .before .before .before .before .before .before .before .before .before .before .before .before .before .args in let t = nameTablesIn (a .words .now) (a .columnstore .now) (a .rowstore .now) in (
+  c .before .before .before .before .enter-in .ensures .0 ∙ made (a .panel) t (a .line) (a .name .now) (a .axis) (sym (refusal-is (a .panel) t (a .line) (a .name .now) (a .axis) (c .before .before .before .before .before .before .before .before .before .before .before .state-in .result) (c .before .before .before .before .before .before .before .before .before .before .smaller .result) (c .before .before .before .before .before .before .before .before .before .entry-refusal .result) (c .before .before .before .before .before .before .before .before .before .before .before .state-in .ensures) (c .before .before .before .before .before .before .before .before .before .before .smaller .ensures) (c .before .before .before .before .before .before .before .before .before .entry-refusal .ensures)) ∙ c .before .before .before .before .before .before .before .before .if1 .left),
+  c .before .before .before .before .enter-in .ensures .1,
+)
 
 pub enter-name-spec : {M : Type 1} → statement M
 enter-name-spec =

@@ -4,6 +4,9 @@ use borrow.Author.Needs.{needs}
 use Rattle.panel_entry.proofs.entering.enter_on.Statement.{statement}
 use Rattle.panel_entry.proofs.entering.enter_on.Tie as tie
 
+first-word-requires : tie.Need-first-word-requires
+first-word-requires c κs = search needs
+
 cast-words : tie.Need-cast-words
 cast-words c = search needs
 
@@ -24,6 +27,9 @@ cast-words-2 c = search needs
 
 add-words-3 : tie.Need-add-words-3
 add-words-3 c = search needs
+
+add-words-4 : tie.Need-add-words-4
+add-words-4 c = search needs
 
 mul-words-3 : tie.Need-mul-words-3
 mul-words-3 c = search needs
@@ -50,12 +56,13 @@ same-length : tie.Need-same-length
 same-length c = search needs
 
 returns : tie.Need-returns
-returns c = let a = c .before .before .before .before .before .before .args in let k = c .before .before .before .before .before .before .pre in rw (c .before .before .put-bytes .ensures) (rw (bytes-put (a .store .now) (a .state .used) (a .name .now) (omega (arith, k .fits, k .wide))))
+returns c = let a = c .before .before .before .before .before .before .before .args in let k = c .before .before .before .before .before .before .before .pre in rw (c .before .before .put-bytes .ensures, c .before .before .before .before .first-word .ensures .0) (rw (bytes-put (a .store .now) (a .state .used) (a .name .now) (omega (arith, k .fits, k .wide))))
 
 pub enter-on-spec : {M : Type 1} → statement M
 enter-on-spec =
     tie.close
     (tie.spec
+    first-word-requires
     cast-words
     mul-words
     add-words
@@ -63,6 +70,7 @@ enter-on-spec =
     add-words-2
     cast-words-2
     add-words-3
+    add-words-4
     mul-words-3
     element-write-words
     cast-put-bytes

@@ -2,6 +2,7 @@ use mathlib.Core.Path.{refl, ap}
 use Prim.Native.Nat.{ℕ}
 use borrow.Author.Tests.{le-ltb}
 use lib.Dec.{ltb}
+use Rattle.panel_rules.specs.Calls.{areaTableIn, nameTablesIn, placementTableIn}
 use Rattle.panel_rules.specs.Placing.{linePlacement, resolvePlacement}
 use Rattle.panel_resolving.proofs.Placed.{placed}
 use borrow.Author.Needs.{needs}
@@ -14,6 +15,9 @@ refused-placement-requires c κs = search needs
 returns : tie.Need-returns
 unfolding resolvePlacement
 returns c = rw (c .refused-placement .ensures, le-ltb _ _ (c .before .if1 .taken))
+
+placement-words-requires : tie.Need-placement-words-requires
+placement-words-requires c κs = search needs
 
 placement-at-requires : tie.Need-placement-at-requires
 placement-at-requires c κs = search needs
@@ -28,8 +32,8 @@ placed-by-requires : tie.Need-placed-by-requires
 placed-by-requires c κs = search needs
 
 returns-2 : tie.Need-returns-2
-returns-2 c = let a = c .before .before .before .before .before .before .before .before .args in let place = c .before .before .before .placement-at in
-    placed (a .panel) (record { columns = a .columns .now; rows = a .rows .now; columnStore = a .columnstore .now; rowStore = a .rowstore .now }) (record { words = a .areas .now; bytes = a .areabytes .now }) (record { words = a .placements .now; bytes = a .placementbytes .now }) (a .index) (c .before .before .before .before .if1 .left) (place .result) (linePlacement (place .result)) (c .before .before .resolve-in .result) (ltb (c .before .smaller .result) 32768) (c .placed-by .result) (place .ensures) refl (rw (← place .ensures) at (c .before .before .resolve-in .ensures)) (ap (λ (n : ℕ). ltb n 32768) (c .before .smaller .ensures)) (c .placed-by .ensures)
+returns-2 c = let a = c .before .before .before .before .before .before .before .before .before .args in let place = c .before .before .before .placement-at in let cut = c .before .before .before .before .placement-words in
+    placed (a .panel) (nameTablesIn (a .words .now) (a .columnstore .now) (a .rowstore .now)) (areaTableIn (a .words .now) (a .bytes .now)) (placementTableIn (a .words .now) (a .bytes .now)) (a .index) (c .before .before .before .before .before .if1 .left) (place .result) (linePlacement (place .result)) (c .before .before .resolve-in .result) (ltb (c .before .smaller .result) 32768) (c .placed-by .result) (rw (cut .ensures) at (place .ensures)) refl (rw (← cut .ensures, ← place .ensures) at (c .before .before .resolve-in .ensures)) (ap (λ (n : ℕ). ltb n 32768) (c .before .smaller .ensures)) (c .placed-by .ensures)
 
 pub resolve-placement-spec : {M : Type 1} → statement M
 resolve-placement-spec =
@@ -37,6 +41,7 @@ resolve-placement-spec =
     (tie.spec
     refused-placement-requires
     returns
+    placement-words-requires
     placement-at-requires
     resolve-in-requires
     smaller-requires

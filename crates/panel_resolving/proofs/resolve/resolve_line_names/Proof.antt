@@ -7,16 +7,17 @@ use borrow.Author.Needs.{needs}
 use Rattle.line_search.proofs.Suffixes.{never}
 use Rattle.named.specs.Questions.{answered, answeredLine}
 use Rattle.named.specs.Steps.{firstEnd, questionOf}
+use Rattle.panel_tables.specs.Regions.{areaBytesIn, areaWordsIn, placementBytesIn}
 use Rattle.panel_resolving.specs.Names.{bearsBy, resolutionBy}
 use Rattle.panel_resolving.proofs.resolve.resolve_line_names.Statement.{statement}
 use Rattle.panel_resolving.proofs.resolve.resolve_line_names.Tie as tie
 
 abbrev Inv-loop : tie.InvT-loop
-Inv-loop around index store areas areabytes names line first₀ last₀ first last =
-    last ≡ true → first ≡ answered (bearsBy around index store areas areabytes) names (around .explicit) (questionOf (around .explicit) (firstEnd line))
+Inv-loop around index store words bytes line first₀ last₀ first last =
+    last ≡ true → first ≡ answered (bearsBy around index store (areaWordsIn words) (areaBytesIn bytes)) (placementBytesIn bytes) (around .explicit) (questionOf (around .explicit) (firstEnd line))
 
 abbrev μ-loop : tie.MeasureT-loop
-μ-loop around index store areas areabytes names line first₀ last₀ first last = cond last 0 1
+μ-loop around index store words bytes line first₀ last₀ first last = cond last 0 1
 
 refused-resolution-requires : tie.Need-refused-resolution-requires Inv-loop μ-loop
 refused-resolution-requires c κs = search needs

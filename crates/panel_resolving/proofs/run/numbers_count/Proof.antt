@@ -7,9 +7,6 @@ use Rattle.panel_resolving.proofs.run.numbers_count.Tie as tie
 sub-left : tie.Need-sub-left
 sub-left c = search needs
 
-cast-left : tie.Need-cast-left
-cast-left c = search needs
-
 returns : tie.Need-returns
 unfolding numbersCount
 returns c = (omega (arith, c .if1 .taken), omega (arith, c .before .pre), omega (arith, c .if1 .taken))
@@ -19,4 +16,4 @@ unfolding numbersCount
 returns-2 c = (omega (arith, c .if1 .left), omega (arith, c .if1 .left, c .before .pre), omega arith)
 
 pub numbers-count-spec : {M : Type 1} → statement M
-numbers-count-spec = tie.close (tie.spec sub-left cast-left returns returns-2)
+numbers-count-spec = tie.close (tie.spec sub-left returns returns-2)

@@ -1,4 +1,5 @@
 use native.Mathlib.Omega.{arith}
+use Rattle.panel_rules.specs.Calls.{areaTableIn, nameTablesIn, placementTableIn}
 use Rattle.panel_resolving.proofs.Choosing.{axes-written}
 use borrow.Author.Needs.{needs}
 use Rattle.panel_resolving.proofs.run.write_numbers.Statement.{statement}
@@ -10,8 +11,14 @@ run-of-requires c κs = search needs
 run-of-requires-2 : tie.Need-run-of-requires-2
 run-of-requires-2 c κs = search needs
 
+axis-words-requires : tie.Need-axis-words-requires
+axis-words-requires c κs = search needs
+
 entries-of-requires : tie.Need-entries-of-requires
 entries-of-requires c κs = search needs
+
+axis-words-requires-2 : tie.Need-axis-words-requires-2
+axis-words-requires-2 c κs = search needs
 
 entries-of-requires-2 : tie.Need-entries-of-requires-2
 entries-of-requires-2 c κs = search needs
@@ -27,8 +34,8 @@ same-length c = search needs
 
 returns : tie.Need-returns
 returns c = let a = c .before .before .before .before .before .before .before .before .before .before .before .before .before .before .before .before .args in
-    axes-written (a .panel) (record { columns = a .columns .now; rows = a .rows .now; columnStore = a .columnstore .now; rowStore = a .rowstore .now }) (record { words = a .areas .now; bytes = a .areabytes .now }) (record { words = a .placements .now; bytes = a .placementbytes .now }) (a .first) (a .count) (a .numbers .now) (c .before .before .before .before .before .before .before .before .before .before .before .before .before .before .before .before .pre .0 .0) (c .before .before .before .before .before .before .before .before .before .before .before .before .before .before .before .before .pre .1) (c .before .before .before .before .before .before .before .before .before .before .before .run-of .result) (c .before .before .before .before .before .before .before .before .before .before .run-of2 .result) (c .before .before .before .before .before .before .before .before .entries-of .result .now) (c .before .before .before .before .before .before .entries-of2 .result .now) _ _
-    (c .before .before .before .before .before .before .before .before .before .before .before .run-of .ensures) (c .before .before .before .before .before .before .before .before .entries-of .ensures) (c .before .before .before .before .before .before .before .before .before .before .run-of2 .ensures) (c .before .before .before .before .before .before .entries-of2 .ensures) (c .before .before .before .before .write-axis .ensures) (c .before .write-axis2 .ensures)
+    axes-written (a .panel) (nameTablesIn (a .words .now) (a .columnstore .now) (a .rowstore .now)) (areaTableIn (a .words .now) (a .bytes .now)) (placementTableIn (a .words .now) (a .bytes .now)) (a .first) (a .count) (a .numbers .now) (c .before .before .before .before .before .before .before .before .before .before .before .before .before .before .before .before .pre .0 .0) (c .before .before .before .before .before .before .before .before .before .before .before .before .before .before .before .before .pre .1) (c .before .before .before .before .before .before .before .before .before .before .before .run-of .result) (c .before .before .before .before .before .before .before .before .before .before .run-of2 .result) (c .before .before .before .before .before .before .before .before .entries-of .result .now) (c .before .before .before .before .before .before .entries-of2 .result .now) _ _
+    (c .before .before .before .before .before .before .before .before .before .before .before .run-of .ensures) (rw (c .before .before .before .before .before .before .before .before .before .axis-words .ensures) at (c .before .before .before .before .before .before .before .before .entries-of .ensures)) (c .before .before .before .before .before .before .before .before .before .before .run-of2 .ensures) (rw (c .before .before .before .before .before .before .before .axis-words2 .ensures) at (c .before .before .before .before .before .before .entries-of2 .ensures)) (c .before .before .before .before .write-axis .ensures) (c .before .write-axis2 .ensures)
 
 pub write-numbers-spec : {M : Type 1} → statement M
 write-numbers-spec =
@@ -36,7 +43,9 @@ write-numbers-spec =
     (tie.spec
     run-of-requires
     run-of-requires-2
+    axis-words-requires
     entries-of-requires
+    axis-words-requires-2
     entries-of-requires-2
     write-axis-requires
     write-axis-requires-2

@@ -1,6 +1,7 @@
 use lib.ListN.{length}
 use Rattle.name_groups.specs.declared.key.Grouping.the-variants.{Whole}
 use Rattle.name_groups.proofs.Ungrouped.{whole-grouped}
+use Rattle.panel_tables.specs.Regions.{areaBytesIn, areaWordsIn, placementBytesIn, placementWordsIn}
 use Rattle.panel_resolving.proofs.GroupedRuns.{few-entries, many-entries, grouped-run}
 use borrow.Author.Needs.{needs}
 use Rattle.panel_resolving.proofs.write.write_axis.Statement.{statement}
@@ -35,7 +36,7 @@ same-length c = search needs
 
 returns : tie.Need-returns
 returns c = let a = c .before .before .before .before .before .before .before .before .before .args in
-    grouped-run (a .run) (c .before .before .before .run-grouped .result) Whole (c .before .before .before .run-grouped .ensures) (a .entries .now) (a .entries .now) (a .store .now) (a .areas .now) (a .areabytes .now) (a .placements .now) (a .names .now) (whole-grouped (a .entries .now) (a .store .now)) (a .numbers .now) _ (c .before .write-beside .ensures .0)
+    grouped-run (a .run) (c .before .before .before .run-grouped .result) Whole (c .before .before .before .run-grouped .ensures) (a .entries .now) (a .entries .now) (a .store .now) (areaWordsIn (a .words .now)) (areaBytesIn (a .bytes .now)) (placementWordsIn (a .words .now)) (placementBytesIn (a .bytes .now)) (whole-grouped (a .entries .now) (a .store .now)) (a .numbers .now) _ (c .before .write-beside .ensures .0)
 
 same-length-2 : tie.Need-same-length-2
 same-length-2 c = search needs

@@ -1,5 +1,6 @@
 use lib.ListN.{length}
 use Rattle.name_groups.specs.declared.key.Grouping.the-variants.{Few}
+use Rattle.panel_tables.specs.Regions.{areaBytesIn, areaWordsIn, placementBytesIn, placementWordsIn}
 use Rattle.panel_resolving.proofs.GroupedRuns.{few-parted, few-fit, grouped-run}
 use borrow.Author.Needs.{needs}
 use Rattle.panel_resolving.proofs.write.write_few.Statement.{statement}
@@ -28,7 +29,7 @@ same-length c = search needs
 
 returns : tie.Need-returns
 returns c = let a = c .before .before .before .before .before .before .before .before .before .before .before .before .args in
-    grouped-run (a .run) (c .before .before .before .before .run-grouped .result) Few (c .before .before .before .before .run-grouped .ensures) (a .entries .now) _ (a .store .now) (a .areas .now) (a .areabytes .now) (a .placements .now) (a .names .now) (c .before .before .before .before .before .before .before .group-entries .ensures .grouped few-parted (few-fit (length (a .entries .now)) (c .before .before .before .before .before .before .before .before .before .before .before .before .pre .1))) (a .numbers .now) _ (c .before .write-beside .ensures .0)
+    grouped-run (a .run) (c .before .before .before .before .run-grouped .result) Few (c .before .before .before .before .run-grouped .ensures) (a .entries .now) _ (a .store .now) (areaWordsIn (a .words .now)) (areaBytesIn (a .bytes .now)) (placementWordsIn (a .words .now)) (placementBytesIn (a .bytes .now)) (c .before .before .before .before .before .before .before .group-entries .ensures .grouped few-parted (few-fit (length (a .entries .now)) (c .before .before .before .before .before .before .before .before .before .before .before .before .pre .1))) (a .numbers .now) _ (c .before .write-beside .ensures .0)
 
 pub write-few-spec : {M : Type 1} → statement M
 write-few-spec =

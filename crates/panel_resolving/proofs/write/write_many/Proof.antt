@@ -1,5 +1,6 @@
 use lib.ListN.{length}
 use Rattle.name_groups.specs.declared.key.Grouping.the-variants.{Many}
+use Rattle.panel_tables.specs.Regions.{areaBytesIn, areaWordsIn, placementBytesIn, placementWordsIn}
 use Rattle.panel_resolving.proofs.GroupedRuns.{many-parted, many-fit, grouped-run}
 use borrow.Author.Needs.{needs}
 use Rattle.panel_resolving.proofs.write.write_many.Statement.{statement}
@@ -28,7 +29,7 @@ same-length c = search needs
 
 returns : tie.Need-returns
 returns c = let a = c .before .before .before .before .before .before .before .before .before .before .before .before .args in
-    grouped-run (a .run) (c .before .before .before .before .run-grouped .result) Many (c .before .before .before .before .run-grouped .ensures) (a .entries .now) _ (a .store .now) (a .areas .now) (a .areabytes .now) (a .placements .now) (a .names .now) (c .before .before .before .before .before .before .before .group-entries .ensures .grouped many-parted (many-fit (length (a .entries .now)) (c .before .before .before .before .before .before .before .before .before .before .before .before .pre .1))) (a .numbers .now) _ (c .before .write-beside .ensures .0)
+    grouped-run (a .run) (c .before .before .before .before .run-grouped .result) Many (c .before .before .before .before .run-grouped .ensures) (a .entries .now) _ (a .store .now) (areaWordsIn (a .words .now)) (areaBytesIn (a .bytes .now)) (placementWordsIn (a .words .now)) (placementBytesIn (a .bytes .now)) (c .before .before .before .before .before .before .before .group-entries .ensures .grouped many-parted (many-fit (length (a .entries .now)) (c .before .before .before .before .before .before .before .before .before .before .before .before .pre .1))) (a .numbers .now) _ (c .before .write-beside .ensures .0)
 
 pub write-many-spec : {M : Type 1} → statement M
 write-many-spec =

@@ -9,7 +9,7 @@ name-part-requires : tie.Need-name-part-requires
 name-part-requires c κs = search needs
 
 returns : tie.Need-returns
-returns c = rw (c .before .before .area-at .ensures) at (c .name-part .ensures)
+returns c = rw (c .before .area-at .ensures) at (c .name-part .ensures)
 
 pub area-name-spec : {M : Type 1} → statement M
 area-name-spec = tie.close (tie.spec area-at-requires name-part-requires returns)

@@ -13,7 +13,7 @@ word-at-requires : tie.Need-word-at-requires
 word-at-requires c κs = search needs
 
 returns : tie.Need-returns
-returns c = rw (lt-ltb _ _ (c .before .before .if1 .taken)) (c .word-at .ensures)
+returns c = rw (lt-ltb _ _ (c .before .if1 .taken)) (c .word-at .ensures)
 
 returns-2 : tie.Need-returns-2
 returns-2 c = rw (le-ltb _ _ (c .if1 .left))

@@ -6,23 +6,22 @@ use lib.ListN.{length, take, drop, length-take, length-drop}
 use borrow.Author.Needs.{needs}
 use Rattle.text.specs.Split.{split}
 use Rattle.text.proofs.Laws.{find-le, split-more, split-no-more, split-end}
-use Rattle.panel_tables.specs.Written.{zeroPanel, zeroPanelReading, PanelHeld, PanelStepped}
-use Rattle.sheet_line.specs.Lines.{heldAs}
+use Rattle.panel_tables.specs.Written.{zeroPanel, zeroPanelReading, PanelHeld, PanelStepped, panelHeldOf}
 use Rattle.sheet.specs.Runs.{heldRun}
 use Rattle.sheet.proofs.Steps.{run-next, run-stop, run-open, run-last}
 use Rattle.sheet.proofs.lines.read_lines.Statement.{statement}
 use Rattle.sheet.proofs.lines.read_lines.Tie as tie
 
 abbrev Inv-loop : tie.InvT-loop
-Inv-loop sheet columns₀ rows₀ columnmarks₀ rowmarks₀ columnbytes₀ rowbytes₀ areas₀ areabytes₀ placements₀ placementbytes₀ panel₀ reading₀ at₀ line₀ columns rows columnmarks rowmarks columnbytes rowbytes areas areabytes placements placementbytes panel reading at line =
+Inv-loop sheet words₀ bytes₀ columnbytes₀ rowbytes₀ panel₀ reading₀ at₀ line₀ words bytes columnbytes rowbytes panel reading at line =
     (at ≤ length sheet)
     × (length sheet ≤ 32768)
     × (line ≤ at + 1)
-    × (heldRun 1 (split 10 sheet) (heldAs zeroPanel zeroPanelReading columns₀ rows₀ columnmarks₀ rowmarks₀ columnbytes₀ rowbytes₀ areas₀ areabytes₀ placements₀ placementbytes₀)
-    ≡ heldRun line (split 10 (drop at sheet)) (heldAs panel reading columns rows columnmarks rowmarks columnbytes rowbytes areas areabytes placements placementbytes))
+    × (heldRun 1 (split 10 sheet) (panelHeldOf zeroPanel zeroPanelReading words₀ bytes₀ columnbytes₀ rowbytes₀)
+    ≡ heldRun line (split 10 (drop at sheet)) (panelHeldOf panel reading words bytes columnbytes rowbytes))
 
 abbrev μ-loop : tie.MeasureT-loop
-μ-loop sheet columns₀ rows₀ columnmarks₀ rowmarks₀ columnbytes₀ rowbytes₀ areas₀ areabytes₀ placements₀ placementbytes₀ panel₀ reading₀ at₀ line₀ columns rows columnmarks rowmarks columnbytes rowbytes areas areabytes placements placementbytes panel reading at line =
+μ-loop sheet words₀ bytes₀ columnbytes₀ rowbytes₀ panel₀ reading₀ at₀ line₀ words bytes columnbytes rowbytes panel reading at line =
     length sheet - at
 
 zero-panel-requires : tie.Need-zero-panel-requires Inv-loop μ-loop
@@ -41,7 +40,7 @@ returns : tie.Need-returns Inv-loop μ-loop
 returns c =
     let s = c .before .before .before .before .before .before .before .args .sheet .now in
     let l = c .before .before .before .loop in
-    let h : PanelHeld = heldAs (l .panel) (l .reading) (l .columns) (l .rows) (l .columnmarks) (l .rowmarks) (l .columnbytes) (l .rowbytes) (l .areas) (l .areabytes) (l .placements) (l .placementbytes) in
+    let h : PanelHeld = panelHeldOf (l .panel) (l .reading) (l .words) (l .bytes) (l .columnbytes) (l .rowbytes) in
     let f = c .before .find in
     sym
     (l .inv .3
@@ -49,56 +48,56 @@ returns c =
     ∙ run-open (l .line) (take (f .result - l .at) (drop (l .at) s)) h (λ z. omega (arith, length-take (f .result - l .at) (drop (l .at) s), length-drop (l .at) s)))
 
 sub-read-line : tie.Need-sub-read-line Inv-loop μ-loop
-sub-read-line c = omega (arith, c .before .before .before .before .before .before .before .before .before .before .before .find .ensures)
+sub-read-line c = omega (arith, c .before .before .before .before .before .find .ensures)
 
 part-read-line-start : tie.Need-part-read-line-start Inv-loop μ-loop
-part-read-line-start c = omega (arith, c .before .before .before .before .before .before .before .before .before .before .before .find .ensures)
+part-read-line-start c = omega (arith, c .before .before .before .before .before .find .ensures)
 
 part-read-line-end : tie.Need-part-read-line-end Inv-loop μ-loop
-part-read-line-end c = find-le 10 _ (c .before .before .before .before .before .before .before .before .before .before .before .before .before .loop .at) (c .before .before .before .before .before .before .before .before .before .before .before .find .result) (omega arith) (c .before .before .before .before .before .before .before .before .before .before .before .find .ensures)
+part-read-line-end c = find-le 10 _ (c .before .before .before .before .before .before .before .loop .at) (c .before .before .before .before .before .find .result) (omega arith) (c .before .before .before .before .before .find .ensures)
 
 read-line-requires : tie.Need-read-line-requires Inv-loop μ-loop
 read-line-requires c κs = search needs
 
 returns-2 : tie.Need-returns-2 Inv-loop μ-loop
 returns-2 c =
-    let s = c .before .before .before .before .before .before .before .before .before .before .before .before .before .before .before .before .before .before .before .before .before .before .args .sheet .now in
-    let l = c .before .before .before .before .before .before .before .before .before .before .before .before .before .before .before .before .before .before .loop in
-    let h : PanelHeld = heldAs (l .panel) (l .reading) (l .columns) (l .rows) (l .columnmarks) (l .rowmarks) (l .columnbytes) (l .rowbytes) (l .areas) (l .areabytes) (l .placements) (l .placementbytes) in
-    let f = c .before .before .before .before .before .before .before .before .before .before .before .before .before .before .before .before .find in
+    let s = c .before .before .before .before .before .before .before .before .before .before .before .before .before .before .before .before .args .sheet .now in
+    let l = c .before .before .before .before .before .before .before .before .before .before .before .before .loop in
+    let h : PanelHeld = panelHeldOf (l .panel) (l .reading) (l .words) (l .bytes) (l .columnbytes) (l .rowbytes) in
+    let f = c .before .before .before .before .before .before .before .before .before .before .find in
     let k = c .before .before .before .read-line in
-    let x : PanelStepped = record { fault = k .result .fault; held = heldAs (k .result .panel) (k .result .reading) (k .last .1 .1 .0) (k .last .1 .1 .1 .0) (k .last .1 .1 .1 .1 .0) (k .last .1 .1 .1 .1 .1 .0) (k .last .1 .1 .1 .1 .1 .1 .0) (k .last .1 .1 .1 .1 .1 .1 .1 .0) (k .last .1 .1 .1 .1 .1 .1 .1 .1 .0) (k .last .1 .1 .1 .1 .1 .1 .1 .1 .1 .0) (k .last .1 .1 .1 .1 .1 .1 .1 .1 .1 .1 .0) (k .last .1 .1 .1 .1 .1 .1 .1 .1 .1 .1 .1 .0) } in
+    let x : PanelStepped = record { fault = k .result .fault; held = panelHeldOf (k .result .panel) (k .result .reading) (k .last .1 .1 .0) (k .last .1 .1 .1 .0) (k .last .1 .1 .1 .1 .0) (k .last .1 .1 .1 .1 .1 .0) } in
     sym
     (l .inv .3
-    ∙ ap (λ (ps : List (List ℕ)). heldRun (l .line) ps h) (split-more 10 s (l .at) (f .result) (omega arith) (f .ensures) (c .before .before .before .before .before .before .before .before .before .before .before .before .before .before .before .if1 .left))
+    ∙ ap (λ (ps : List (List ℕ)). heldRun (l .line) ps h) (split-more 10 s (l .at) (f .result) (omega arith) (f .ensures) (c .before .before .before .before .before .before .before .before .before .if1 .left))
     ∙ run-stop (l .line) (take (f .result - l .at) (drop (l .at) s)) h 10 (drop (f .result + 1) s) x (k .ensures) (c .if2 .taken))
 
 add-at : tie.Need-add-at Inv-loop μ-loop
 add-at c =
-    let s = c .before .before .before .before .before .before .before .before .before .before .before .before .before .before .before .before .before .before .before .before .before .before .args .sheet .now in
-    let l = c .before .before .before .before .before .before .before .before .before .before .before .before .before .before .before .before .before .before .loop in
-    let f = c .before .before .before .before .before .before .before .before .before .before .before .before .before .before .before .before .find in
+    let s = c .before .before .before .before .before .before .before .before .before .before .before .before .before .before .before .before .args .sheet .now in
+    let l = c .before .before .before .before .before .before .before .before .before .before .before .before .loop in
+    let f = c .before .before .before .before .before .before .before .before .before .before .find in
     omega (arith, find-le 10 s (l .at) (f .result) (omega arith) (f .ensures))
 
 add-line : tie.Need-add-line Inv-loop μ-loop
-add-line c = let l = c .before .before .before .before .before .before .before .before .before .before .before .before .before .before .before .before .before .before .loop in omega (arith, l .inv .0, l .inv .1, l .inv .2)
+add-line c = let l = c .before .before .before .before .before .before .before .before .before .before .before .before .loop in omega (arith, l .inv .0, l .inv .1, l .inv .2)
 
 loop-less : tie.Need-loop-less Inv-loop μ-loop
-loop-less c = omega (arith, c .before .before .before .before .before .before .before .before .before .before .before .before .before .before .before .before .find .ensures, c .before .before .before .before .before .before .before .before .before .before .before .before .before .before .before .before .before .loop-test .taken)
+loop-less c = omega (arith, c .before .before .before .before .before .before .before .before .before .before .find .ensures, c .before .before .before .before .before .before .before .before .before .before .before .loop-test .taken)
 
 loop-again : tie.Need-loop-again Inv-loop μ-loop
 loop-again c =
-    let s = c .before .before .before .before .before .before .before .before .before .before .before .before .before .before .before .before .before .before .before .before .before .before .args .sheet .now in
-    let l = c .before .before .before .before .before .before .before .before .before .before .before .before .before .before .before .before .before .before .loop in
-    let h : PanelHeld = heldAs (l .panel) (l .reading) (l .columns) (l .rows) (l .columnmarks) (l .rowmarks) (l .columnbytes) (l .rowbytes) (l .areas) (l .areabytes) (l .placements) (l .placementbytes) in
-    let f = c .before .before .before .before .before .before .before .before .before .before .before .before .before .before .before .before .find in
+    let s = c .before .before .before .before .before .before .before .before .before .before .before .before .before .before .before .before .args .sheet .now in
+    let l = c .before .before .before .before .before .before .before .before .before .before .before .before .loop in
+    let h : PanelHeld = panelHeldOf (l .panel) (l .reading) (l .words) (l .bytes) (l .columnbytes) (l .rowbytes) in
+    let f = c .before .before .before .before .before .before .before .before .before .before .find in
     let k = c .before .before .before .read-line in
-    let x : PanelStepped = record { fault = k .result .fault; held = heldAs (k .result .panel) (k .result .reading) (k .last .1 .1 .0) (k .last .1 .1 .1 .0) (k .last .1 .1 .1 .1 .0) (k .last .1 .1 .1 .1 .1 .0) (k .last .1 .1 .1 .1 .1 .1 .0) (k .last .1 .1 .1 .1 .1 .1 .1 .0) (k .last .1 .1 .1 .1 .1 .1 .1 .1 .0) (k .last .1 .1 .1 .1 .1 .1 .1 .1 .1 .0) (k .last .1 .1 .1 .1 .1 .1 .1 .1 .1 .1 .0) (k .last .1 .1 .1 .1 .1 .1 .1 .1 .1 .1 .1 .0) } in (
-      omega (arith, find-le 10 s (l .at) (f .result) (omega arith) (f .ensures), c .before .before .before .before .before .before .before .before .before .before .before .before .before .before .before .if1 .left),
+    let x : PanelStepped = record { fault = k .result .fault; held = panelHeldOf (k .result .panel) (k .result .reading) (k .last .1 .1 .0) (k .last .1 .1 .1 .0) (k .last .1 .1 .1 .1 .0) (k .last .1 .1 .1 .1 .1 .0) } in (
+      omega (arith, find-le 10 s (l .at) (f .result) (omega arith) (f .ensures), c .before .before .before .before .before .before .before .before .before .if1 .left),
       l .inv .1,
       omega (arith, f .ensures),
       l .inv .3
-          ∙ ap (λ (ps : List (List ℕ)). heldRun (l .line) ps h) (split-more 10 s (l .at) (f .result) (omega arith) (f .ensures) (c .before .before .before .before .before .before .before .before .before .before .before .before .before .before .before .if1 .left))
+          ∙ ap (λ (ps : List (List ℕ)). heldRun (l .line) ps h) (split-more 10 s (l .at) (f .result) (omega arith) (f .ensures) (c .before .before .before .before .before .before .before .before .before .if1 .left))
           ∙ run-next (l .line) (take (f .result - l .at) (drop (l .at) s)) h 10 (drop (f .result + 1) s) x (k .ensures) (c .if2 .left),
     )
 
@@ -106,7 +105,7 @@ returns-3 : tie.Need-returns-3 Inv-loop μ-loop
 returns-3 c =
     let s = c .before .before .before .before .before .args .sheet .now in
     let l = c .before .loop in
-    let h : PanelHeld = heldAs (l .panel) (l .reading) (l .columns) (l .rows) (l .columnmarks) (l .rowmarks) (l .columnbytes) (l .rowbytes) (l .areas) (l .areabytes) (l .placements) (l .placementbytes) in
+    let h : PanelHeld = panelHeldOf (l .panel) (l .reading) (l .words) (l .bytes) (l .columnbytes) (l .rowbytes) in
     sym
     (l .inv .3
     ∙ ap (λ (ps : List (List ℕ)). heldRun (l .line) ps h) (split-end 10 s (l .at) (omega arith))

@@ -1,8 +1,9 @@
+use mathlib.Core.Path.{_∙_}
 use native.Mathlib.Omega.{arith}
-use Rattle.sheet_rules.specs.Panels.{Tables}
-use Rattle.sheet_line.specs.Lines.{heldAs}
-use Rattle.sheet.specs.Runs.{HeldRun, inTables}
-use Rattle.sheet.proofs.Answers.{read-long, read-refused, read-short, read-done}
+use Rattle.panel_tables.specs.Written.{panelHeldOf}
+use Rattle.sheet_rules.specs.Panels.{tablesIn}
+use Rattle.sheet.specs.Runs.{HeldRun}
+use Rattle.sheet.proofs.Answers.{read-long, read-refused, read-short, read-done, answer-in}
 use borrow.Author.Needs.{needs}
 use Rattle.sheet.proofs.read.read_sheet.Statement.{statement}
 use Rattle.sheet.proofs.read.read_sheet.Tie as tie
@@ -13,8 +14,7 @@ refused-sheet-requires c κs = search needs
 returns : tie.Need-returns
 returns c =
     let a = c .before .before .before .before .before .args in
-    let t : Tables = inTables (a .columns .now) (a .rows .now) (a .columnmarks .now) (a .rowmarks .now) (a .areas .now) (a .areabytes .now) (a .placements .now) (a .placementbytes .now) (a .columnstore .now) (a .rowstore .now) in
-    rw (c .refused-sheet .ensures) (read-long (a .sheet .now) t (omega (arith, c .before .if1 .taken)))
+    rw (c .refused-sheet .ensures) (read-long (a .sheet .now) (tablesIn (a .words .now) (a .bytes .now) (a .columnstore .now) (a .rowstore .now)) (omega (arith, c .before .if1 .taken)))
 
 read-panel-requires : tie.Need-read-panel-requires
 read-panel-requires c κs = search needs
@@ -24,24 +24,20 @@ refused-sheet-requires-2 c κs = search needs
 
 returns-2 : tie.Need-returns-2
 returns-2 c =
-    let a = c .before .before .before .before .before .before .before .before .before .before .before .before .before .before .before .before .before .args in
-    let t : Tables = inTables (a .columns .now) (a .rows .now) (a .columnmarks .now) (a .rowmarks .now) (a .areas .now) (a .areabytes .now) (a .placements .now) (a .placementbytes .now) (a .columnstore .now) (a .rowstore .now) in
+    let a = c .before .before .before .before .before .before .before .before .before .before .before .args in
     let k = c .before .before .read-panel in
-    let r : HeldRun = record { fault = k .result .fault; line = k .result .line; held = heldAs (k .result .panel) (k .result .reading) (k .last .1 .0) (k .last .1 .1 .0) (k .last .1 .1 .1 .0) (k .last .1 .1 .1 .1 .0) (k .last .1 .1 .1 .1 .1 .0) (k .last .1 .1 .1 .1 .1 .1 .0) (k .last .1 .1 .1 .1 .1 .1 .1 .0) (k .last .1 .1 .1 .1 .1 .1 .1 .1 .0) (k .last .1 .1 .1 .1 .1 .1 .1 .1 .1 .0) (k .last .1 .1 .1 .1 .1 .1 .1 .1 .1 .1 .0) } in
-    let few = c .before .before .before .before .before .before .before .before .before .before .before .before .before .if1 .left in
-    rw (c .refused-sheet2 .ensures) (read-refused (a .sheet .now) t r (k .ensures) few (c .before .if2 .taken))
+    let r : HeldRun = record { fault = k .result .fault; line = k .result .line; held = panelHeldOf (k .result .panel) (k .result .reading) (k .last .1 .0) (k .last .1 .1 .0) (k .last .1 .1 .1 .0) (k .last .1 .1 .1 .1 .0) } in
+    rw (c .refused-sheet2 .ensures) (read-refused (a .sheet .now) r (k .ensures) (c .before .before .before .before .before .before .before .if1 .left) (tablesIn (a .words .now) (a .bytes .now) (a .columnstore .now) (a .rowstore .now)) (c .before .if2 .taken))
 
 refused-sheet-requires-3 : tie.Need-refused-sheet-requires-3
 refused-sheet-requires-3 c κs = search needs
 
 returns-3 : tie.Need-returns-3
 returns-3 c =
-    let a = c .before .before .before .before .before .before .before .before .before .before .before .before .before .before .before .before .before .before .args in
-    let t : Tables = inTables (a .columns .now) (a .rows .now) (a .columnmarks .now) (a .rowmarks .now) (a .areas .now) (a .areabytes .now) (a .placements .now) (a .placementbytes .now) (a .columnstore .now) (a .rowstore .now) in
+    let a = c .before .before .before .before .before .before .before .before .before .before .before .before .args in
     let k = c .before .before .before .read-panel in
-    let r : HeldRun = record { fault = k .result .fault; line = k .result .line; held = heldAs (k .result .panel) (k .result .reading) (k .last .1 .0) (k .last .1 .1 .0) (k .last .1 .1 .1 .0) (k .last .1 .1 .1 .1 .0) (k .last .1 .1 .1 .1 .1 .0) (k .last .1 .1 .1 .1 .1 .1 .0) (k .last .1 .1 .1 .1 .1 .1 .1 .0) (k .last .1 .1 .1 .1 .1 .1 .1 .1 .0) (k .last .1 .1 .1 .1 .1 .1 .1 .1 .1 .0) (k .last .1 .1 .1 .1 .1 .1 .1 .1 .1 .1 .0) } in
-    let few = c .before .before .before .before .before .before .before .before .before .before .before .before .before .before .if1 .left in
-    rw (c .refused-sheet3 .ensures) (read-short (a .sheet .now) t r (k .ensures) few (c .before .before .if2 .left) (c .before .if3 .taken))
+    let r : HeldRun = record { fault = k .result .fault; line = k .result .line; held = panelHeldOf (k .result .panel) (k .result .reading) (k .last .1 .0) (k .last .1 .1 .0) (k .last .1 .1 .1 .0) (k .last .1 .1 .1 .1 .0) } in
+    rw (c .refused-sheet3 .ensures) (read-short (a .sheet .now) r (k .ensures) (c .before .before .before .before .before .before .before .before .if1 .left) (a .words .now) (a .bytes .now) (a .columnstore .now) (a .rowstore .now) (c .before .before .if2 .left) (c .before .if3 .taken))
 
 copy-names-requires : tie.Need-copy-names-requires
 copy-names-requires c κs = search needs
@@ -60,13 +56,12 @@ same-length-2 c = search needs
 
 returns-4 : tie.Need-returns-4
 returns-4 c =
-    let a = c .before .before .before .before .before .before .before .before .before .before .before .before .before .before .before .before .before .before .before .before .before .before .before .before .before .before .before .before .before .args in
-    let t : Tables = inTables (a .columns .now) (a .rows .now) (a .columnmarks .now) (a .rowmarks .now) (a .areas .now) (a .areabytes .now) (a .placements .now) (a .placementbytes .now) (a .columnstore .now) (a .rowstore .now) in
+    let a = c .before .before .before .before .before .before .before .before .before .before .before .before .before .before .before .before .before .before .before .before .before .before .before .args in
     let k = c .before .before .before .before .before .before .before .before .before .before .before .before .before .before .read-panel in
-    let r : HeldRun = record { fault = k .result .fault; line = k .result .line; held = heldAs (k .result .panel) (k .result .reading) (k .last .1 .0) (k .last .1 .1 .0) (k .last .1 .1 .1 .0) (k .last .1 .1 .1 .1 .0) (k .last .1 .1 .1 .1 .1 .0) (k .last .1 .1 .1 .1 .1 .1 .0) (k .last .1 .1 .1 .1 .1 .1 .1 .0) (k .last .1 .1 .1 .1 .1 .1 .1 .1 .0) (k .last .1 .1 .1 .1 .1 .1 .1 .1 .1 .0) (k .last .1 .1 .1 .1 .1 .1 .1 .1 .1 .1 .0) } in
-    let few = c .before .before .before .before .before .before .before .before .before .before .before .before .before .before .before .before .before .before .before .before .before .before .before .before .before .if1 .left in
+    let r : HeldRun = record { fault = k .result .fault; line = k .result .line; held = panelHeldOf (k .result .panel) (k .result .reading) (k .last .1 .0) (k .last .1 .1 .0) (k .last .1 .1 .1 .0) (k .last .1 .1 .1 .1 .0) } in
     rw (c .no-refusal .ensures, c .before .before .before .before .before .before .before .before .before .copy-names .ensures, c .before .before .before .before .copy-names2 .ensures)
-    (read-done (a .sheet .now) t r (k .ensures) few (c .before .before .before .before .before .before .before .before .before .before .before .before .before .if2 .left) (c .before .before .before .before .before .before .before .before .before .before .before .before .if3 .left))
+    (answer-in (k .result .panel) (k .result .reading) (k .last .1 .0) (k .last .1 .1 .0) (k .last .1 .1 .1 .0) (k .last .1 .1 .1 .1 .0) (a .words .now) (a .bytes .now) (a .columnstore .now) (a .rowstore .now)
+    ∙ read-done (a .sheet .now) r (k .ensures) (c .before .before .before .before .before .before .before .before .before .before .before .before .before .before .before .before .before .before .before .if1 .left) (a .words .now) (a .bytes .now) (a .columnstore .now) (a .rowstore .now) (c .before .before .before .before .before .before .before .before .before .before .before .before .before .if2 .left) (c .before .before .before .before .before .before .before .before .before .before .before .before .if3 .left))
 
 pub read-sheet-spec : {M : Type 1} → statement M
 read-sheet-spec =

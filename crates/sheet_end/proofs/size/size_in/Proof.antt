@@ -26,7 +26,7 @@ compute-explicit-grid-size-in-axis-requires c κs = search needs
 
 returns : tie.Need-returns
 unfolding sizeIn
-returns c = rw (c .compute-explicit-grid-size-in-axis .ensures, c .before .sizing-of .ensures, c .before .before .strategy-in .ensures, c .before .before .before .inner-in .ensures, c .before .before .before .before .words-part3 .ensures, c .before .before .before .before .before .before .words-part2 .ensures, c .before .before .before .before .before .before .before .before .words-part .ensures)
+returns c = rw (c .compute-explicit-grid-size-in-axis .ensures, c .before .sizing-of .ensures, c .before .before .strategy-in .ensures, c .before .before .before .inner-in .ensures, c .before .before .before .before .words-part3 .ensures, c .before .before .before .before .before .words-part2 .ensures, c .before .before .before .before .before .before .words-part .ensures)
 
 pub size-in-spec : {M : Type 1} → statement M
 size-in-spec =

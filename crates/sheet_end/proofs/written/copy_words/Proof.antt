@@ -1,9 +1,10 @@
 -- The whole words are the words so far with the rest of the table. Assumes nothing.
-use Prim.Native.Nat.{_+_, _-_, _≤_}
+use Prim.Native.Nat.{ℕ, _+_, _-_, _≤_}
 use native.Mathlib.Omega.{arith}
 use borrow.Author.Needs.{needs}
-use mathlib.Core.Path.{_≡_, refl, sym, _∙_}
-use lib.ListN.{length, drop, length-set}
+use mathlib.Core.Path.{_≡_, refl, sym, ap, _∙_}
+use lib.ListN.{length, drop}
+use mathlib.Core.List.{List}
 use lib.Seq.{sets}
 use Rattle.tables.proofs.Sets.{sets-next, sets-end}
 use Rattle.sheet_end.proofs.written.copy_words.Statement.{statement}
@@ -18,17 +19,14 @@ abbrev μ-loop : tie.MeasureT-loop
 loop-holds : tie.Need-loop-holds Inv-loop μ-loop
 loop-holds c = (omega arith, search needs, refl, refl)
 
-mul-words : tie.Need-mul-words Inv-loop μ-loop
-mul-words c = search needs
+mul-set-word : tie.Need-mul-set-word Inv-loop μ-loop
+mul-set-word c = search needs
 
-shared-slice-read-words : tie.Need-shared-slice-read-words Inv-loop μ-loop
-shared-slice-read-words c = omega arith
+shared-slice-read-set-word : tie.Need-shared-slice-read-set-word Inv-loop μ-loop
+shared-slice-read-set-word c = omega arith
 
-mul-words-2 : tie.Need-mul-words-2 Inv-loop μ-loop
-mul-words-2 c = search needs
-
-slice-write-words : tie.Need-slice-write-words Inv-loop μ-loop
-slice-write-words c = omega arith
+set-word-requires : tie.Need-set-word-requires Inv-loop μ-loop
+set-word-requires c κs = search needs
 
 add-o : tie.Need-add-o Inv-loop μ-loop
 add-o c = omega arith
@@ -41,16 +39,15 @@ loop-less c = omega arith
 
 loop-again : tie.Need-loop-again Inv-loop μ-loop
 loop-again c =
-    let l = c .before .before .loop in
-    (omega arith, omega arith, simp length-set (l .inv .2), l .inv .3 ∙ sets-next (l .words) _ (l .o) (l .j) (c .before .loop-test .taken))
+    let l = c .before .before .before .before .before .before .loop in
+    let table = c .before .before .before .before .before .before .before .before .before .args .table .now in
+    (omega arith, omega arith, c .before .words .given ∙ l .inv .2, l .inv .3 ∙ sets-next (l .words) table (l .o) (l .j) (c .before .before .before .before .before .loop-test .taken) ∙ ap (λ (s : List ℕ). sets s (l .o + 1) (drop (l .j + 1) table)) (sym (c .before .before .set-word .ensures)))
 
 same-length : tie.Need-same-length Inv-loop μ-loop
 same-length c = c .before .loop .inv .2
 
 returns : tie.Need-returns Inv-loop μ-loop
-returns c =
-    let l = c .before .loop in
-    sym (l .inv .3 ∙ sets-end (l .words) _ (l .o) (l .j) (c .loop-test .left))
+returns c = let l = c .before .loop in sym (l .inv .3 ∙ sets-end (l .words) _ (l .o) (l .j) (c .loop-test .left))
 
 pub copy-words-spec : {M : Type 1} → statement M
 copy-words-spec =
@@ -59,10 +56,9 @@ copy-words-spec =
     Inv-loop
     μ-loop
     loop-holds
-    mul-words
-    shared-slice-read-words
-    mul-words-2
-    slice-write-words
+    mul-set-word
+    shared-slice-read-set-word
+    set-word-requires
     add-o
     add-j
     loop-less

@@ -12,7 +12,7 @@ count-written-names-requires : tie.Need-count-written-names-requires
 count-written-names-requires c κs = search needs
 
 returns : tie.Need-returns
-returns c = rw (c .count-written-names .ensures, c .before .words-part2 .ensures, c .before .before .before .words-part .ensures)
+returns c = rw (c .count-written-names .ensures, c .before .words-part2 .ensures, c .before .before .words-part .ensures)
 
 pub count-entries-spec : {M : Type 1} → statement M
 count-entries-spec =

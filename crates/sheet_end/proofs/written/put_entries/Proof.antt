@@ -11,9 +11,9 @@ use Rattle.sheet_end.proofs.written.put_entries.Tie as tie
 
 returns : tie.Need-returns
 returns c =
-    let a = c .before .args in
+    let a = c .before .before .args in
     none-put (a .words .now) (writtenEntries (namesIn (a .state) (a .words .now)) (componentsIn (a .state) (a .words .now)) (a .repetitions)) (a .count)
-    (c .before .pre .0) (c .if1 .taken)
+    (c .before .before .pre .0) (c .if1 .taken)
 
 write-entries-requires : tie.Need-write-entries-requires
 write-entries-requires c κs = search needs
@@ -26,15 +26,18 @@ words-part-requires c κs = search needs
 
 copy-words-requires : tie.Need-copy-words-requires
 copy-words-requires c κs =
-    let p = c .before .before .before .before .before .before .before .pre in
+    let p = c .before .before .before .before .before .before .before .before .pre in
     rw (c .words-part .ensures, length-take) (omega arith)
+
+same-length : tie.Need-same-length
+same-length c = search needs
 
 returns-2 : tie.Need-returns-2
 returns-2 c =
-    let a = c .before .before .before .before .before .before .before .before .args in
-    let p = c .before .before .before .before .before .before .before .before .pre in
-    c .copy-words .ensures
-    ∙ ap (sets (a .words .now) 8384) (c .before .words-part .ensures ∙ table-part _ _ _ _ _ _ (c .before .before .before .before .write-entries .ensures) (a .count) (p .0) (p .1) (p .1))
+    let a = c .before .before .before .before .before .before .before .before .before .before .before .args in
+    let p = c .before .before .before .before .before .before .before .before .before .before .before .pre in
+    c .before .before .copy-words .ensures
+    ∙ ap (sets (a .words .now) 8384) (c .before .before .before .words-part .ensures ∙ table-part _ _ _ _ _ _ (c .before .before .before .before .before .before .write-entries .ensures) (a .count) (p .0) (p .1) (p .1))
 
 pub put-entries-spec : {M : Type 1} → statement M
 put-entries-spec =
@@ -45,4 +48,5 @@ put-entries-spec =
     slice-aggregate-words-part
     words-part-requires
     copy-words-requires
+    same-length
     returns-2)

@@ -12,7 +12,7 @@ write-names-requires : tie.Need-write-names-requires
 write-names-requires c κs = search needs
 
 returns : tie.Need-returns
-returns c = rw (c .before .before .words-part2 .ensures, c .before .before .before .before .words-part .ensures) at (c .write-names .ensures)
+returns c = rw (c .before .before .words-part2 .ensures, c .before .before .before .words-part .ensures) at (c .write-names .ensures)
 
 pub write-entries-spec : {M : Type 1} → statement M
 write-entries-spec =

@@ -14,9 +14,6 @@ axis-twice-requires c κs = search needs
 enum-told-2 : tie.Need-enum-told-2
 enum-told-2 c = search needs
 
-part-requires : tie.Need-part-requires
-part-requires c κs = search needs
-
 area-twice-requires : tie.Need-area-twice-requires
 area-twice-requires c κs = search needs
 
@@ -51,7 +48,7 @@ returns-2 : tie.Need-returns-2
 returns-2 c = simp (c .before .before .said .given .1) (c .axis-twice .ensures)
 
 returns-3 : tie.Need-returns-3
-returns-3 c = simp (c .before .before .enum-told2 .given .1, ← (c .before .part .ensures)) (c .area-twice .ensures)
+returns-3 c = simp (c .before .enum-told2 .given .1) (c .area-twice .ensures)
 
 returns-4 : tie.Need-returns-4
 returns-4 c = simp (c .enum-told3 .given .1)
@@ -85,7 +82,6 @@ twice-spec =
     enum-known-said
     axis-twice-requires
     enum-told-2
-    part-requires
     area-twice-requires
     enum-told-3
     enum-told-4

@@ -30,9 +30,6 @@ put-requires-2 c κs = search needs
 enum-told-3 : tie.Need-enum-told-3
 enum-told-3 c = search needs
 
-part-requires : tie.Need-part-requires
-part-requires c κs = search needs
-
 put-name-requires : tie.Need-put-name-requires
 put-name-requires c κs = search needs
 
@@ -87,26 +84,59 @@ returns-2 c = simp (c .before .before .before .said .given .1, c .put-axis .ensu
 returns-3 : tie.Need-returns-3
 returns-3 c = simp (c .before .enum-told2 .given .1, c .put2 .ensures)
 
+same-length : tie.Need-same-length
+same-length c = search needs
+
+same-length-2 : tie.Need-same-length-2
+same-length-2 c = search needs
+
 returns-4 : tie.Need-returns-4
-returns-4 c = let a = c .before .before .before .before .before .before .before .args in let h : Held = record { answer = put 0 (a .state) (a .reading); words = a .words .now; marks = a .marks .now; bytes = a .bytes .now } in simp (c .before .before .before .before .enum-told3 .given .1, ← (c .before .part .ensures)) (ap (inNames h) (c .put-name .ensures))
+returns-4 c =
+    let a = c .before .before .before .before .before .before .before .before .before .before .before .before .before .args in
+    let h : Held = record { answer = put 0 (a .state) (a .reading); words = a .words .now; marks = a .marks .now; bytes = a .bytes .now } in
+    simp (c .before .before .before .before .before .before .before .enum-told3 .given .1) (ap (inNames h) (c .before .before .before .before .put-name .ensures))
+
+same-length-3 : tie.Need-same-length-3
+same-length-3 c = search needs
 
 returns-5 : tie.Need-returns-5
-returns-5 c = let a = c .before .before .before .before .before .before .args in let h : Held = record { answer = put 0 (a .state) (a .reading); words = a .words .now; marks = a .marks .now; bytes = a .bytes .now } in simp (c .before .before .before .said2 .given .1) (ap (inWords h) (c .put-track .ensures))
+returns-5 c =
+    let a = c .before .before .before .before .before .before .before .before .before .before .before .args in
+    let h : Held = record { answer = put 0 (a .state) (a .reading); words = a .words .now; marks = a .marks .now; bytes = a .bytes .now } in
+    simp (c .before .before .before .before .before .said2 .given .1) (ap (inWords h) (c .before .before .put-track .ensures))
 
 returns-6 : tie.Need-returns-6
 returns-6 c = simp (c .before .before .said3 .given .1, c .open-repeat .ensures)
 
+same-length-4 : tie.Need-same-length-4
+same-length-4 c = search needs
+
 returns-7 : tie.Need-returns-7
-returns-7 c = let a = c .before .before .before .before .before .args in let h : Held = record { answer = put 0 (a .state) (a .reading); words = a .words .now; marks = a .marks .now; bytes = a .bytes .now } in simp (c .before .before .enum-told4 .given .1) (ap (inWords h) (c .close-repeat .ensures))
+returns-7 c =
+    let a = c .before .before .before .before .before .before .before .before .before .before .args in
+    let h : Held = record { answer = put 0 (a .state) (a .reading); words = a .words .now; marks = a .marks .now; bytes = a .bytes .now } in
+    simp (c .before .before .before .before .enum-told4 .given .1) (ap (inWords h) (c .before .before .close-repeat .ensures))
+
+same-length-5 : tie.Need-same-length-5
+same-length-5 c = search needs
 
 returns-8 : tie.Need-returns-8
-returns-8 c = let a = c .before .before .before .before .before .before .args in let h : Held = record { answer = put 0 (a .state) (a .reading); words = a .words .now; marks = a .marks .now; bytes = a .bytes .now } in simp (c .before .before .before .said4 .given .1) (ap (inWords h) (c .put-spare .ensures))
+returns-8 c =
+    let a = c .before .before .before .before .before .before .before .before .before .before .before .args in
+    let h : Held = record { answer = put 0 (a .state) (a .reading); words = a .words .now; marks = a .marks .now; bytes = a .bytes .now } in
+    simp (c .before .before .before .before .before .said4 .given .1) (ap (inWords h) (c .before .before .put-spare .ensures))
 
 returns-9 : tie.Need-returns-9
 returns-9 c = simp (c .before .before .said5 .given .1, c .put-extra .ensures)
 
+same-length-6 : tie.Need-same-length-6
+same-length-6 c = search needs
+
 returns-10 : tie.Need-returns-10
-returns-10 c = let a = c .before .before .before .before .before .before .args in let h : Held = record { answer = put 0 (a .state) (a .reading); words = a .words .now; marks = a .marks .now; bytes = a .bytes .now } in simp (c .before .before .before .said6 .given .1) (ap (inMarks h) (c .put-item .ensures))
+returns-10 c =
+    let a = c .before .before .before .before .before .before .before .before .before .before .before .args in
+    let h : Held = record { answer = put 0 (a .state) (a .reading); words = a .words .now; marks = a .marks .now; bytes = a .bytes .now } in
+    simp (c .before .before .before .before .before .said6 .given .1) (ap (inMarks h) (c .before .before .put-item .ensures))
 
 returns-11 : tie.Need-returns-11
 returns-11 c = simp (c .before .enum-told5 .given .1, c .put3 .ensures)
@@ -123,7 +153,6 @@ axis-record-spec =
     enum-told-2
     put-requires-2
     enum-told-3
-    part-requires
     put-name-requires
     enum-known-said-2
     put-track-requires
@@ -142,11 +171,17 @@ axis-record-spec =
     returns
     returns-2
     returns-3
+    same-length
+    same-length-2
     returns-4
+    same-length-3
     returns-5
     returns-6
+    same-length-4
     returns-7
+    same-length-5
     returns-8
     returns-9
+    same-length-6
     returns-10
     returns-11)

@@ -1,16 +1,19 @@
-use mathlib.Core.Path.{_≡_}
-use Rattle.sheet_rules.specs.Steps.{axisHeld, axisRecord}
-use mathlib.Core.Path.{sym, ap, _∙_}
-use Rattle.coordinates.specs.declared.axis.Axis.the-variants.{Column, Row}
-use Rattle.text.specs.Split.{split}
-use Rattle.panel_tables.specs.Axes.{heldIn}
-use Rattle.panel_tables.specs.Written.{PanelHeld, ofAreas, ofPlacements}
+use native.Mathlib.Omega.{arith}
+use mathlib.Core.Path.{sym, _∙_}
+use Rattle.text.specs.Places.{partAt}
+use Rattle.panel_tables.specs.Written.{PanelHeld, panelHeldOf}
 use Rattle.sheet_line.specs.declared.Part.the-variants.{Nothing, Columns, Rows}
-use Rattle.sheet_line.specs.Lines.{heldAs}
 use Rattle.sheet_line.proofs.Parts.{by-part}
+use Rattle.sheet_step.proofs.Back.{columns-back, rows-back, areas-back, placements-back}
 use borrow.Author.Needs.{needs}
 use Rattle.sheet_step.proofs.panel.panel_record.Statement.{statement}
 use Rattle.sheet_step.proofs.panel.panel_record.Tie as tie
+
+part-at-requires : tie.Need-part-at-requires
+part-at-requires c κs = search needs
+
+part-at-requires-2 : tie.Need-part-at-requires-2
+part-at-requires-2 c κs = search needs
 
 part-of-requires : tie.Need-part-of-requires
 part-of-requires c κs = search needs
@@ -27,8 +30,8 @@ with-reading-requires c κs = search needs
 enum-told-2 : tie.Need-enum-told-2
 enum-told-2 c = search needs
 
-axis-record-requires : tie.Need-axis-record-requires
-axis-record-requires c κs = search needs
+on-axis-requires : tie.Need-on-axis-requires
+on-axis-requires c κs = search needs
 
 read-by-requires : tie.Need-read-by-requires
 read-by-requires c κs = search needs
@@ -36,8 +39,8 @@ read-by-requires c κs = search needs
 enum-told-3 : tie.Need-enum-told-3
 enum-told-3 c = search needs
 
-axis-record-requires-2 : tie.Need-axis-record-requires-2
-axis-record-requires-2 c κs = search needs
+on-axis-requires-2 : tie.Need-on-axis-requires-2
+on-axis-requires-2 c κs = search needs
 
 read-by-requires-2 : tie.Need-read-by-requires-2
 read-by-requires-2 c κs = search needs
@@ -45,8 +48,8 @@ read-by-requires-2 c κs = search needs
 enum-known-edges : tie.Need-enum-known-edges
 enum-known-edges c = search needs
 
-area-record-requires : tie.Need-area-record-requires
-area-record-requires c κs = search needs
+on-areas-requires : tie.Need-on-areas-requires
+on-areas-requires c κs = search needs
 
 with-reading-requires-2 : tie.Need-with-reading-requires-2
 with-reading-requires-2 c κs = search needs
@@ -54,46 +57,93 @@ with-reading-requires-2 c κs = search needs
 enum-known-axis : tie.Need-enum-known-axis
 enum-known-axis c = search needs
 
-place-record-requires : tie.Need-place-record-requires
-place-record-requires c κs = search needs
+on-placements-requires : tie.Need-on-placements-requires
+on-placements-requires c κs = search needs
 
 with-reading-requires-3 : tie.Need-with-reading-requires-3
 with-reading-requires-3 c κs = search needs
 
 returns : tie.Need-returns
-returns c = let a = c .before .before .before .before .before .before .args in let h : PanelHeld = heldAs (a .panel) (a .reading) (a .columns .now) (a .rows .now) (a .columnmarks .now) (a .rowmarks .now) (a .columnbytes .now) (a .rowbytes .now) (a .areas .now) (a .areabytes .now) (a .placements .now) (a .placementbytes .now) in let fs = split 9 (a .line .now) in by-part h fs (a .said) Nothing (sym (c .before .before .before .before .part-of .ensures) ∙ c .before .before .enum-told .given .1) (simp (c .with-reading .ensures, c .before .put .ensures))
+returns c =
+    let a = c .before .before .before .before .before .before .before .before .args in
+    let h : PanelHeld = panelHeldOf (a .panel) (a .reading) (a .words .now) (a .bytes .now) (a .columnbytes .now) (a .rowbytes .now) in
+    let first = partAt (a .line .now) (a .there .first) in
+    let second = partAt (a .line .now) (a .there .second) in
+    by-part h first second (a .there .said) Nothing (sym (c .before .before .before .before .part-of .ensures) ∙ c .before .before .enum-told .given .1) (simp (c .with-reading .ensures, c .before .put .ensures))
 
 returns-2 : tie.Need-returns-2
-returns-2 c = let a = c .before .before .before .before .before .before .before .before .before .before .before .args in let h : PanelHeld = heldAs (a .panel) (a .reading) (a .columns .now) (a .rows .now) (a .columnmarks .now) (a .rowmarks .now) (a .columnbytes .now) (a .rowbytes .now) (a .areas .now) (a .areabytes .now) (a .placements .now) (a .placementbytes .now) in let fs = split 9 (a .line .now) in let e : _ ≡ axisRecord (axisHeld h Column) fs (a .said) = c .before .axis-record .ensures in by-part h fs (a .said) Columns (sym (c .before .before .before .before .before .before .before .before .before .part-of .ensures) ∙ c .before .before .before .before .before .before .before .enum-told2 .given .1) (simp (c .read-by .ensures) (ap (heldIn h Column) e))
+returns-2 c =
+    let a = c .before .before .before .before .before .before .before .before .before .before .before .args in
+    let h : PanelHeld = panelHeldOf (a .panel) (a .reading) (a .words .now) (a .bytes .now) (a .columnbytes .now) (a .rowbytes .now) in
+    let first = partAt (a .line .now) (a .there .first) in
+    let second = partAt (a .line .now) (a .there .second) in
+    let k = c .before .on-axis in
+    by-part h first second (a .there .said) Columns (sym (c .before .before .before .before .before .before .before .part-of .ensures) ∙ c .before .before .before .before .before .enum-told2 .given .1)
+    (rw (c .read-by .ensures)
+    (columns-back (a .panel) (a .reading) (a .words .now) (a .bytes .now) (a .columnbytes .now) (a .rowbytes .now) (omega (arith, c .before .before .before .before .on-axis-arg .given)) (omega (arith, c .before .before .before .on-axis-arg2 .given)) _ first (a .there .said)
+    (record { answer = k .result; words = k .last .1 .1 .1 .0; marks = k .last .1 .1 .1 .1 .0; bytes = k .last .1 .1 .1 .1 .1 .0 })
+    (k .ensures) (c .before .before .before .before .before .before .before .before .before .part-at .ensures) (omega (arith, c .before .before .before .before .on-axis-arg .given)) (omega (arith, c .before .before .before .on-axis-arg2 .given))))
 
 returns-3 : tie.Need-returns-3
-returns-3 c = let a = c .before .before .before .before .before .before .before .before .before .before .before .args in let h : PanelHeld = heldAs (a .panel) (a .reading) (a .columns .now) (a .rows .now) (a .columnmarks .now) (a .rowmarks .now) (a .columnbytes .now) (a .rowbytes .now) (a .areas .now) (a .areabytes .now) (a .placements .now) (a .placementbytes .now) in let fs = split 9 (a .line .now) in let e : _ ≡ axisRecord (axisHeld h Row) fs (a .said) = c .before .axis-record2 .ensures in by-part h fs (a .said) Rows (sym (c .before .before .before .before .before .before .before .before .before .part-of .ensures) ∙ c .before .before .before .before .before .before .before .enum-told3 .given .1) (simp (c .read-by2 .ensures) (ap (heldIn h Row) e))
+returns-3 c =
+    let a = c .before .before .before .before .before .before .before .before .before .before .before .args in
+    let h : PanelHeld = panelHeldOf (a .panel) (a .reading) (a .words .now) (a .bytes .now) (a .columnbytes .now) (a .rowbytes .now) in
+    let first = partAt (a .line .now) (a .there .first) in
+    let second = partAt (a .line .now) (a .there .second) in
+    let k = c .before .on-axis2 in
+    by-part h first second (a .there .said) Rows (sym (c .before .before .before .before .before .before .before .part-of .ensures) ∙ c .before .before .before .before .before .enum-told3 .given .1)
+    (rw (c .read-by2 .ensures)
+    (rows-back (a .panel) (a .reading) (a .words .now) (a .bytes .now) (a .columnbytes .now) (a .rowbytes .now) (omega (arith, c .before .before .before .before .on-axis-arg4 .given)) (omega (arith, c .before .before .before .on-axis-arg5 .given)) _ first (a .there .said)
+    (record { answer = k .result; words = k .last .1 .1 .1 .0; marks = k .last .1 .1 .1 .1 .0; bytes = k .last .1 .1 .1 .1 .1 .0 })
+    (k .ensures) (c .before .before .before .before .before .before .before .before .before .part-at .ensures) (omega (arith, c .before .before .before .before .on-axis-arg4 .given)) (omega (arith, c .before .before .before .on-axis-arg5 .given))))
 
 returns-4 : tie.Need-returns-4
-returns-4 c = let a = c .before .before .before .before .before .before .before .before .before .args in let h : PanelHeld = heldAs (a .panel) (a .reading) (a .columns .now) (a .rows .now) (a .columnmarks .now) (a .rowmarks .now) (a .columnbytes .now) (a .rowbytes .now) (a .areas .now) (a .areabytes .now) (a .placements .now) (a .placementbytes .now) in let fs = split 9 (a .line .now) in by-part h fs (a .said) _ (sym (c .before .before .before .before .before .before .before .part-of .ensures) ∙ c .before .before .before .before .before .edges .given .1) (simp (c .with-reading2 .ensures) (ap (ofAreas h) (c .before .area-record .ensures)))
+returns-4 c =
+    let a = c .before .before .before .before .before .before .before .before .before .before .before .args in
+    let h : PanelHeld = panelHeldOf (a .panel) (a .reading) (a .words .now) (a .bytes .now) (a .columnbytes .now) (a .rowbytes .now) in
+    let first = partAt (a .line .now) (a .there .first) in
+    let second = partAt (a .line .now) (a .there .second) in
+    let k = c .before .on-areas in
+    by-part h first second (a .there .said) _ (sym (c .before .before .before .before .before .before .before .part-of .ensures) ∙ c .before .before .before .before .before .edges .given .1)
+    (rw (c .with-reading2 .ensures)
+    (areas-back (a .panel) (a .reading) (a .words .now) (a .bytes .now) (a .columnbytes .now) (a .rowbytes .now) (search needs) (search needs) _ first _
+    (record { answer = k .result; words = k .last .1 .0; bytes = k .last .1 .1 .0 })
+    (k .ensures) (c .before .before .before .before .before .before .before .before .before .part-at .ensures) (search needs) (search needs)))
 
 returns-5 : tie.Need-returns-5
-returns-5 c = let a = c .before .before .before .before .before .before .before .before .before .args in let h : PanelHeld = heldAs (a .panel) (a .reading) (a .columns .now) (a .rows .now) (a .columnmarks .now) (a .rowmarks .now) (a .columnbytes .now) (a .rowbytes .now) (a .areas .now) (a .areabytes .now) (a .placements .now) (a .placementbytes .now) in let fs = split 9 (a .line .now) in by-part h fs (a .said) _ (sym (c .before .before .before .before .before .before .before .part-of .ensures) ∙ c .before .before .before .before .before .axis .given .1) (simp (c .with-reading3 .ensures) (ap (ofPlacements h) (c .before .place-record .ensures)))
+returns-5 c =
+    let a = c .before .before .before .before .before .before .before .before .before .before .before .args in
+    let h : PanelHeld = panelHeldOf (a .panel) (a .reading) (a .words .now) (a .bytes .now) (a .columnbytes .now) (a .rowbytes .now) in
+    let first = partAt (a .line .now) (a .there .first) in
+    let second = partAt (a .line .now) (a .there .second) in
+    let k = c .before .on-placements in
+    by-part h first second (a .there .said) _ (sym (c .before .before .before .before .before .before .before .part-of .ensures) ∙ c .before .before .before .before .before .axis .given .1)
+    (rw (c .with-reading3 .ensures)
+    (placements-back (a .panel) (a .reading) (a .words .now) (a .bytes .now) (a .columnbytes .now) (a .rowbytes .now) (search needs) (search needs) _ _ _ first _ _ second
+    (record { answer = k .result; words = k .last .1 .0; bytes = k .last .1 .1 .0 })
+    (k .ensures) (c .before .before .before .before .before .before .before .before .before .part-at .ensures) (c .before .before .before .before .before .before .before .before .part-at2 .ensures) (search needs) (search needs)))
 
 pub panel-record-spec : {M : Type 1} → statement M
 panel-record-spec =
     tie.close
     (tie.spec
+    part-at-requires
+    part-at-requires-2
     part-of-requires
     enum-told
     put-requires
     with-reading-requires
     enum-told-2
-    axis-record-requires
+    on-axis-requires
     read-by-requires
     enum-told-3
-    axis-record-requires-2
+    on-axis-requires-2
     read-by-requires-2
     enum-known-edges
-    area-record-requires
+    on-areas-requires
     with-reading-requires-2
     enum-known-axis
-    place-record-requires
+    on-placements-requires
     with-reading-requires-3
     returns
     returns-2

@@ -23,39 +23,42 @@ place-in-requires c κs = search needs
 name-word-requires : tie.Need-name-word-requires
 name-word-requires c κs = search needs
 
-cast-words : tie.Need-cast-words
-cast-words c = search needs
+cast-set-word : tie.Need-cast-set-word
+cast-set-word c = search needs
 
-add-words : tie.Need-add-words
-add-words c = search needs
+add-set-word : tie.Need-add-set-word
+add-set-word c = search needs
 
-mul-words : tie.Need-mul-words
-mul-words c = search needs
+set-word-requires : tie.Need-set-word-requires
+set-word-requires c κs = search needs
 
-element-write-words : tie.Need-element-write-words
-element-write-words c = let a = c .before .before .before .before .before .args in let h = has-room 4096 32768 (a .state .names) (a .state .used) (length (a .name .now)) (c .before .before .before .no-room .result) (c .before .before .before .no-room .ensures) (c .before .before .if1 .left) in omega arith
+cast-copy-what-fits : tie.Need-cast-copy-what-fits
+cast-copy-what-fits c = search needs
 
-cast-copy-bytes : tie.Need-cast-copy-bytes
-cast-copy-bytes c = search needs
-
-copy-bytes-requires : tie.Need-copy-bytes-requires
-copy-bytes-requires c κs = let a = c .before .before .before .before .before .before .args in let h = has-room 4096 32768 (a .state .names) (a .state .used) (length (a .name .now)) (c .before .before .before .before .no-room .result) (c .before .before .before .before .no-room .ensures) (c .before .before .before .if1 .left) in omega arith
+copy-what-fits-requires : tie.Need-copy-what-fits-requires
+copy-what-fits-requires c κs = search needs
 
 add-after : tie.Need-add-after
-add-after c = let a = c .before .before .before .before .before .before .before .args in let h = has-room 4096 32768 (a .state .names) (a .state .used) (length (a .name .now)) (c .before .before .before .before .before .no-room .result) (c .before .before .before .before .before .no-room .ensures) (c .before .before .before .before .if1 .left) in omega arith
+add-after c = let a = c .before .before .before .before .before .before .before .before .before .before .before .before .before .before .before .args in let h = has-room 4096 32768 (a .state .names) (a .state .used) (length (a .name .now)) (c .before .before .before .before .before .before .before .before .before .before .before .no-room .result) (c .before .before .before .before .before .before .before .before .before .before .before .no-room .ensures) (c .before .before .before .before .before .before .before .before .before .before .if1 .left) in omega arith
 
 cast-after : tie.Need-cast-after
-cast-after c = let a = c .before .before .before .before .before .before .before .args in let h = has-room 4096 32768 (a .state .names) (a .state .used) (length (a .name .now)) (c .before .before .before .before .before .no-room .result) (c .before .before .before .before .before .no-room .ensures) (c .before .before .before .before .if1 .left) in omega arith
+cast-after c = let a = c .before .before .before .before .before .before .before .before .before .before .before .before .before .before .before .args in let h = has-room 4096 32768 (a .state .names) (a .state .used) (length (a .name .now)) (c .before .before .before .before .before .before .before .before .before .before .before .no-room .result) (c .before .before .before .before .before .before .before .before .before .before .before .no-room .ensures) (c .before .before .before .before .before .before .before .before .before .before .if1 .left) in omega arith
 
 add-after-2 : tie.Need-add-after-2
-add-after-2 c = let a = c .before .before .before .before .before .before .before .args in let h = has-room 4096 32768 (a .state .names) (a .state .used) (length (a .name .now)) (c .before .before .before .before .before .no-room .result) (c .before .before .before .before .before .no-room .ensures) (c .before .before .before .before .if1 .left) in omega arith
+add-after-2 c = let a = c .before .before .before .before .before .before .before .before .before .before .before .before .before .before .before .args in let h = has-room 4096 32768 (a .state .names) (a .state .used) (length (a .name .now)) (c .before .before .before .before .before .before .before .before .before .before .before .no-room .result) (c .before .before .before .before .before .before .before .before .before .before .before .no-room .ensures) (c .before .before .before .before .before .before .before .before .before .before .if1 .left) in omega arith
 
 put-requires-2 : tie.Need-put-requires-2
 put-requires-2 c κs = search needs
 
+same-length : tie.Need-same-length
+same-length c = search needs
+
+same-length-2 : tie.Need-same-length-2
+same-length-2 c = search needs
+
 returns-2 : tie.Need-returns-2
 unfolding putName
-returns-2 c = rw (c .put2 .ensures, c .before .before .before .name-word .ensures, c .before .before .before .before .place-in .ensures, sym (c .before .before .before .before .before .before .no-room .ensures) ∙ c .before .before .before .before .before .if1 .left, c .before .copy-bytes .ensures)
+returns-2 c = rw (c .put2 .ensures, c .before .before .before .copy-what-fits .ensures, c .before .before .before .before .before .before .before .set-word .ensures, c .before .before .before .before .before .before .before .before .before .name-word .ensures, c .before .before .before .before .before .before .before .before .before .before .place-in .ensures, sym (c .before .before .before .before .before .before .before .before .before .before .before .before .no-room .ensures) ∙ c .before .before .before .before .before .before .before .before .before .before .before .if1 .left)
 
 pub put-name-spec : {M : Type 1} → statement M
 put-name-spec =
@@ -66,14 +69,15 @@ put-name-spec =
     returns
     place-in-requires
     name-word-requires
-    cast-words
-    add-words
-    mul-words
-    element-write-words
-    cast-copy-bytes
-    copy-bytes-requires
+    cast-set-word
+    add-set-word
+    set-word-requires
+    cast-copy-what-fits
+    copy-what-fits-requires
     add-after
     cast-after
     add-after-2
     put-requires-2
+    same-length
+    same-length-2
     returns-2)

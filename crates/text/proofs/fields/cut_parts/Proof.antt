@@ -1,3 +1,4 @@
+-- `text::cut_parts` meets its contract: the parts counted and the starts put so far, and those from `at` on. Assumes nothing.
 use Prim.Native.Nat.{ℕ, _+_, _-_, _≤_}
 use mathlib.Core.Path.{_≡_, refl, sym, ap, _∙_}
 use mathlib.Core.List.{List}

@@ -1,3 +1,4 @@
+-- `text::field` meets its contract: the part at its place. Assumes nothing.
 use borrow.Author.Needs.{needs}
 use Rattle.text.proofs.fields.field.Statement.{statement}
 use Rattle.text.proofs.fields.field.Tie as tie

@@ -1,3 +1,4 @@
+-- `text::field_place` meets its contract: the two starts on either side of the field. Assumes nothing.
 use borrow.Author.Tests.{lt-ltb, le-ltb}
 use native.Mathlib.Numerals.{add-one}
 use Rattle.text.specs.Places.{placeBy}

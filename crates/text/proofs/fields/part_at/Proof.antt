@@ -1,3 +1,4 @@
+-- `text::part_at` meets its contract: the three ways in which a part may lie to the end of its text. Assumes nothing.
 use native.Mathlib.Omega.{arith}
 use Rattle.text.proofs.Places.{part-past, part-cut, part-inside}
 use borrow.Author.Needs.{needs}

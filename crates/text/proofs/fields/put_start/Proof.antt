@@ -1,3 +1,4 @@
+-- `text::fields::put_start` meets its contract: past the end nothing is put. Assumes nothing.
 use mathlib.Core.Path.{sym}
 use lib.Seq.{set-out}
 use borrow.Author.Needs.{needs}

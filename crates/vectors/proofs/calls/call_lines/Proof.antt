@@ -1,18 +1,15 @@
-use native.Mathlib.Omega.{arith}
 use borrow.Author.Needs.{needs}
-use Prim.Native.Nat.{_≤_, _-_}
 use mathlib.Core.Path.{_≡_}
 use lib.ListN.{length}
 use Rattle.vectors.proofs.calls.call_lines.Statement.{statement}
 use Rattle.vectors.proofs.calls.call_lines.Tie as tie
 
 abbrev Inv-loop : tie.InvT-loop
-Inv-loop input at count given expected columns₀ rows₀ columnstore₀ rowstore₀ held₀ place₀ seen₀ made₀ columns rows columnstore rowstore held place seen made =
-    (made ≤ count) × (length columnstore ≡ length columnstore₀) × (length rowstore ≡ length rowstore₀)
+Inv-loop input expected words₀ columnstore₀ rowstore₀ given held₀ place₀ seen₀ left₀ words columnstore rowstore held place seen left =
+    (length columnstore ≡ length columnstore₀) × (length rowstore ≡ length rowstore₀)
 
 abbrev μ-loop : tie.MeasureT-loop
-μ-loop input at count given expected columns₀ rows₀ columnstore₀ rowstore₀ held₀ place₀ seen₀ made₀ columns rows columnstore rowstore held place seen made =
-    count - made
+μ-loop input expected words₀ columnstore₀ rowstore₀ given held₀ place₀ seen₀ left₀ words columnstore rowstore held place seen left = left
 
 loop-holds : tie.Need-loop-holds Inv-loop μ-loop
 loop-holds c = search needs
@@ -29,8 +26,8 @@ seen-entry-requires c κs = search needs
 after-line-requires : tie.Need-after-line-requires Inv-loop μ-loop
 after-line-requires c κs = search needs
 
-add-made : tie.Need-add-made Inv-loop μ-loop
-add-made c = record { fits = omega (arith, c .before .before .before .before .before .before .before .before .before .before .before .before .before .loop-test .taken, c .before .before .before .before .before .before .before .before .before .before .before .before .before .before .before .before .before .before .before .fits .count) }
+sub-left : tie.Need-sub-left Inv-loop μ-loop
+sub-left c = search needs
 
 loop-less : tie.Need-loop-less Inv-loop μ-loop
 loop-less c = search needs
@@ -58,7 +55,7 @@ call-lines-spec =
     call-line-requires
     seen-entry-requires
     after-line-requires
-    add-made
+    sub-left
     loop-less
     loop-again
     same-length

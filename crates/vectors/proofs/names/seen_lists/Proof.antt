@@ -4,11 +4,11 @@ use Rattle.vectors.proofs.names.seen_lists.Statement.{statement}
 use Rattle.vectors.proofs.names.seen_lists.Tie as tie
 
 abbrev Inv-loop : tie.InvT-loop
-Inv-loop expected seen cut panel columns rows columnstore rowstore axis count last₀ line₀ last line =
+Inv-loop expected seen cut panel words columnstore rowstore axis count last₀ line₀ last line =
     line ≤ count
 
 abbrev μ-loop : tie.MeasureT-loop
-μ-loop expected seen cut panel columns rows columnstore rowstore axis count last₀ line₀ last line =
+μ-loop expected seen cut panel words columnstore rowstore axis count last₀ line₀ last line =
     count - line
 
 list-count-requires : tie.Need-list-count-requires Inv-loop μ-loop
@@ -20,6 +20,9 @@ loop-holds c = search needs
 add-line : tie.Need-add-line Inv-loop μ-loop
 add-line c = search needs
 
+is-listed-requires : tie.Need-is-listed-requires Inv-loop μ-loop
+is-listed-requires c κs = search needs
+
 seen-line-requires : tie.Need-seen-line-requires Inv-loop μ-loop
 seen-line-requires c κs = search needs
 
@@ -28,6 +31,12 @@ loop-less c = search needs
 
 loop-again : tie.Need-loop-again Inv-loop μ-loop
 loop-again c = search needs
+
+loop-less-2 : tie.Need-loop-less-2 Inv-loop μ-loop
+loop-less-2 c = search needs
+
+loop-again-2 : tie.Need-loop-again-2 Inv-loop μ-loop
+loop-again-2 c = search needs
 
 returns : tie.Need-returns Inv-loop μ-loop
 returns c = search needs
@@ -41,7 +50,10 @@ seen-lists-spec =
     list-count-requires
     loop-holds
     add-line
+    is-listed-requires
     seen-line-requires
     loop-less
     loop-again
+    loop-less-2
+    loop-again-2
     returns)

@@ -9,11 +9,11 @@ use Rattle.vectors.proofs.replay.replay_all.Statement.{statement}
 use Rattle.vectors.proofs.replay.replay_all.Tie as tie
 
 abbrev Inv-loop : tie.InvT-loop
-Inv-loop buffer₀ columns₀ rows₀ columnmarks₀ rowmarks₀ areas₀ areabytes₀ placements₀ placementbytes₀ columnstore₀ rowstore₀ counts₀ at₀ held₀ turns₀ buffer columns rows columnmarks rowmarks areas areabytes placements placementbytes columnstore rowstore counts at held turns =
+Inv-loop buffer₀ words₀ bytes₀ columnstore₀ rowstore₀ counts₀ at₀ held₀ turns₀ buffer words bytes columnstore rowstore counts at held turns =
     (turns ≤ 1000000) × (held ≤ length buffer₀) × (length buffer ≡ length buffer₀) × (length columnstore ≡ length columnstore₀) × (length rowstore ≡ length rowstore₀)
 
 abbrev μ-loop : tie.MeasureT-loop
-μ-loop buffer₀ columns₀ rows₀ columnmarks₀ rowmarks₀ areas₀ areabytes₀ placements₀ placementbytes₀ columnstore₀ rowstore₀ counts₀ at₀ held₀ turns₀ buffer columns rows columnmarks rowmarks areas areabytes placements placementbytes columnstore rowstore counts at held turns =
+μ-loop buffer₀ words₀ bytes₀ columnstore₀ rowstore₀ counts₀ at₀ held₀ turns₀ buffer words bytes columnstore rowstore counts at held turns =
     1000000 - turns
 
 loop-holds : tie.Need-loop-holds Inv-loop μ-loop

@@ -1,0 +1,24 @@
+use Rattle.panel_tables.specs.Regions.{placementBytesIn}
+use borrow.Author.Needs.{needs}
+use Rattle.panel_tables.proofs.region.placement_bytes.Statement.{statement}
+use Rattle.panel_tables.proofs.region.placement_bytes.Tie as tie
+
+add-result : tie.Need-add-result
+add-result c = search needs
+
+sub-result : tie.Need-sub-result
+sub-result c = search needs
+
+part-result-start : tie.Need-part-result-start
+part-result-start c = search needs
+
+part-result-end : tie.Need-part-result-end
+part-result-end c = search needs
+
+returns : tie.Need-returns
+unfolding placementBytesIn
+returns c = search needs
+
+pub placement-bytes-spec : {M : Type 1} → statement M
+placement-bytes-spec =
+    tie.close (tie.spec add-result sub-result part-result-start part-result-end returns)

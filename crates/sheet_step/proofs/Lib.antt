@@ -1,0 +1,2 @@
+-- Laws of records written into their regions.
+pub mod Back
