@@ -50,7 +50,7 @@ def build(sources):
     harness.write_tree(source, program_files(sources))
     rustc("--crate-type", "rlib", "--crate-name", "smallvec", os.path.join(source, "smallvec.rs"), "-o", library)
     rustc("--crate-name", "bench", "--extern", "smallvec=" + library, "-L", "native=" + LIBRARY,
-          "-l", "static=panel_c", "-l", "static=explicit_size_c",
+          "-l", "static=palgwern", "-l", "static=explicit_size_bench",
           *[word for name in ("std", "grid", "calc") for word in ("--cfg", f'feature="{name}"')],
           os.path.join(source, "main.rs"), "-o", program)
     return program

@@ -1,7 +1,7 @@
 /* Palgwern's calls for C: a panel sheet read, names entered, placements, line names and track records answered.
  *
- * Link target/staticlib/libpanel_c.a (x86-64 Linux), which `rt staticlib panel_c` writes. Every call is proved to end and to
- * answer as its contract in crates/panel_c/src/lib.rt says, whatever the panel and what is lent hold. What C must ensure:
+ * Link target/staticlib/libpalgwern.a (x86-64 Linux), which `rt staticlib palgwern` writes. Every call is proved to end and to
+ * answer as its contract in crates/palgwern/src/lib.rt says, whatever the panel and what is lent hold. What C must ensure:
  *
  * - stack: 512 KiB of room for palgwern_read_sheet, 192 KiB for palgwern_line_names, 64 KiB for each
  *   other call (`bindings/test` measures them);

@@ -1,6 +1,6 @@
-//! Palgwern's calls for Rust: safe functions over target/staticlib/libpanel_c.a, which `rt staticlib panel_c` writes.
+//! Palgwern's calls for Rust: safe functions over target/staticlib/libpalgwern.a, which `rt staticlib palgwern` writes.
 //!
-//! `mod palgwern;` and `-l static=panel_c` are all that is needed. A `Panel` owns the buffers that the library reads and writes and
+//! `mod palgwern;` and `-l static=palgwern` are all that is needed. A `Panel` owns the buffers that the library reads and writes and
 //! hands them over together, so what the calls ask of a caller holds: initialized arrays of the right lengths that do not overlap.
 //! One thing is left to the program: 512 KiB of stack for `Panel::read`, which every Rust thread has unless it was asked for less.
 #![allow(dead_code)]
@@ -36,7 +36,7 @@ pub const RECORD_WORDS: usize = 3;
 /// The numbers of a resolved placement in a run.
 pub const PLACEMENT_NUMBERS: usize = 6;
 
-/// An axis of a panel as the library has it; `crates/tables/src/lib.rt` says what the fields are.
+/// An axis of a panel as the library has it; `crates/axis_tables/src/lib.rt` says what the fields are.
 #[repr(C)]
 #[derive(Clone, Copy, Debug, Default, PartialEq, Eq)]
 pub struct AxisState {

@@ -28,7 +28,7 @@ def arguments():
     parser.add_argument("--chromium", help="the program of Chromium (default: CHROMIUM, or chromium where it is found)")
     parser.add_argument("--firefox", help="the program of Firefox (default: FIREFOX, or firefox-esr where it is found)")
     parser.add_argument("--panel", help="the panel program (default: PANEL, or target/bin/panel where it is)")
-    parser.add_argument("--library", help="the static library (default: LIBRARY, or target/staticlib/libpanel_c.a where it is)")
+    parser.add_argument("--library", help="the static library (default: LIBRARY, or target/staticlib/libpalgwern.a where it is)")
     parser.add_argument("--family", choices=comparable.FAMILIES, help="only panels of this family")
     parser.add_argument("--planted", action="store_true", help="plant wrong readings and show that at most N panels find each")
     parser.add_argument("--own", action="store_true", help="draw the smallest sheet of each difference that is a browser's own")

@@ -9,7 +9,7 @@ from judged import LIBRARY, build_library, find
 
 def arguments():
     parser = argparse.ArgumentParser(prog="compare/forge", description="Make the library's calls on N forged panels.")
-    parser.add_argument("--library", help="the static library (default: LIBRARY, or target/staticlib/libpanel_c.a where it is)")
+    parser.add_argument("--library", help="the static library (default: LIBRARY, or target/staticlib/libpalgwern.a where it is)")
     parser.add_argument("--planted", action="store_true", help="plant faults in the calls, one at a time, and show that each is found")
     parser.add_argument("n", type=int)
     parser.add_argument("seed", type=int)
@@ -20,7 +20,7 @@ def main():
     options = arguments()
     archive = find(options.library, *LIBRARY)
     if archive is None:
-        raise build.CannotCompare("no comparison: the library is not there, `rt staticlib panel_c` writes it")
+        raise build.CannotCompare("no comparison: the library is not there, `rt staticlib palgwern` writes it")
     if options.n < 1:
         raise build.CannotCompare("no comparison: N has to be at least 1")
     lists = os.path.join(build.COMPARE, "recorded")

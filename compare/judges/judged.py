@@ -12,7 +12,7 @@ from build import CannotCompare
 LIBRARY_SOURCES = os.path.join(build.COMPARE, "library")
 # The variable of the environment that names each, and where it is found in the repository.
 PANEL = ("PANEL", "target", "bin", "panel")
-LIBRARY = ("LIBRARY", "target", "staticlib", "libpanel_c.a")
+LIBRARY = ("LIBRARY", "target", "staticlib", "libpalgwern.a")
 BINDINGS = os.path.join(build.REPOSITORY, "bindings", "palgwern.rs")
 
 

@@ -17,7 +17,7 @@ def arguments():
     parser = argparse.ArgumentParser(prog="compare/run", description="Compare the judges on N made sheets.")
     parser.add_argument("--rust", help="folder of the unchanged Rust files (default ../shared/docs/src)")
     parser.add_argument("--panel", help="the panel program (default: PANEL, or target/bin/panel where it is)")
-    parser.add_argument("--library", help="the static library (default: LIBRARY, or target/staticlib/libpanel_c.a where it is)")
+    parser.add_argument("--library", help="the static library (default: LIBRARY, or target/staticlib/libpalgwern.a where it is)")
     parser.add_argument("--family", choices=maker.WEIGHTS, help="only sheets of this family")
     parser.add_argument("n", type=int)
     parser.add_argument("seed", type=int)

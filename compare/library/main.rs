@@ -1,4 +1,4 @@
-//! Asks the static library libpanel_c.a: sheets with entry calls in a batch, or forged panels.
+//! Asks the static library libpalgwern.a: sheets with entry calls in a batch, or forged panels.
 //! `library --batch`, `library --forge LISTS N SEED`, `library --planted LISTS N SEED`.
 mod answer;
 mod batch;

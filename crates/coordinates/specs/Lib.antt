@@ -1,4 +1,6 @@
--- What the contracts of layer 1 cite.
+-- What the contracts of layer 1 cite; those of the calls on lines: Answers, Cases.
 pub mod Refusals
 pub mod Lines
 pub mod Signed
+pub mod Answers
+pub mod Cases

@@ -1,14 +1,14 @@
 // How often the automatic repeat of a template is written out.
 ghost use mathlib.Core.Path.{_≡_};
 ghost use Prim.Native.Nat.{_+_, _-_, _*_, _≤_, _<_, min};
-ghost use Rattle.explicit_grid.specs.Space.{whole32};
-ghost use Rattle.explicit_grid.specs.Repetitions.{firstSpace, furtherSpace, wholeOf, oneMore, fittingOf, heldOf, repetitionsOf};
-use explicit_grid::AutoRepeatStrategy;
-use explicit_grid::InnerSize;
-use explicit_grid::TemplateSummary;
-use explicit_grid::whole::ceiling_to_u32;
-use explicit_grid::whole::floor_to_u32;
+ghost use Rattle.template_rules.specs.Space.{whole32};
+ghost use Rattle.template_rules.specs.Repetitions.{firstSpace, furtherSpace, wholeOf, oneMore, fittingOf, heldOf, repetitionsOf};
 use sizing::Sizing;
+use template_rules::AutoRepeatStrategy;
+use template_rules::InnerSize;
+use template_rules::TemplateSummary;
+use template_rules::whole::ceiling_to_u32;
+use template_rules::whole::floor_to_u32;
 
 // A count held to 10,000.
 fn held_count(count: u64) -> u64
@@ -116,7 +116,7 @@ pub(crate) fn automatic_repetitions(
 {
     match inner {
         InnerSize::Definite(x) => {
-            let value = definite_sizes::definite::gap_value(gap, x);
+            let value = sizing::definite::gap_value(gap, x);
             let fit = repetitions_that_fit(strategy, x, value, summary);
             held_repetitions(summary.before, summary.repeated, fit as u64)
         }

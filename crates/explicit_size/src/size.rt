@@ -1,16 +1,16 @@
 // The explicit size of an axis.
 ghost use mathlib.Core.Path.{_≡_};
 ghost use Prim.Native.Nat.{_≤_, max};
-ghost use Rattle.explicit_grid.specs.Template.{templateOf};
-ghost use Rattle.explicit_grid.specs.Explicit.{validOf, templateSizeOf, refusedSize, withAreas, innerValue, explicitSizeOf};
-ghost use Rattle.explicit_grid.specs.Bounds.{Gathered};
+ghost use Rattle.template_rules.specs.Template.{templateOf};
+ghost use Rattle.template_rules.specs.Explicit.{validOf, templateSizeOf, refusedSize, withAreas, innerValue, explicitSizeOf};
+ghost use Rattle.template_rules.specs.Bounds.{Gathered};
 use crate::repetitions::automatic_repetitions;
-use explicit_grid::AutoRepeatStrategy;
-use explicit_grid::ExplicitSize;
-use explicit_grid::InnerSize;
-use explicit_grid::TemplateSize;
-use explicit_grid::TemplateSummary;
 use sizing::Sizing;
+use template_rules::AutoRepeatStrategy;
+use template_rules::ExplicitSize;
+use template_rules::InnerSize;
+use template_rules::TemplateSize;
+use template_rules::TemplateSummary;
 use template_summary::summary::template_summary;
 
 // As many steps as a template of any words can have: 64 components, each of at most 65,535 tracks.

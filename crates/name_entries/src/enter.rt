@@ -1,7 +1,7 @@
 // What a direct entry of a line and a name is refused by.
 ghost use mathlib.Core.Path.{_≡_};
-ghost use Rattle.name_store.specs.Enter.{entryRefusal};
-use name_store::name::is_name;
+ghost use Rattle.name_entries.specs.Enter.{entryRefusal};
+use crate::name::is_name;
 
 // The number of the refusal of an entry, 0 where there is none. `words` and `bytes` are the lengths of the table and the store.
 pub fn entry_refusal(

@@ -5,11 +5,11 @@ use mathlib.Core.List.{List}
 use Prim.Native.Nat.{ℕ, _/_, _≤_, _<_}
 use native.Mathlib.Omega.{arith}
 use borrow.Author.Tests.{le-leb, lt-leb, lt-ltb, le-ltb}
-use Rattle.line_placement.specs.Css.{Bytes}
-use Rattle.line_placement.specs.Rule.{eqBytes}
-use Rattle.name_store.specs.declared.NameEntry.{NameEntry}
-use Rattle.name_store.specs.Entries.{entryOf, nameIn}
-use Rattle.name_store.proofs.Same.{same-refl}
+use Rattle.name_rules.specs.Css.{Bytes}
+use Rattle.name_rules.specs.Rule.{eqBytes}
+use Rattle.name_entries.specs.declared.NameEntry.{NameEntry}
+use Rattle.name_entries.specs.Entries.{entryOf, nameIn}
+use Rattle.name_entries.proofs.Same.{same-refl}
 use Rattle.name_groups.specs.Listed.{listsNext}
 
 -- entries of the same part of the store have the same name

@@ -6,7 +6,7 @@ use native.Mathlib.Omega.{arith}
 use borrow.Author.Tests.{le-ltb}
 use lib.ListN.{length}
 use lib.Seq.{take-all}
-use Rattle.line_search.proofs.Suffixes.{never}
+use Rattle.name_lines.proofs.Suffixes.{never}
 use Rattle.name_groups.specs.declared.key.Grouping.the-variants.{Whole}
 use Rattle.name_groups.specs.Groups.{groupAt, groupPart, Grouped}
 

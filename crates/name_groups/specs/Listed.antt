@@ -4,9 +4,9 @@ use mathlib.Core.Bool.{Bool, true, _&&_}
 use mathlib.Core.List.{List, [], _∷_}
 use lib.Dec.{ltb, leb}
 use lib.ListN.{getD}
-use Rattle.line_placement.specs.Css.{Bytes}
-use Rattle.line_placement.specs.Rule.{eqBytes}
-use Rattle.name_store.specs.Entries.{entryOf, nameIn}
+use Rattle.name_rules.specs.Css.{Bytes}
+use Rattle.name_rules.specs.Rule.{eqBytes}
+use Rattle.name_entries.specs.Entries.{entryOf, nameIn}
 
 -- an entry has the name, on a line above n and among the 20,000 that a name can lie on (document 01, panel ranges: entered lines)
 abbrev pub listsNext : List ℕ → Bytes → ℕ → ℕ → Bool

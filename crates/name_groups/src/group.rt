@@ -7,7 +7,7 @@ use crate::key::FEW_KEYS;
 use crate::key::Grouping;
 use crate::key::MANY_KEYS;
 use crate::key::joined_key;
-use line_search::suffix::AreaEdge;
+use name_lines::suffix::AreaEdge;
 
 // Where the entries of a group lie, and whether they list the lines of one name.
 pub struct Group {

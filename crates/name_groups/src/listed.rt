@@ -1,11 +1,11 @@
 // Whether entries list the lines of one name.
 ghost use mathlib.Core.Path.{_≡_};
-ghost use Rattle.line_placement.specs.Rule.{eqBytes};
-ghost use Rattle.name_store.specs.Entries.{entryOf, nameIn};
+ghost use Rattle.name_rules.specs.Rule.{eqBytes};
+ghost use Rattle.name_entries.specs.Entries.{entryOf, nameIn};
 ghost use Rattle.name_groups.specs.Listed.{listsNext};
-use name_store::bytes::same_bytes;
-use name_store::entry::entry_of;
-use name_store::entry::name_in;
+use name_entries::bytes::same_bytes;
+use name_entries::entry::entry_of;
+use name_entries::entry::name_in;
 
 // The last line whose names are looked at.
 const LAST_LINE: u32 = 20000;

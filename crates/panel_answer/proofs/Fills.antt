@@ -7,7 +7,7 @@ use native.Mathlib.Omega.{arith}
 use lib.Dec.{eqb}
 use lib.ListN.{length, take, drop, length-append, length-drop, drop-of-length-le}
 use lib.Seq.{sets, sets-eq, length-sets, drop-drop, take-all}
-use Rattle.template_names.proofs.Placing.{sets-append}
+use Rattle.name_template.proofs.Placing.{sets-append}
 use Rattle.sheet_rules.specs.Read.{SheetRead}
 use Rattle.coordinates.specs.declared.axis.Axis.the-variants.{Column, Row}
 use Rattle.panel_rules.specs.Runs.{Held}

@@ -12,17 +12,17 @@ use lib.Seq.{drop-cons}
 use borrow.Author.Tests.{ltb-true, ltb-false, lt-ltb, le-ltb}
 use Rattle.coordinates.specs.declared.axis.Axis.{Axis}
 use Rattle.coordinates.specs.declared.axis.Axis.the-variants.{Column, Row}
-use Rattle.grid_track.specs.declared.GridTrack.{GridTrack}
-use Rattle.grid_track.specs.Tracks.{zeroGridTrack}
-use Rattle.grid_track.specs.Records.{listed, recordsIn}
-use Rattle.grid_track.proofs.Lists.{length-listed, get-listed}
-use Rattle.grid_track.proofs.RecordList.{records-length}
-use Rattle.tables.specs.declared.AxisState.{AxisState}
+use Rattle.track_rules.specs.declared.GridTrack.{GridTrack}
+use Rattle.track_rules.specs.Tracks.{zeroGridTrack}
+use Rattle.track_rules.specs.Records.{listed, recordsIn}
+use Rattle.track_rules.proofs.Lists.{length-listed, get-listed}
+use Rattle.track_rules.proofs.RecordList.{records-length}
+use Rattle.axis_tables.specs.declared.AxisState.{AxisState}
 use Rattle.panel_tables.specs.Axes.{stateIn}
 use Rattle.panel_rules.specs.Calls.{wordsIn, templateIn, sparesIn, axisTracks}
 use Rattle.panel_rules.specs.Runs.{Held, namesOf, marksOf}
-use Rattle.panel_grid.specs.Carried.{carriedTo}
-use Rattle.panel_grid.proofs.Carried.{carried-on, carried-record}
+use Rattle.panel_calls.specs.Carried.{carriedTo}
+use Rattle.panel_calls.proofs.Carried.{carried-on, carried-record}
 use Rattle.panel_text.specs.Lines.{recordLine}
 use Rattle.panel_answer.specs.declared.AnswerLine.{AnswerLine}
 use Rattle.panel_answer.specs.declared.AnswerLine.the-variants.{Size, Record, Place, End}

@@ -9,13 +9,13 @@ use lib.ListN.{length, length-append}
 use borrow.Author.Tests.{ltb-true, ltb-false}
 use Rattle.coordinates.specs.declared.axis.Axis.{Axis}
 use Rattle.coordinates.specs.declared.axis.Axis.the-variants.{Column, Row}
-use Rattle.grid_track.specs.Records.{recordsIn}
+use Rattle.track_rules.specs.Records.{recordsIn}
 use Rattle.panel_tables.specs.Axes.{stateIn}
 use Rattle.panel_rules.specs.Calls.{wordsIn, axisTracks}
 use Rattle.panel_rules.specs.Runs.{Held, namesOf, marksOf}
-use Rattle.panel_grid.specs.Carried.{carriedTo, carriedOn}
+use Rattle.panel_calls.specs.Carried.{carriedTo, carriedOn}
 use Rattle.panel_text.specs.Lines.{sizeLine, recordLine, placeLine, refusedLine}
-use Rattle.grid_track.specs.declared.TrackWalk.{TrackWalk}
+use Rattle.track_rules.specs.declared.TrackWalk.{TrackWalk}
 use Rattle.panel_answer.specs.declared.AnswerLine.{AnswerLine}
 use Rattle.panel_answer.specs.declared.AnswerLine.the-variants.{Refused, Size, Record, Place, End}
 use Rattle.panel_answer.specs.Answer.{recordCount, answerLines, textOf}

@@ -5,8 +5,8 @@ use mathlib.Core.List.{List, [], _∷_, _++_}
 use lib.Dec.{eqb}
 use Rattle.coordinates.specs.declared.axis.Axis.{Axis}
 use Rattle.coordinates.specs.declared.axis.Axis.the-variants.{Column, Row}
-use Rattle.grid_track.specs.declared.GridTrack.{GridTrack}
-use Rattle.grid_track.specs.Records.{listed, recordsIn, recordsOf}
+use Rattle.track_rules.specs.declared.GridTrack.{GridTrack}
+use Rattle.track_rules.specs.Records.{listed, recordsIn, recordsOf}
 use Rattle.panel_tables.specs.Axes.{stateIn}
 use Rattle.sheet_rules.specs.Panels.{Tables}
 use Rattle.sheet_rules.specs.Read.{SheetRead, readSheet}

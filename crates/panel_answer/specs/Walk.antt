@@ -5,15 +5,15 @@ use mathlib.Core.List.{List, [], _∷_}
 use lib.Dec.{eqb, ltb}
 use Rattle.coordinates.specs.declared.axis.Axis.{Axis}
 use Rattle.coordinates.specs.declared.axis.Axis.the-variants.{Column, Row}
-use Rattle.grid_track.specs.Records.{recordsIn}
-use Rattle.name_store.specs.LineNames.{ofAxis}
-use Rattle.grid_track.specs.declared.TrackWalk.{TrackWalk}
+use Rattle.track_rules.specs.Records.{recordsIn}
+use Rattle.name_entries.specs.LineNames.{ofAxis}
+use Rattle.track_rules.specs.declared.TrackWalk.{TrackWalk}
 use Rattle.panel_tables.specs.declared.Panel.{Panel}
 use Rattle.panel_tables.specs.Axes.{stateIn}
 use Rattle.sheet_rules.specs.declared.SheetAnswer.{SheetAnswer}
 use Rattle.panel_rules.specs.Calls.{wordsIn, axisTracks}
 use Rattle.panel_rules.specs.Runs.{Held, namesOf, marksOf}
-use Rattle.panel_grid.specs.Carried.{carriedTo, carriedRecord, carriedOn}
+use Rattle.panel_calls.specs.Carried.{carriedTo, carriedRecord, carriedOn}
 use Rattle.panel_text.specs.Lines.{recordLine, refusedLine}
 use Rattle.panel_answer.specs.declared.AnswerLine.{AnswerLine}
 use Rattle.panel_answer.specs.declared.AnswerLine.the-variants.{Refused, Size, Record, Place, End}

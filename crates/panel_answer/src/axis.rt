@@ -3,7 +3,7 @@ ghost use mathlib.Core.Path.{_≡_};
 ghost use Rattle.panel_tables.specs.Axes.{stateIn};
 ghost use Rattle.panel_tables.specs.Regions.{axisWordsIn, marksIn};
 ghost use Rattle.panel_rules.specs.Calls.{explicitSize};
-ghost use Rattle.panel_grid.specs.Carried.{carriedTo, carriedRecord};
+ghost use Rattle.panel_calls.specs.Carried.{carriedTo, carriedRecord};
 ghost use Rattle.panel_text.specs.Lines.{sizeLine, recordLine};
 ghost use Rattle.panel_text.specs.Written.{WritesLine};
 ghost use Rattle.panel_answer.specs.Walk.{afterAxis, recordFrom};
@@ -11,13 +11,13 @@ ghost use Rattle.panel_answer.specs.declared.AnswerLine.the-variants.{Re
 use crate::AnswerLine;
 use crate::place::place_from;
 use coordinates::Axis;
-use grid_track::TrackWalk;
-use panel_grid::size::explicit_size;
-use panel_grid::track;
+use panel_calls::size::explicit_size;
+use panel_calls::track;
 use panel_tables::Panel;
 use panel_tables::region::PANEL_BYTES;
 use panel_tables::region::PANEL_WORDS;
 use panel_tables::region::marks;
+use track_rules::TrackWalk;
 
 // The line of an axis's size.
 pub(crate) fn put_size(out: &mut [u8], panel: Panel, axis: Axis) -> usize

@@ -6,8 +6,8 @@ mod place;
 
 use coordinates::Axis;
 use coordinates::Refusal;
-use grid_track::TrackWalk;
 use panel_tables::Panel;
+use track_rules::TrackWalk;
 
 // A line of an answer: a refusal; the size of an axis; a record of it, by its index and what is carried to it; a placement, by its
 // index; none.

@@ -1,4 +1,5 @@
 // The panel program: reads a panel sheet from standard input and prints what it says, or why it is refused.
+use axis_tables::layout::AXIS_BYTES;
 use libc::STDIN_FILENO;
 use libc::STDOUT_FILENO;
 use panel_answer::fill::begin_answer;
@@ -6,7 +7,6 @@ use panel_answer::fill::fill;
 use panel_answer::line::is_end;
 use panel_tables::region::PANEL_BYTES;
 use panel_tables::region::PANEL_WORDS;
-use tables::layout::AXIS_BYTES;
 
 // One byte more than a sheet may have is enough to refuse it.
 const SHEET_ROOM: usize = 32769;

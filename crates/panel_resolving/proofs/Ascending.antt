@@ -3,8 +3,8 @@ use mathlib.Core.Path.{_≡_, refl, sym, _∙_, ap}
 use mathlib.Core.Bool.{Bool, true, false}
 use Prim.Native.Nat.{ℕ, zero, suc, _+_, _-_, _≤_, _<_}
 use native.Mathlib.Omega.{arith}
-use Rattle.line_placement.specs.Rule.{Seek, at, left, onward, seek}
-use Rattle.line_search.specs.Marks.{back}
+use Rattle.name_rules.specs.Rule.{Seek, at, left, onward, seek}
+use Rattle.name_lines.specs.Marks.{back}
 use Rattle.panel_resolving.specs.Listing.{Ascends}
 use Rattle.panel_resolving.proofs.Counting.{Parted, Marking, passed, missed, all-below, none-below}
 

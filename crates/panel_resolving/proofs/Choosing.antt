@@ -11,17 +11,17 @@ use lib.ListN.{length, set}
 use lib.Seq.{sets, set-comm}
 use Rattle.coordinates.specs.declared.axis.Axis.{Axis}
 use Rattle.coordinates.specs.declared.axis.Axis.the-variants.{Column, Row}
-use Rattle.line_search.proofs.Suffixes.{never}
-use Rattle.line_search.specs.Areas.{axisNames}
-use Rattle.named.specs.Placements.{resolutionOf}
-use Rattle.tables.specs.Runs.{partOf}
+use Rattle.name_lines.proofs.Suffixes.{never}
+use Rattle.name_lines.specs.Areas.{axisNames}
+use Rattle.name_resolver.specs.Placements.{resolutionOf}
+use Rattle.axis_tables.specs.Runs.{partOf}
 use Rattle.panel_tables.specs.declared.Panel.{Panel}
 use Rattle.panel_tables.specs.declared.PlacementPlace.{PlacementPlace}
 use Rattle.panel_tables.specs.Placements.{axisNumber, placementAt}
 use Rattle.panel_rules.specs.Calls.{NameTables, NamedWords, entryWordsIn, namesIn, shorterStore, shortNames}
 use Rattle.panel_rules.specs.Placing.{linePlacement, placedBy, resolvePlacement}
-use Rattle.panel_numbers.specs.declared.PlacementNumbers.{PlacementNumbers}
-use Rattle.panel_numbers.specs.Answers.{placementNumbers}
+use Rattle.library_numbers.specs.declared.PlacementNumbers.{PlacementNumbers}
+use Rattle.library_numbers.specs.Answers.{placementNumbers}
 use Rattle.panel_resolving.specs.declared.write.Run.{Run}
 use Rattle.panel_resolving.specs.Chosen.{chosenSets, onAxis, numbersBy, runOf}
 use Rattle.panel_resolving.specs.Placements.{numbersOf, runNumbers}

@@ -9,13 +9,13 @@ use lib.Dec.{eqb}
 use lib.ListN.{length, getD, drop, drop-of-length-le}
 use lib.Seq.{drop-cons, drop-drop, getD-drop}
 use Rattle.coordinates.specs.declared.axis.Axis.{Axis}
-use Rattle.line_placement.specs.Css.{Bytes, Side, start, end, edge}
-use Rattle.line_placement.specs.Rule.{any, eqBytes}
-use Rattle.name_store.specs.Entries.{entryOf, nameIn}
-use Rattle.line_search.specs.Areas.{areaOf, areasOf, edged?, edgedBy}
-use Rattle.line_search.specs.declared.suffix.AreaEdge.{AreaEdge}
-use Rattle.line_search.specs.declared.suffix.AreaEdge.the-variants.{Start, End, Neither}
-use Rattle.line_search.proofs.Suffixes.{never, and-no}
+use Rattle.name_rules.specs.Css.{Bytes, Side, start, end, edge}
+use Rattle.name_rules.specs.Rule.{any, eqBytes}
+use Rattle.name_entries.specs.Entries.{entryOf, nameIn}
+use Rattle.name_lines.specs.Areas.{areaOf, areasOf, edged?, edgedBy}
+use Rattle.name_lines.specs.declared.suffix.AreaEdge.{AreaEdge}
+use Rattle.name_lines.specs.declared.suffix.AreaEdge.the-variants.{Start, End, Neither}
+use Rattle.name_lines.proofs.Suffixes.{never, and-no}
 use Rattle.panel_resolving.specs.Drawn.{drawnIn, edgesDrawn}
 
 -- where no area has the name, no line is an edge of one

@@ -3,23 +3,23 @@ use mathlib.Core.Path.{_≡_, refl, sym, _∙_, ap, fun-ext}
 use mathlib.Core.Bool.{Bool, true, false}
 use mathlib.Core.List.{List, _++_}
 use Prim.Native.Nat.{ℕ, suc}
-use Rattle.line_placement.specs.Css.{Bytes, Side, start, end, suffix}
-use Rattle.line_placement.specs.Rule.{Seek, at, left}
-use Rattle.line_search.specs.Areas.{soughtIn, bearsIn}
-use Rattle.line_search.specs.Suffixes.{edgeOf, stemOf, sideEdge}
-use Rattle.line_search.specs.declared.Way.the-variants.{Up}
-use Rattle.line_search.specs.declared.suffix.AreaEdge.{AreaEdge}
-use Rattle.line_search.specs.declared.suffix.AreaEdge.the-variants.{Start, End, Neither}
-use Rattle.line_search.proofs.Suffixes.{never}
-use Rattle.line_search.proofs.Tables.{sought-name, sought-side}
+use Rattle.name_rules.specs.Css.{Bytes, Side, start, end, suffix}
+use Rattle.name_rules.specs.Rule.{Seek, at, left}
+use Rattle.name_lines.specs.Areas.{soughtIn, bearsIn}
+use Rattle.name_lines.specs.Suffixes.{edgeOf, stemOf, sideEdge}
+use Rattle.name_lines.specs.declared.Way.the-variants.{Up}
+use Rattle.name_lines.specs.declared.suffix.AreaEdge.{AreaEdge}
+use Rattle.name_lines.specs.declared.suffix.AreaEdge.the-variants.{Start, End, Neither}
+use Rattle.name_lines.proofs.Suffixes.{never}
+use Rattle.name_lines.proofs.Tables.{sought-name, sought-side}
 use Rattle.name_groups.specs.Keys.{joinedKey, keyOf}
 use Rattle.name_groups.specs.Groups.{groupAt, groupPart}
 use Rattle.name_groups.proofs.Keying.{side-key}
-use Rattle.nth_line.specs.Sought.{lineSought}
-use Rattle.nth_line.specs.declared.Sought.{Sought}
-use Rattle.named.specs.declared.Question.{Question}
-use Rattle.named.specs.Questions.{edgeFound, orElse, foundBy}
-use Rattle.tables.specs.Runs.{partOf}
+use Rattle.name_search.specs.Sought.{lineSought}
+use Rattle.name_search.specs.declared.Sought.{Sought}
+use Rattle.name_resolver.specs.declared.Question.{Question}
+use Rattle.name_resolver.specs.Questions.{edgeFound, orElse, foundBy}
+use Rattle.axis_tables.specs.Runs.{partOf}
 use Rattle.panel_resolving.specs.declared.Around.{Around}
 use Rattle.panel_resolving.specs.Names.{bearsBy, soughtBy}
 use Rattle.panel_resolving.specs.Asking.{asksOwn, soughtFor, stemFor, ownFound, foundFrom}

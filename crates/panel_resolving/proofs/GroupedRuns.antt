@@ -7,15 +7,15 @@ use native.Mathlib.Omega.{arith}
 use borrow.Author.Tests.{le-leb, leb-true}
 use lib.Dec.{leb}
 use lib.IntN.{ℤ}
-use Rattle.line_search.specs.Areas.{axisNames}
+use Rattle.name_lines.specs.Areas.{axisNames}
 use Rattle.name_groups.specs.Keys.{keyCount}
 use Rattle.name_groups.specs.Groups.{Grouped, indexFits}
 use Rattle.name_groups.specs.declared.key.Grouping.{Grouping}
 use Rattle.name_groups.specs.declared.key.Grouping.the-variants.{Whole, Few, Many}
-use Rattle.named.specs.declared.Line.{Line}
-use Rattle.named.specs.declared.Resolution.{Resolution}
-use Rattle.named.specs.Placements.{resolutionOf}
-use Rattle.tables.specs.Runs.{partOf}
+use Rattle.name_resolver.specs.declared.Line.{Line}
+use Rattle.name_resolver.specs.declared.Resolution.{Resolution}
+use Rattle.name_resolver.specs.Placements.{resolutionOf}
+use Rattle.axis_tables.specs.Runs.{partOf}
 use Rattle.panel_resolving.specs.declared.write.Run.{Run}
 use Rattle.panel_resolving.specs.Names.{bearsBy, resolutionBy}
 use Rattle.panel_resolving.specs.Chosen.{chosenSets, onAxis, numbersBy, runGrouped, groupingFor}

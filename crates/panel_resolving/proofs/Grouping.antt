@@ -7,17 +7,17 @@ use borrow.Author.Tests.{leb-true}
 use lib.Dec.{leb}
 use Rattle.coordinates.specs.declared.axis.Axis.{Axis}
 use Rattle.coordinates.specs.Refusals.{noRefusal}
-use Rattle.line_placement.specs.Css.{Bytes, AxisNames}
-use Rattle.line_placement.specs.Rule.{any, drawn?, named?}
-use Rattle.line_search.specs.Areas.{axisNames, bears}
+use Rattle.name_rules.specs.Css.{Bytes, AxisNames}
+use Rattle.name_rules.specs.Rule.{any, drawn?, named?}
+use Rattle.name_lines.specs.Areas.{axisNames, bears}
 use Rattle.name_groups.specs.Groups.{Grouped, Lists}
 use Rattle.name_groups.proofs.Ungrouped.{whole-grouped}
-use Rattle.named.specs.declared.Line.{Line}
-use Rattle.named.specs.declared.Resolution.{Resolution}
-use Rattle.named.specs.Placements.{resolvedLine, refusedResolution, resolutionOf}
-use Rattle.named.specs.Questions.{answeredLine}
-use Rattle.named.proofs.Questions.{line-answer}
-use Rattle.tables.specs.Runs.{partOf}
+use Rattle.name_resolver.specs.declared.Line.{Line}
+use Rattle.name_resolver.specs.declared.Resolution.{Resolution}
+use Rattle.name_resolver.specs.Placements.{resolvedLine, refusedResolution, resolutionOf}
+use Rattle.name_resolver.specs.Questions.{answeredLine}
+use Rattle.name_resolver.proofs.Questions.{line-answer}
+use Rattle.axis_tables.specs.Runs.{partOf}
 use Rattle.panel_tables.specs.declared.Panel.{Panel}
 use Rattle.panel_tables.specs.Axes.{stateIn}
 use Rattle.panel_rules.specs.Calls.{NameTables, NamedWords, wordsIn, storeIn, entryWordsIn, namesIn}

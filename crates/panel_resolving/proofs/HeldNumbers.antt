@@ -9,9 +9,9 @@ use Rattle.coordinates.specs.declared.signed.Signed.{Signed}
 use Rattle.coordinates.specs.declared.signed.Signed.the-variants.{NonNegative, Negative}
 use Rattle.coordinates.specs.Signed.{integerOf, sixteenBits}
 use Rattle.coordinates.proofs.Integers.{sixteen-fits}
-use Rattle.named.specs.declared.Name.{Name}
-use Rattle.named.specs.declared.GridPlacement.the-variants.{Auto, Line as AtLine, NamedLine, Span, NamedSpan}
-use Rattle.named.specs.Placements.{gridLineOf}
+use Rattle.name_resolver.specs.declared.Name.{Name}
+use Rattle.name_resolver.specs.declared.GridPlacement.the-variants.{Auto, Line as AtLine, NamedLine, Span, NamedSpan}
+use Rattle.name_resolver.specs.Placements.{gridLineOf}
 use Rattle.panel_tables.specs.declared.EndPlace.{EndPlace}
 use Rattle.panel_rules.specs.Placing.{heldIndex, heldSpan, nameAt, endBy}
 

@@ -9,13 +9,13 @@ use borrow.Author.Tests.{lt-ltb, ltb-true, leb-true, eqb-true, eq-eqb}
 use lib.Dec.{eqb, ltb, leb}
 use lib.ListN.{length, getD}
 use Rattle.coordinates.proofs.Lines.{lt-or-ge}
-use Rattle.line_placement.specs.Css.{Bytes}
-use Rattle.line_placement.specs.Rule.{any, at, left, eqBytes, written?}
-use Rattle.name_store.specs.Entries.{entryOf, entriesOf, nameIn}
-use Rattle.name_store.specs.declared.NameEntry.{NameEntry}
-use Rattle.line_search.specs.Marks.{walk, startOf}
-use Rattle.line_search.specs.declared.Way.the-variants.{Up, Down}
-use Rattle.line_search.proofs.Suffixes.{never, both, eq-bytes, and-no, and-yes}
+use Rattle.name_rules.specs.Css.{Bytes}
+use Rattle.name_rules.specs.Rule.{any, at, left, eqBytes, written?}
+use Rattle.name_entries.specs.Entries.{entryOf, entriesOf, nameIn}
+use Rattle.name_entries.specs.declared.NameEntry.{NameEntry}
+use Rattle.name_lines.specs.Marks.{walk, startOf}
+use Rattle.name_lines.specs.declared.Way.the-variants.{Up, Down}
+use Rattle.name_lines.proofs.Suffixes.{never, both, eq-bytes, and-no, and-yes}
 use Rattle.name_groups.specs.Listed.{listedFrom, listed}
 use Rattle.panel_resolving.specs.Listing.{lineAt, Ascends, LinesAscend, upTo, onLine, firstNamed}
 use Rattle.panel_resolving.proofs.Counting.{Marking, all-below}

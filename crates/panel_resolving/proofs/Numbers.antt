@@ -14,22 +14,22 @@ use lib.Seq.{sets}
 use Rattle.coordinates.specs.declared.axis.Axis.{Axis}
 use Rattle.coordinates.specs.declared.axis.Axis.the-variants.{Column, Row}
 use Rattle.coordinates.specs.Refusals.{count, short}
-use Rattle.line_placement.specs.Css.{Bytes}
-use Rattle.named.specs.declared.Line.{Line}
-use Rattle.named.specs.declared.NonNamedGridPlacement.{NonNamedGridPlacement}
-use Rattle.named.specs.declared.NonNamedGridPlacement.the-variants.{Auto, Line as AtLine, Span}
-use Rattle.named.specs.declared.Resolution.{Resolution}
-use Rattle.named.specs.Placements.{resolvedKindOf, refusedResolution}
-use Rattle.named.specs.Questions.{answeredLine}
+use Rattle.name_rules.specs.Css.{Bytes}
+use Rattle.name_resolver.specs.declared.Line.{Line}
+use Rattle.name_resolver.specs.declared.NonNamedGridPlacement.{NonNamedGridPlacement}
+use Rattle.name_resolver.specs.declared.NonNamedGridPlacement.the-variants.{Auto, Line as AtLine, Span}
+use Rattle.name_resolver.specs.declared.Resolution.{Resolution}
+use Rattle.name_resolver.specs.Placements.{resolvedKindOf, refusedResolution}
+use Rattle.name_resolver.specs.Questions.{answeredLine}
 use Rattle.coordinates.specs.Refusals.{noRefusal}
 use Rattle.panel_tables.specs.declared.Panel.{Panel}
 use Rattle.panel_tables.specs.Placements.{axisNumber}
 use Rattle.panel_rules.specs.declared.PlacementAnswer.{PlacementAnswer}
 use Rattle.panel_rules.specs.Calls.{NameTables, NamedWords, shorterStore}
 use Rattle.panel_rules.specs.Placing.{refusedPlacement, placedBy}
-use Rattle.panel_numbers.specs.declared.CountAnswer.{CountAnswer}
-use Rattle.panel_numbers.specs.declared.PlacementNumbers.{PlacementNumbers}
-use Rattle.panel_numbers.specs.Answers.{counted, uncounted, placementNumbers}
+use Rattle.library_numbers.specs.declared.CountAnswer.{CountAnswer}
+use Rattle.library_numbers.specs.declared.PlacementNumbers.{PlacementNumbers}
+use Rattle.library_numbers.specs.Answers.{counted, uncounted, placementNumbers}
 use Rattle.panel_resolving.specs.Names.{resolutionBy}
 use Rattle.panel_resolving.specs.Placements.{numbersOf, SmallNumbers, runNumbers, numbersRefusal, numbersCount, placementsWritten}
 

@@ -3,9 +3,9 @@ use Prim.Native.Nat.{ℕ, _<_}
 use mathlib.Core.Path.{_≡_, sym, ap, _∙_}
 use mathlib.Core.Bool.{Bool}
 use borrow.Author.Tests.{lt-ltb}
-use Rattle.named.specs.declared.Line.{Line}
-use Rattle.named.specs.declared.Resolution.{Resolution}
-use Rattle.named.specs.Placements.{resolutionOf}
+use Rattle.name_resolver.specs.declared.Line.{Line}
+use Rattle.name_resolver.specs.declared.Resolution.{Resolution}
+use Rattle.name_resolver.specs.Placements.{resolutionOf}
 use Rattle.panel_tables.specs.declared.Panel.{Panel}
 use Rattle.panel_tables.specs.declared.PlacementPlace.{PlacementPlace}
 use Rattle.panel_tables.specs.Placements.{placementAt}

@@ -9,7 +9,7 @@ use borrow.Author.Tests.{le-leb, lt-leb, leb-true, leb-false}
 use lib.Dec.{leb}
 use lib.ListN.{length, getD}
 use Rattle.coordinates.proofs.Lines.{lt-or-ge}
-use Rattle.name_store.specs.Entries.{entryOf}
+use Rattle.name_entries.specs.Entries.{entryOf}
 use Rattle.panel_resolving.specs.Listing.{lineAt, upTo}
 use Rattle.panel_resolving.proofs.Counting.{Parted}
 

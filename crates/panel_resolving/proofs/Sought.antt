@@ -4,14 +4,14 @@ use mathlib.Core.Bool.{Bool, true, false, _&&_, _||_}
 use mathlib.Core.List.{List, [], _++_}
 use Prim.Native.Nat.{ℕ, suc}
 use Rattle.coordinates.specs.declared.axis.Axis.{Axis}
-use Rattle.line_placement.specs.Css.{Bytes}
-use Rattle.line_placement.specs.Rule.{any, written?}
-use Rattle.name_store.specs.Entries.{entriesOf}
-use Rattle.line_search.specs.Areas.{areasOf, edgedBy, bearsJoined, soughtIn}
-use Rattle.line_search.specs.Suffixes.{tailOf}
-use Rattle.line_search.specs.declared.suffix.AreaEdge.{AreaEdge}
-use Rattle.line_search.proofs.Marking.{or-false}
-use Rattle.line_search.proofs.Suffixes.{never}
+use Rattle.name_rules.specs.Css.{Bytes}
+use Rattle.name_rules.specs.Rule.{any, written?}
+use Rattle.name_entries.specs.Entries.{entriesOf}
+use Rattle.name_lines.specs.Areas.{areasOf, edgedBy, bearsJoined, soughtIn}
+use Rattle.name_lines.specs.Suffixes.{tailOf}
+use Rattle.name_lines.specs.declared.suffix.AreaEdge.{AreaEdge}
+use Rattle.name_lines.proofs.Marking.{or-false}
+use Rattle.name_lines.proofs.Suffixes.{never}
 use Rattle.name_groups.specs.Listed.{listed, listedFrom}
 use Rattle.name_groups.specs.Keys.{joinedKey}
 use Rattle.name_groups.specs.Groups.{groupAt, groupPart, Lists}

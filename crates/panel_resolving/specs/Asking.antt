@@ -1,16 +1,16 @@
 -- What is sought for a question, one search after the other.
 use mathlib.Core.Bool.{Bool, true, false, cond}
 use Prim.Native.Nat.{ℕ, suc}
-use Rattle.line_placement.specs.Css.{Bytes}
-use Rattle.line_placement.specs.Rule.{Seek}
-use Rattle.line_search.specs.Marks.{walk, startOf}
-use Rattle.line_search.specs.Suffixes.{edgeOf, stemOf}
-use Rattle.line_search.specs.declared.Way.the-variants.{Up}
-use Rattle.line_search.specs.declared.suffix.AreaEdge.{AreaEdge}
-use Rattle.line_search.specs.declared.suffix.AreaEdge.the-variants.{Start, End, Neither}
-use Rattle.nth_line.specs.declared.Sought.{Sought}
-use Rattle.named.specs.declared.Question.{Question}
-use Rattle.named.specs.Questions.{edgeFound, orElse}
+use Rattle.name_rules.specs.Css.{Bytes}
+use Rattle.name_rules.specs.Rule.{Seek}
+use Rattle.name_lines.specs.Marks.{walk, startOf}
+use Rattle.name_lines.specs.Suffixes.{edgeOf, stemOf}
+use Rattle.name_lines.specs.declared.Way.the-variants.{Up}
+use Rattle.name_lines.specs.declared.suffix.AreaEdge.{AreaEdge}
+use Rattle.name_lines.specs.declared.suffix.AreaEdge.the-variants.{Start, End, Neither}
+use Rattle.name_search.specs.declared.Sought.{Sought}
+use Rattle.name_resolver.specs.declared.Question.{Question}
+use Rattle.name_resolver.specs.Questions.{edgeFound, orElse}
 use Rattle.panel_resolving.specs.declared.Around.{Around}
 
 -- the lines of the name itself are asked for, and no edge of its area before them

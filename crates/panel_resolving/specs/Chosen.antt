@@ -7,11 +7,11 @@ use lib.Dec.{eqb, leb}
 use lib.IntN.{ℤ}
 use lib.Seq.{sets}
 use Rattle.coordinates.specs.declared.axis.Axis.{Axis}
-use Rattle.named.specs.declared.Line.{Line}
-use Rattle.named.specs.declared.Resolution.{Resolution}
+use Rattle.name_resolver.specs.declared.Line.{Line}
+use Rattle.name_resolver.specs.declared.Resolution.{Resolution}
 use Rattle.panel_tables.specs.Placements.{axisNumber, placementAt}
 use Rattle.panel_rules.specs.Placing.{linePlacement, placedBy}
-use Rattle.panel_numbers.specs.Answers.{placementNumbers}
+use Rattle.library_numbers.specs.Answers.{placementNumbers}
 use Rattle.name_groups.specs.declared.key.Grouping.{Grouping}
 use Rattle.name_groups.specs.declared.key.Grouping.the-variants.{Whole, Few, Many}
 use Rattle.panel_resolving.specs.declared.write.Run.{Run}

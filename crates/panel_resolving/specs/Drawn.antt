@@ -3,11 +3,11 @@ use Prim.Native.Nat.{ℕ}
 use mathlib.Core.Bool.{Bool, false, _||_}
 use mathlib.Core.List.{List, [], _∷_}
 use lib.ListN.{getD, drop}
-use Rattle.line_placement.specs.Css.{Bytes}
-use Rattle.line_placement.specs.Rule.{eqBytes}
-use Rattle.name_store.specs.Entries.{entryOf, nameIn}
-use Rattle.line_search.specs.declared.suffix.AreaEdge.{AreaEdge}
-use Rattle.line_search.specs.declared.suffix.AreaEdge.the-variants.{Start, End, Neither}
+use Rattle.name_rules.specs.Css.{Bytes}
+use Rattle.name_rules.specs.Rule.{eqBytes}
+use Rattle.name_entries.specs.Entries.{entryOf, nameIn}
+use Rattle.name_lines.specs.declared.suffix.AreaEdge.{AreaEdge}
+use Rattle.name_lines.specs.declared.suffix.AreaEdge.the-variants.{Start, End, Neither}
 
 -- a drawn area has the name: one area for each word of edges, a word of a name that is missing read as 0
 unfoldable pub drawnIn : List ℕ → List ℕ → List ℕ → Bytes → Bool

@@ -4,9 +4,9 @@ use mathlib.Core.Bool.{Bool, cond, _&&_}
 use mathlib.Core.List.{List, [], _∷_}
 use lib.Dec.{eqb, leb, ltb}
 use lib.ListN.{length, getD}
-use Rattle.line_placement.specs.Css.{Bytes}
-use Rattle.line_placement.specs.Rule.{any, eqBytes}
-use Rattle.name_store.specs.Entries.{entryOf, nameIn}
+use Rattle.name_rules.specs.Css.{Bytes}
+use Rattle.name_rules.specs.Rule.{any, eqBytes}
+use Rattle.name_entries.specs.Entries.{entryOf, nameIn}
 
 -- the line of the entry at a place
 abbrev pub lineAt : List ℕ → ℕ → ℕ

@@ -5,18 +5,18 @@ use mathlib.Core.List.{List}
 use Prim.Native.Nat.{ℕ}
 use lib.Dec.{leb}
 use Rattle.coordinates.specs.Refusals.{noRefusal}
-use Rattle.line_placement.specs.Css.{Bytes, Area}
-use Rattle.name_store.specs.Entries.{entriesOf}
-use Rattle.line_search.specs.Areas.{areasOf, bears}
+use Rattle.name_rules.specs.Css.{Bytes, Area}
+use Rattle.name_entries.specs.Entries.{entriesOf}
+use Rattle.name_lines.specs.Areas.{areasOf, bears}
 use Rattle.name_groups.specs.Keys.{joinedKey, keyOf}
 use Rattle.name_groups.specs.Groups.{groupAt, groupPart}
-use Rattle.nth_line.specs.Sought.{marksOf}
-use Rattle.nth_line.specs.declared.Sought.{Sought}
-use Rattle.named.specs.declared.Line.{Line}
-use Rattle.named.specs.declared.Resolution.{Resolution}
-use Rattle.named.specs.Placements.{refusedResolution}
-use Rattle.named.specs.Questions.{answeredLine}
-use Rattle.tables.specs.Runs.{partOf}
+use Rattle.name_search.specs.Sought.{marksOf}
+use Rattle.name_search.specs.declared.Sought.{Sought}
+use Rattle.name_resolver.specs.declared.Line.{Line}
+use Rattle.name_resolver.specs.declared.Resolution.{Resolution}
+use Rattle.name_resolver.specs.Placements.{refusedResolution}
+use Rattle.name_resolver.specs.Questions.{answeredLine}
+use Rattle.axis_tables.specs.Runs.{partOf}
 use Rattle.panel_resolving.specs.declared.Around.{Around}
 
 -- the entries of a name's group

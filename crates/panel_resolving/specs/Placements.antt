@@ -9,9 +9,9 @@ use Rattle.coordinates.specs.Refusals.{count, short}
 use Rattle.panel_tables.specs.declared.Panel.{Panel}
 use Rattle.panel_rules.specs.Calls.{NameTables, NamedWords, shorterStore}
 use Rattle.panel_rules.specs.Placing.{resolvePlacement}
-use Rattle.panel_numbers.specs.declared.CountAnswer.{CountAnswer}
-use Rattle.panel_numbers.specs.declared.PlacementNumbers.{PlacementNumbers}
-use Rattle.panel_numbers.specs.Answers.{counted, uncounted, placementNumbers}
+use Rattle.library_numbers.specs.declared.CountAnswer.{CountAnswer}
+use Rattle.library_numbers.specs.declared.PlacementNumbers.{PlacementNumbers}
+use Rattle.library_numbers.specs.Answers.{counted, uncounted, placementNumbers}
 
 -- ---- one placement
 

@@ -1,14 +1,14 @@
 // Whether a drawn area gives lines to a name.
 ghost use mathlib.Core.Path.{_≡_};
 ghost use lib.ListN.{getD};
-ghost use Rattle.line_placement.specs.Rule.{eqBytes};
-ghost use Rattle.name_store.specs.Entries.{entryOf, nameIn};
+ghost use Rattle.name_rules.specs.Rule.{eqBytes};
+ghost use Rattle.name_entries.specs.Entries.{entryOf, nameIn};
 ghost use Rattle.panel_resolving.specs.Drawn.{drawnIn, edgesDrawn};
-use line_search::suffix::AreaEdge;
-use name_store::bytes::same_bytes;
-use name_store::entry::entry_of;
-use name_store::entry::name_in;
-use tables::layout::word_at;
+use axis_tables::layout::word_at;
+use name_entries::bytes::same_bytes;
+use name_entries::entry::entry_of;
+use name_entries::entry::name_in;
+use name_lines::suffix::AreaEdge;
 
 // Whether the area at a place has the name; a word that is missing is read as 0.
 fn is_named(areas: &[u64], place: usize, areastore: &[u8], name: &[u8]) -> bool

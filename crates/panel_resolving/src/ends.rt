@@ -2,13 +2,13 @@
 ghost use mathlib.Core.Path.{_≡_};
 ghost use Prim.Native.Nat.{min};
 ghost use Rattle.panel_rules.specs.Placing.{heldIndex, heldSpan, nameAt, endBy, endPlacement, linePlacement};
+use coordinates::GridLine;
 use coordinates::signed::Signed;
 use coordinates::signed::joined;
 use coordinates::signed::split;
-use grid_lines::GridLine;
-use named::GridPlacement;
-use named::Line;
-use named::Name;
+use name_resolver::GridPlacement;
+use name_resolver::Line;
+use name_resolver::Name;
 use panel_tables::EndPlace;
 use panel_tables::PlacementPlace;
 

@@ -1,14 +1,14 @@
 // The n-th line of a name whose entries are listed, from either side.
-ghost use Rattle.line_search.specs.Marks.{seekOf, startOf, walk};
-ghost use Rattle.line_search.specs.Suffixes.{tailOf};
+ghost use Rattle.name_lines.specs.Marks.{seekOf, startOf, walk};
+ghost use Rattle.name_lines.specs.Suffixes.{tailOf};
 ghost use Rattle.panel_resolving.specs.Listing.{LinesAscend, firstNamed, onLine, upTo};
 ghost use mathlib.Core.List.{_++_};
 ghost use mathlib.Core.Path.{_≡_};
-use line_search::Found;
-use line_search::Way;
-use line_search::suffix::AreaEdge;
-use line_search::suffix::has_name;
-use name_store::entry::entry_of;
+use name_entries::entry::entry_of;
+use name_lines::Found;
+use name_lines::Way;
+use name_lines::suffix::AreaEdge;
+use name_lines::suffix::has_name;
 
 // Whether there are entries, and the first has the name.
 pub(crate) fn first_has_name(words: &[u64], store: &[u8], stem: &[u8], edge: AreaEdge) -> bool

@@ -1,6 +1,6 @@
 // One placement of a panel with its names resolved.
 ghost use mathlib.Core.Path.{_≡_};
-ghost use Rattle.named.specs.Placements.{resolutionOf};
+ghost use Rattle.name_resolver.specs.Placements.{resolutionOf};
 ghost use Rattle.panel_rules.specs.Calls.{NameTables, NamedWords, areaTableIn, namesIn, nameTablesIn, placementTableIn};
 ghost use Prim.Native.Nat.{_<_};
 ghost use mathlib.Core.Bool.{true};
@@ -16,20 +16,20 @@ use crate::put::PLACEMENT_NUMBERS;
 use crate::resolve::zero_line;
 use crate::write::Run;
 use crate::write::write_beside;
+use axis_tables::layout::AXIS_BYTES;
 use coordinates::Axis;
 use coordinates::refusal;
 use name_groups::key::Grouping;
-use named::Resolution;
+use name_resolver::Resolution;
+use panel_names::store::entries_of;
+use panel_names::store::smaller;
 use panel_rules::PlacementAnswer;
-use panel_stores::store::entries_of;
-use panel_stores::store::smaller;
 use panel_tables::Panel;
 use panel_tables::placement::placement_at;
 use panel_tables::region::PANEL_BYTES;
 use panel_tables::region::PANEL_WORDS;
 use panel_tables::region::axis_words;
 use panel_tables::region::placement_words;
-use tables::layout::AXIS_BYTES;
 
 // A refused answer.
 fn refused_placement(number: u32) -> PlacementAnswer

@@ -4,10 +4,10 @@ ghost use Prim.Native.Nat.{_+_, _≤_, _<_};
 ghost use lib.IntN.{pos};
 ghost use lib.ListN.{length, set};
 ghost use lib.Seq.{sets};
-ghost use Rattle.panel_numbers.specs.Answers.{placementNumbers};
+ghost use Rattle.library_numbers.specs.Answers.{placementNumbers};
 ghost use Rattle.panel_resolving.specs.Placements.{SmallNumbers, numbersOf};
-use panel_numbers::PlacementNumbers;
-use panel_numbers::numbers::placement_numbers;
+use library_numbers::PlacementNumbers;
+use library_numbers::numbers::placement_numbers;
 use panel_rules::PlacementAnswer;
 
 // How many numbers a placement takes.

@@ -9,19 +9,19 @@ ghost use Rattle.panel_resolving.specs.Placements.{WrittenNumbers, numbe
 use crate::placing::whole_around;
 use crate::write::Run;
 use crate::write::write_axis;
+use axis_tables::layout::AXIS_BYTES;
 use coordinates::Axis;
 use coordinates::refusal::COUNT;
 use coordinates::refusal::SHORT;
-use panel_numbers::CountAnswer;
-use panel_numbers::numbers::counted;
-use panel_numbers::numbers::uncounted;
-use panel_stores::store::entries_of;
-use panel_stores::store::smaller;
+use library_numbers::CountAnswer;
+use library_numbers::numbers::counted;
+use library_numbers::numbers::uncounted;
+use panel_names::store::entries_of;
+use panel_names::store::smaller;
 use panel_tables::Panel;
 use panel_tables::region::PANEL_BYTES;
 use panel_tables::region::PANEL_WORDS;
 use panel_tables::region::axis_words;
-use tables::layout::AXIS_BYTES;
 
 // The most placements of a run, which is as many as a panel holds.
 const MOST_PLACEMENTS: u32 = 256;

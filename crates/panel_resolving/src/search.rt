@@ -2,10 +2,10 @@
 ghost use mathlib.Core.Bool.{_&&_};
 ghost use mathlib.Core.List.{_++_};
 ghost use mathlib.Core.Path.{_≡_};
-ghost use Rattle.line_search.specs.Marks.{seekOf};
-ghost use Rattle.line_search.specs.Suffixes.{tailOf};
+ghost use Rattle.name_lines.specs.Marks.{seekOf};
+ghost use Rattle.name_lines.specs.Suffixes.{tailOf};
 ghost use Rattle.name_groups.specs.Groups.{Lists};
-ghost use Rattle.nth_line.specs.Sought.{lineSought};
+ghost use Rattle.name_search.specs.Sought.{lineSought};
 ghost use Rattle.panel_tables.specs.Regions.{areaBytesIn, areaWordsIn};
 ghost use Rattle.panel_resolving.specs.Listing.{firstNamed, namedPart};
 ghost use Rattle.panel_resolving.specs.Names.{soughtBy};
@@ -13,18 +13,18 @@ use crate::Around;
 use crate::drawn::is_drawn;
 use crate::listed::first_has_name;
 use crate::listed::nth_listed;
-use line_search::Found;
-use line_search::suffix::AreaEdge;
+use axis_tables::layout::words_part;
 use name_groups::group::group_of;
 use name_groups::group::group_part;
-use nth_line::Sought;
-use nth_line::nth_line;
+use name_lines::Found;
+use name_lines::suffix::AreaEdge;
+use name_search::Sought;
+use name_search::nth_line;
 use panel_tables::area::AREA_NAMES;
 use panel_tables::region::PANEL_BYTES;
 use panel_tables::region::PANEL_WORDS;
 use panel_tables::region::area_bytes;
 use panel_tables::region::area_words;
-use tables::layout::words_part;
 
 // Whether the entries are listed and have the name. Entries that are not listed are not looked at.
 fn list_name(part: &[u64], listed: bool, store: &[u8], stem: &[u8], edge: AreaEdge) -> bool

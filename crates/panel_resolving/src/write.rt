@@ -1,12 +1,12 @@
 // The placements of one axis in a run, resolved and written as numbers.
 ghost use mathlib.Core.Path.{_≡_};
 ghost use Prim.Native.Nat.{_*_, _+_, _≤_};
-ghost use Rattle.line_search.specs.Areas.{axisNames};
+ghost use Rattle.name_lines.specs.Areas.{axisNames};
 ghost use Rattle.name_groups.specs.Groups.{Lists};
-ghost use Rattle.named.specs.Placements.{resolutionOf};
+ghost use Rattle.name_resolver.specs.Placements.{resolutionOf};
 ghost use Rattle.panel_tables.specs.Placements.{axisNumber};
 ghost use Rattle.panel_tables.specs.Regions.{areaBytesIn, areaWordsIn, placementBytesIn, placementWordsIn};
-ghost use Rattle.tables.specs.Runs.{partOf};
+ghost use Rattle.axis_tables.specs.Runs.{partOf};
 ghost use Rattle.panel_resolving.specs.Chosen.{OnlyOne, chosenSets, groupingFor, numbersBy, onAxis, runGrouped};
 ghost use Rattle.panel_resolving.specs.Names.{bearsBy, resolutionBy};
 ghost use lib.Dec.{eqb};
@@ -20,7 +20,7 @@ use crate::resolve::resolve_line_names;
 use coordinates::Axis;
 use name_groups::index::group_entries;
 use name_groups::key::Grouping;
-use named::Resolution;
+use name_resolver::Resolution;
 use panel_tables::placement::placement_at;
 use panel_tables::region::PANEL_BYTES;
 use panel_tables::region::PANEL_WORDS;

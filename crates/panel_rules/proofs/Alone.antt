@@ -11,8 +11,8 @@ use borrow.Author.Tests.{eqb-true, eqb-false}
 use Rattle.coordinates.specs.declared.axis.Axis.{Axis}
 use Rattle.coordinates.specs.declared.axis.Axis.the-variants.{Column, Row}
 use Rattle.text.specs.Split.{split, same, index}
-use Rattle.records.specs.Records.{recordOf}
-use Rattle.records.proofs.LineFaults.{no-record}
+use Rattle.sheet_forms.specs.Records.{recordOf}
+use Rattle.sheet_forms.proofs.LineFaults.{no-record}
 use Rattle.panel_tables.specs.View.{PanelView, emptyView}
 use Rattle.sheet_rules.specs.Lines.{recordStep, lineStep}
 use Rattle.sheet_rules.specs.Sheet.{endFault, outcome, ended, run, sheetOf}

@@ -10,15 +10,15 @@ use borrow.Author.Tests.{ltb-true, ltb-false, le-ltb}
 use Rattle.coordinates.specs.declared.axis.Axis.{Axis}
 use Rattle.coordinates.specs.declared.axis.Axis.the-variants.{Column, Row}
 use Rattle.coordinates.specs.Refusals.{noRefusal, count}
-use Rattle.line_placement.specs.Css as Css
-use Rattle.line_placement.specs.Css.{Entry, AxisNames}
-use Rattle.line_placement.specs.Rule.{named?, resolve}
-use Rattle.name_store.specs.Entries.{entryOf, namedEntry, entriesOf}
-use Rattle.name_store.specs.LineNames.{ofAxis}
-use Rattle.named.specs.Placements.{endsOf, resolvedLine, resolutionOf}
-use Rattle.named.proofs.Theorems.{resolution-accepted}
-use Rattle.tables.specs.declared.AxisState.{AxisState}
-use Rattle.tables.specs.View.{AxisView, sizesOf, componentsOf, axisBytes}
+use Rattle.name_rules.specs.Css as Css
+use Rattle.name_rules.specs.Css.{Entry, AxisNames}
+use Rattle.name_rules.specs.Rule.{named?, resolve}
+use Rattle.name_entries.specs.Entries.{entryOf, namedEntry, entriesOf}
+use Rattle.name_entries.specs.LineNames.{ofAxis}
+use Rattle.name_resolver.specs.Placements.{endsOf, resolvedLine, resolutionOf}
+use Rattle.name_resolver.proofs.Theorems.{resolution-accepted}
+use Rattle.axis_tables.specs.declared.AxisState.{AxisState}
+use Rattle.axis_tables.specs.View.{AxisView, sizesOf, componentsOf, axisBytes}
 use Rattle.panel_tables.specs.declared.PlacementPlace.{PlacementPlace}
 use Rattle.panel_tables.specs.View.{PanelView}
 use Rattle.panel_tables.specs.Axes.{stateIn, viewIn}

@@ -8,16 +8,16 @@ use lib.ListN.{length, take, drop, length-map, length-append}
 use lib.Seq.{take-at, drop-at, drop-drop}
 use Rattle.coordinates.specs.declared.axis.Axis.{Axis}
 use Rattle.coordinates.specs.declared.axis.Axis.the-variants.{Column, Row}
-use Rattle.line_placement.specs.Css as Css
-use Rattle.line_placement.specs.Css.{start, end}
-use Rattle.name_store.specs.Entries.{entryOf, nameIn}
-use Rattle.line_search.specs.Areas.{edgeIn, areaOf, areasOf}
-use Rattle.tables.specs.Runs.{wordsFrom, partOf}
-use Rattle.tables.specs.Store.{nameWord}
-use Rattle.tables.specs.Reads.{namePlace}
-use Rattle.tables.proofs.Lays.{lay-part, pad-is}
-use Rattle.tables.proofs.Runs.{All, length-words}
-use Rattle.tables.proofs.Back.{place-back}
+use Rattle.name_rules.specs.Css as Css
+use Rattle.name_rules.specs.Css.{start, end}
+use Rattle.name_entries.specs.Entries.{entryOf, nameIn}
+use Rattle.name_lines.specs.Areas.{edgeIn, areaOf, areasOf}
+use Rattle.axis_tables.specs.Runs.{wordsFrom, partOf}
+use Rattle.axis_tables.specs.Store.{nameWord}
+use Rattle.axis_tables.specs.Reads.{namePlace}
+use Rattle.axis_tables.proofs.Lays.{lay-part, pad-is}
+use Rattle.axis_tables.proofs.Runs.{All, length-words}
+use Rattle.axis_tables.proofs.Back.{place-back}
 use Rattle.panel_tables.specs.declared.AreaEdges.{AreaEdges}
 use Rattle.panel_tables.specs.View.{Area, edgesOutside}
 use Rattle.panel_tables.specs.Areas.{edgesWord, edgesOf, edgesIn}

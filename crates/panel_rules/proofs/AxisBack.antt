@@ -8,14 +8,14 @@ use native.Mathlib.Nat.{min-eq-left}
 use lib.Dec.{ltb}
 use lib.ListN.{length-map}
 use borrow.Author.Tests.{ltb-false}
-use Rattle.line_placement.specs.Css.{Entry}
-use Rattle.grid_track.specs.Written.{sparesOf}
-use Rattle.records.specs.Faults.{firstOf}
-use Rattle.records.proofs.Firsts.{first-zero}
-use Rattle.tables.specs.View.{AxisView, sizesOf, componentsOf}
-use Rattle.tables.specs.Written.{minOf}
-use Rattle.tables.proofs.Fits.{Fits}
-use Rattle.tables.proofs.Back.{template-back, spare-minimums-back, spare-maximums-back, tracks-back}
+use Rattle.name_rules.specs.Css.{Entry}
+use Rattle.track_rules.specs.Written.{sparesOf}
+use Rattle.sheet_forms.specs.Faults.{firstOf}
+use Rattle.sheet_forms.proofs.Firsts.{first-zero}
+use Rattle.axis_tables.specs.View.{AxisView, sizesOf, componentsOf}
+use Rattle.axis_tables.specs.Written.{minOf}
+use Rattle.axis_tables.proofs.Fits.{Fits}
+use Rattle.axis_tables.proofs.Back.{template-back, spare-minimums-back, spare-maximums-back, tracks-back}
 use Rattle.sheet_rules.specs.Sheet.{explicitOf, openFault, countFault, entriesFault, axisFault}
 use Rattle.sheet_rules.specs.Panels.{sizedState}
 use Rattle.panel_rules.specs.Calls.{templateIn, sparesIn, axisTracks}

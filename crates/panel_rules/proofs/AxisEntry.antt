@@ -7,15 +7,15 @@ use native.Mathlib.Omega.{arith}
 use lib.ListN.{length, set, drop, length-append, length-drop}
 use lib.Seq.{sets}
 use borrow.Author.Tests.{le-ltb}
-use Rattle.line_placement.specs.Css.{Bytes, Entry}
-use Rattle.name_store.specs.Enter.{entryRefusal}
-use Rattle.name_store.proofs.Accepted.{Accepted, accepted}
-use Rattle.tables.specs.Runs.{bytesOf, wordsFrom}
-use Rattle.tables.specs.View.{AxisView, axisBytes}
-use Rattle.tables.specs.Written.{regionsOf, wordsWith}
-use Rattle.tables.proofs.Lays.{lay-put, pasted-puts}
-use Rattle.tables.proofs.Runs.{bytes-more, length-words, words-more}
-use Rattle.tables.proofs.Joins.{length-more}
+use Rattle.name_rules.specs.Css.{Bytes, Entry}
+use Rattle.name_entries.specs.Enter.{entryRefusal}
+use Rattle.name_entries.proofs.Accepted.{Accepted, accepted}
+use Rattle.axis_tables.specs.Runs.{bytesOf, wordsFrom}
+use Rattle.axis_tables.specs.View.{AxisView, axisBytes}
+use Rattle.axis_tables.specs.Written.{regionsOf, wordsWith}
+use Rattle.axis_tables.proofs.Lays.{lay-put, pasted-puts}
+use Rattle.axis_tables.proofs.Runs.{bytes-more, length-words, words-more}
+use Rattle.axis_tables.proofs.Joins.{length-more}
 use Rattle.sheet_rules.specs.Panels.{entryWords}
 use Rattle.panel_rules.specs.Calls.{withEntry}
 use Rattle.panel_rules.specs.Views.{entryName, entryWordAt, wordsAfter, bytesAfter, storeAfter, stateAfter}

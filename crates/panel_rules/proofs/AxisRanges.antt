@@ -5,7 +5,7 @@ use mathlib.Core.Bool.{Bool, true, false, cond}
 use lib.Dec.{ltb}
 use mathlib.Core.Path.{_∙_}
 use lib.ListN.{length, set, length-set}
-use Rattle.tables.specs.View.{Item, single, repeat, track, Unended, none, inside, Sizes, AxisView, AxisOutcome, refused, accepted, tracksIn, componentsOf, axisNames, axisBytes, noRoom, withTemplate, withItem, withPiece, withName, morePieces, repeatKind, trackBy, repeatBy, endBy, trackStep, repeatStep, endStep, nameStep, spareStep, itemStep, extraStep, axisStep}
+use Rattle.axis_tables.specs.View.{Item, single, repeat, track, Unended, none, inside, Sizes, AxisView, AxisOutcome, refused, accepted, tracksIn, componentsOf, axisNames, axisBytes, noRoom, withTemplate, withItem, withPiece, withName, morePieces, repeatKind, trackBy, repeatBy, endBy, trackStep, repeatStep, endStep, nameStep, spareStep, itemStep, extraStep, axisStep}
 use Rattle.panel_rules.specs.Ranges.{AxisRange}
 
 module _ (n : ℕ) where

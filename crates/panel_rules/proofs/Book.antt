@@ -11,25 +11,25 @@ use lib.Dec.{eqb}
 use lib.ListN.{length, length-map}
 use Rattle.coordinates.specs.declared.axis.Axis.{Axis}
 use Rattle.sizing.specs.Words.{sizingOf}
-use Rattle.explicit_grid.specs.Template.{Component, countOf}
-use Rattle.explicit_grid.specs.Counts.{isAutomatic, outsideOf, outsideCount, automaticCount, automaticTracks}
-use Rattle.explicit_grid.specs.Summary.{meaningOf}
-use Rattle.explicit_grid.specs.Explicit.{innerValue}
-use Rattle.explicit_grid.specs.declared.TemplateSize.{TemplateSize}
-use Rattle.explicit_grid.specs.Css.{Valid, Repetitions}
-use Rattle.explicit_grid.specs.declared.RepetitionCount.{RepetitionCount}
-use Rattle.explicit_grid.specs.declared.RepetitionCount.the-variants.{Single, Count, AutoFill, AutoFit}
-use Rattle.explicit_grid.proofs.Answer.{size-counted, size-repeated, valid-repetitions-css}
-use Rattle.explicit_grid.proofs.Valid.{one-at-most, automatic-component, in-count}
-use Rattle.explicit_grid.proofs.Css.{repetitions-unique}
-use Rattle.line_placement.specs.Css.{Entry, AxisNames}
-use Rattle.line_placement.specs.Template as Css
-use Rattle.line_placement.proofs.Written.{rule-book, tracks-append, tracks-copies}
-use Rattle.grid_track.specs.Written.{repeatsOf, writtenOut}
-use Rattle.grid_track.specs.Lines.{OneTrack, OneTrackEach}
-use Rattle.grid_track.proofs.Covers.{written-more, written-count}
-use Rattle.tables.specs.View.{Piece, name, track, Repeat, Item, single, repeat, AxisView, sizesOf, tracksIn, componentsOf, axisBytes}
-use Rattle.tables.proofs.Fits.{Fits, SmallRepeat, SmallItems}
+use Rattle.template_rules.specs.Template.{Component, countOf}
+use Rattle.template_rules.specs.Counts.{isAutomatic, outsideOf, outsideCount, automaticCount, automaticTracks}
+use Rattle.template_rules.specs.Summary.{meaningOf}
+use Rattle.template_rules.specs.Explicit.{innerValue}
+use Rattle.template_rules.specs.declared.TemplateSize.{TemplateSize}
+use Rattle.template_rules.specs.Css.{Valid, Repetitions}
+use Rattle.template_rules.specs.declared.RepetitionCount.{RepetitionCount}
+use Rattle.template_rules.specs.declared.RepetitionCount.the-variants.{Single, Count, AutoFill, AutoFit}
+use Rattle.template_rules.proofs.Answer.{size-counted, size-repeated, valid-repetitions-css}
+use Rattle.template_rules.proofs.Valid.{one-at-most, automatic-component, in-count}
+use Rattle.template_rules.proofs.Css.{repetitions-unique}
+use Rattle.name_rules.specs.Css.{Entry, AxisNames}
+use Rattle.name_rules.specs.Template as Css
+use Rattle.name_rules.proofs.Written.{rule-book, tracks-append, tracks-copies}
+use Rattle.track_rules.specs.Written.{repeatsOf, writtenOut}
+use Rattle.track_rules.specs.Lines.{OneTrack, OneTrackEach}
+use Rattle.track_rules.proofs.Covers.{written-more, written-count}
+use Rattle.axis_tables.specs.View.{Piece, name, track, Repeat, Item, single, repeat, AxisView, sizesOf, tracksIn, componentsOf, axisBytes}
+use Rattle.axis_tables.proofs.Fits.{Fits, SmallRepeat, SmallItems}
 use Rattle.panel_tables.specs.View.{PanelView}
 use Rattle.panel_tables.specs.Axes.{viewIn}
 use Rattle.sheet_rules.specs.Sheet.{innerOf, strategyOf, sizeOf, explicitOf, timesOf, piecesOf, itemsOf, entriesOf}

@@ -5,14 +5,14 @@ use mathlib.Core.List.{List, [], _∷_, _++_, append-assoc}
 use native.Mathlib.Omega.{arith}
 use lib.ListN.{length, drop, length-append}
 use lib.Seq.{drop-at}
-use Rattle.line_placement.specs.Css.{Entry}
-use Rattle.name_store.specs.Entries.{entryOf, namedEntry, entriesOf}
-use Rattle.name_store.proofs.Entering.{entry-word, entries-append}
-use Rattle.tables.specs.Runs.{bytesOf, wordsFrom, partOf}
-use Rattle.tables.specs.View.{AxisView, axisBytes}
-use Rattle.tables.proofs.Runs.{All, length-words, run-back}
-use Rattle.tables.proofs.Fits.{Fits}
-use Rattle.tables.proofs.Back.{entries-back}
+use Rattle.name_rules.specs.Css.{Entry}
+use Rattle.name_entries.specs.Entries.{entryOf, namedEntry, entriesOf}
+use Rattle.name_entries.proofs.Entering.{entry-word, entries-append}
+use Rattle.axis_tables.specs.Runs.{bytesOf, wordsFrom, partOf}
+use Rattle.axis_tables.specs.View.{AxisView, axisBytes}
+use Rattle.axis_tables.proofs.Runs.{All, length-words, run-back}
+use Rattle.axis_tables.proofs.Fits.{Fits}
+use Rattle.axis_tables.proofs.Back.{entries-back}
 use Rattle.sheet_rules.specs.Sheet as Sheet
 use Rattle.sheet_rules.specs.Panels.{entryWords}
 use Rattle.panel_rules.specs.Calls.{entryWordsIn}

@@ -8,11 +8,11 @@ use lib.ListN.{length, getD}
 use Rattle.coordinates.specs.declared.axis.Axis.{Axis}
 use Rattle.coordinates.specs.declared.axis.Axis.the-variants.{Column}
 use Rattle.coordinates.specs.Refusals.{noRefusal, count}
-use Rattle.line_placement.specs.Css.{Entry, AxisNames}
-use Rattle.line_placement.specs.Rule.{named?, resolve}
-use Rattle.named.specs.Placements.{endsOf}
-use Rattle.grid_track.specs.declared.GridTrack.{GridTrack}
-use Rattle.tables.specs.View.{AxisView}
+use Rattle.name_rules.specs.Css.{Entry, AxisNames}
+use Rattle.name_rules.specs.Rule.{named?, resolve}
+use Rattle.name_resolver.specs.Placements.{endsOf}
+use Rattle.track_rules.specs.declared.GridTrack.{GridTrack}
+use Rattle.axis_tables.specs.View.{AxisView}
 use Rattle.panel_tables.specs.View.{Area, Placement, PanelView, noPlacement}
 use Rattle.panel_tables.specs.Axes.{stateIn}
 use Rattle.sheet_rules.specs.Panels.{Tables}

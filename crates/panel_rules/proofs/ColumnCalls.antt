@@ -6,8 +6,8 @@ use Rattle.coordinates.specs.declared.axis.Axis.{Axis}
 use Rattle.coordinates.specs.declared.axis.Axis.the-variants.{Column, Row}
 use Rattle.coordinates.specs.declared.refusal.Refusal.{Refusal}
 use Rattle.coordinates.specs.Refusals.{refusalOf}
-use Rattle.line_placement.specs.Css.{Entry}
-use Rattle.tables.specs.View.{AxisView}
+use Rattle.name_rules.specs.Css.{Entry}
+use Rattle.axis_tables.specs.View.{AxisView}
 use Rattle.panel_tables.specs.View.{PanelView}
 use Rattle.sheet_rules.specs.Panels.{Tables}
 use Rattle.sheet_rules.specs.Read.{shortStores}

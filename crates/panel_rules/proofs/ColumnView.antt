@@ -8,15 +8,15 @@ use lib.Dec.{eqb, leb, ltb}
 use lib.ListN.{length, getD}
 use Rattle.coordinates.specs.declared.axis.Axis.{Axis}
 use Rattle.coordinates.specs.declared.axis.Axis.the-variants.{Column, Row}
-use Rattle.name_store.proofs.Booleans.{both}
+use Rattle.name_entries.proofs.Booleans.{both}
 use Rattle.text.specs.Split.{same}
 use Rattle.text.proofs.Which.{same-equal}
-use Rattle.records.specs.declared.Record.{Record}
-use Rattle.records.specs.declared.Record.the-variants.{Fault, Axis as AxisLine, Area, Name, Track, Repeat, End, Spare, Extra, Item, Place}
-use Rattle.records.specs.Words.{at, axisWords, kindWords}
-use Rattle.records.specs.Records.{recordOf}
-use Rattle.records.specs.Forms.{Kind, axis, area, spare, extra, item, place, kindNumber}
-use Rattle.tables.specs.View.{AxisView, AxisOutcome, emptyAxis, trackStep, repeatStep, endStep, nameStep, spareStep, itemStep, extraStep, axisStep}
+use Rattle.sheet_forms.specs.declared.Record.{Record}
+use Rattle.sheet_forms.specs.declared.Record.the-variants.{Fault, Axis as AxisLine, Area, Name, Track, Repeat, End, Spare, Extra, Item, Place}
+use Rattle.sheet_forms.specs.Words.{at, axisWords, kindWords}
+use Rattle.sheet_forms.specs.Records.{recordOf}
+use Rattle.sheet_forms.specs.Forms.{Kind, axis, area, spare, extra, item, place, kindNumber}
+use Rattle.axis_tables.specs.View.{AxisView, AxisOutcome, emptyAxis, trackStep, repeatStep, endStep, nameStep, spareStep, itemStep, extraStep, axisStep}
 use Rattle.panel_tables.specs.declared.AreaEdges.{AreaEdges}
 use Rattle.panel_tables.specs.View.{End as PlacedEnd, PanelView, refused, accepted, raised, edgesOutside, endOutside, areaStep, placeStep}
 use Rattle.panel_tables.specs.Axes.{viewIn, stepIn}

@@ -7,9 +7,9 @@ use lib.ListN.{length}
 use Rattle.coordinates.specs.declared.axis.Axis.{Axis}
 use Rattle.coordinates.specs.declared.axis.Axis.the-variants.{Column, Row}
 use Rattle.coordinates.specs.Refusals.{refusalOf}
-use Rattle.line_placement.specs.Css.{Entry}
-use Rattle.grid_track.specs.declared.GridTrack.{GridTrack}
-use Rattle.tables.specs.View.{AxisView, axisBytes}
+use Rattle.name_rules.specs.Css.{Entry}
+use Rattle.track_rules.specs.declared.GridTrack.{GridTrack}
+use Rattle.axis_tables.specs.View.{AxisView, axisBytes}
 use Rattle.panel_tables.specs.View.{PanelView}
 use Rattle.panel_tables.specs.Axes.{stateIn}
 use Rattle.sheet_rules.specs.Panels.{entryWords}

@@ -9,13 +9,13 @@ use lib.ListN.{length, length-map}
 use borrow.Author.Tests.{ltb-false, eqb-true, eqb-false}
 use Rattle.coordinates.specs.declared.axis.Axis.{Axis}
 use Rattle.coordinates.specs.declared.axis.Axis.the-variants.{Column, Row}
-use Rattle.template_names.specs.Writing.{writtenEntries, entryWord}
+use Rattle.name_template.specs.Writing.{writtenEntries, entryWord}
 use Rattle.text.specs.Split.{split}
-use Rattle.records.specs.Faults.{firstOf}
-use Rattle.records.proofs.Firsts.{first-zero}
-use Rattle.tables.specs.View.{AxisView, axisBytes}
-use Rattle.tables.specs.Written.{componentsFrom}
-use Rattle.tables.proofs.Fits.{Fits}
+use Rattle.sheet_forms.specs.Faults.{firstOf}
+use Rattle.sheet_forms.proofs.Firsts.{first-zero}
+use Rattle.axis_tables.specs.View.{AxisView, axisBytes}
+use Rattle.axis_tables.specs.Written.{componentsFrom}
+use Rattle.axis_tables.proofs.Fits.{Fits}
 use Rattle.panel_tables.specs.View.{PanelView, emptyView}
 use Rattle.panel_tables.specs.Axes.{viewIn}
 use Rattle.panel_tables.proofs.Axes.{axis-in-fits}

@@ -2,8 +2,8 @@
 use Prim.Native.Nat.{ℕ, _+_, _≤_}
 use mathlib.Core.List.{List, [], _∷_}
 use lib.ListN.{length}
-use Rattle.line_placement.specs.Css.{Entry}
-use Rattle.tables.specs.View.{AxisView}
+use Rattle.name_rules.specs.Css.{Entry}
+use Rattle.axis_tables.specs.View.{AxisView}
 use Rattle.sheet_rules.specs.Panels.{entryWords}
 use Rattle.panel_rules.specs.Views.{bytesAfter}
 

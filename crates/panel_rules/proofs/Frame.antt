@@ -10,9 +10,9 @@ use lib.ListN.{length, take}
 use lib.Seq.{take-set-le}
 use Rattle.coordinates.specs.declared.axis.Axis.{Axis}
 use Rattle.coordinates.specs.declared.axis.Axis.the-variants.{Column, Row}
-use Rattle.line_placement.specs.Css.{Bytes}
-use Rattle.name_store.specs.Entries.{wordOf}
-use Rattle.tables.specs.declared.AxisState.{AxisState}
+use Rattle.name_rules.specs.Css.{Bytes}
+use Rattle.name_entries.specs.Entries.{wordOf}
+use Rattle.axis_tables.specs.declared.AxisState.{AxisState}
 use Rattle.panel_tables.specs.declared.Panel.{Panel}
 use Rattle.panel_tables.specs.Axes.{stateIn, withState}
 use Rattle.sheet_rules.specs.Panels.{Tables}

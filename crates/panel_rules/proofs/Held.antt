@@ -11,8 +11,8 @@ use borrow.Author.Tests.{eqb-true}
 use Rattle.coordinates.specs.declared.axis.Axis.{Axis}
 use Rattle.coordinates.specs.declared.axis.Axis.the-variants.{Column, Row}
 use Rattle.coordinates.specs.Refusals.{refusalOf}
-use Rattle.line_placement.specs.Css.{Entry}
-use Rattle.tables.specs.View.{AxisView, axisBytes}
+use Rattle.name_rules.specs.Css.{Entry}
+use Rattle.axis_tables.specs.View.{AxisView, axisBytes}
 use Rattle.panel_tables.specs.View.{PanelView}
 use Rattle.sheet_rules.specs.Sheet.{sheetOf}
 use Rattle.sheet_rules.specs.Panels.{Tables, entryWords}

@@ -8,14 +8,14 @@ use lib.Dec.{leb, ltb}
 use lib.ListN.{length, length-replicate}
 use Rattle.coordinates.specs.declared.axis.Axis.{Axis}
 use Rattle.coordinates.specs.declared.axis.Axis.the-variants.{Column, Row}
-use Rattle.records.specs.declared.Record.{Record}
-use Rattle.records.specs.declared.Record.the-variants.{Fault, Axis as AxisLine, Area as AreaLine, Name, Track, Repeat, End as EndLine, Spare, Extra, Item, Place}
-use Rattle.records.specs.Words.{at}
-use Rattle.records.specs.Records.{recordOf}
-use Rattle.records.proofs.Bounds.{Bounded}
-use Rattle.records.proofs.Theorem.{record-bounded}
-use Rattle.tables.specs.View.{AxisView, AxisOutcome, emptyAxis, trackStep, repeatStep, endStep, nameStep, spareStep, itemStep, extraStep, axisStep}
-use Rattle.tables.proofs.Runs.{all-append}
+use Rattle.sheet_forms.specs.declared.Record.{Record}
+use Rattle.sheet_forms.specs.declared.Record.the-variants.{Fault, Axis as AxisLine, Area as AreaLine, Name, Track, Repeat, End as EndLine, Spare, Extra, Item, Place}
+use Rattle.sheet_forms.specs.Words.{at}
+use Rattle.sheet_forms.specs.Records.{recordOf}
+use Rattle.sheet_forms.proofs.Bounds.{Bounded}
+use Rattle.sheet_forms.proofs.Theorem.{record-bounded}
+use Rattle.axis_tables.specs.View.{AxisView, AxisOutcome, emptyAxis, trackStep, repeatStep, endStep, nameStep, spareStep, itemStep, extraStep, axisStep}
+use Rattle.axis_tables.proofs.Runs.{all-append}
 use Rattle.panel_tables.specs.declared.AreaEdges.{AreaEdges}
 use Rattle.panel_tables.specs.View.{Area, End, Placement, PanelView, emptyView, refused, accepted, raised, edgesOutside, endOutside, areaStep, placeStep}
 use Rattle.panel_tables.specs.Areas.{edgesIn}

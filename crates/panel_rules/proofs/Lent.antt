@@ -4,7 +4,7 @@ use mathlib.Core.List.{List}
 use Prim.Native.Nat.{ℕ}
 use Rattle.coordinates.specs.declared.axis.Axis.{Axis}
 use Rattle.coordinates.specs.declared.axis.Axis.the-variants.{Column, Row}
-use Rattle.name_store.specs.LineNames.{ofAxis}
+use Rattle.name_entries.specs.LineNames.{ofAxis}
 use Rattle.panel_tables.specs.Regions.{axisWordsIn, marksIn}
 
 pub words-of : (a : Axis) (words : List ℕ) → ofAxis a (axisWordsIn Column words) (axisWordsIn Row words) ≡ axisWordsIn a words

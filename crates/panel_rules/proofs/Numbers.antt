@@ -10,21 +10,21 @@ use lib.IntN.{ℤ, pos, negsuc}
 use lib.ListN.{length}
 use borrow.Author.Tests.{ltb-false}
 use Rattle.text.specs.Split.{index, same}
-use Rattle.numeral.specs.Whole.{Written, none, whole, wholeOf, indexIn}
-use Rattle.numeral.specs.declared.Index.the-variants.{Outside, Value}
-use Rattle.records.specs.declared.Record.{Record}
-use Rattle.records.specs.declared.Record.the-variants.{Fault, Axis as AxisLine, Area as AreaLine, Name, Track, Repeat, End as EndLine, Spare, Extra, Item, Place}
-use Rattle.records.specs.Words.{at, nought, endWords}
-use Rattle.records.specs.Fields.{wordOf, axisOf}
-use Rattle.records.specs.Ends.{endKind, indexField, faultyNumber, endNumber, endOf}
-use Rattle.records.specs.declared.field.AxisField.{AxisField}
-use Rattle.records.specs.declared.EndField.{EndField}
-use Rattle.records.specs.Faults.{firstOf}
-use Rattle.records.specs.Records.{madePlace, placeLine, recordOf}
-use Rattle.records.specs.Forms.{place}
-use Rattle.records.proofs.Codes.{count-most}
-use Rattle.records.proofs.FieldBounds.{word-most}
-use Rattle.records.proofs.LineFaults.{line-record}
+use Rattle.text.specs.Whole.{Written, none, whole, wholeOf, indexIn}
+use Rattle.text.specs.declared.Index.the-variants.{Outside, Value}
+use Rattle.sheet_forms.specs.declared.Record.{Record}
+use Rattle.sheet_forms.specs.declared.Record.the-variants.{Fault, Axis as AxisLine, Area as AreaLine, Name, Track, Repeat, End as EndLine, Spare, Extra, Item, Place}
+use Rattle.sheet_forms.specs.Words.{at, nought, endWords}
+use Rattle.sheet_forms.specs.Fields.{wordOf, axisOf}
+use Rattle.sheet_forms.specs.Ends.{endKind, indexField, faultyNumber, endNumber, endOf}
+use Rattle.sheet_forms.specs.declared.field.AxisField.{AxisField}
+use Rattle.sheet_forms.specs.declared.EndField.{EndField}
+use Rattle.sheet_forms.specs.Faults.{firstOf}
+use Rattle.sheet_forms.specs.Records.{madePlace, placeLine, recordOf}
+use Rattle.sheet_forms.specs.Forms.{place}
+use Rattle.sheet_forms.proofs.Codes.{count-most}
+use Rattle.sheet_forms.proofs.FieldBounds.{word-most}
+use Rattle.sheet_forms.proofs.LineFaults.{line-record}
 use Rattle.sheet_rules.proofs.Says.{Says, record-says}
 use Rattle.panel_rules.specs.Ranges.{IsIndex, IsSpan, NumberOf}
 use Rattle.panel_rules.specs.Placing.{heldIndex, heldSpan}

@@ -10,8 +10,8 @@ use borrow.Author.Tests.{ltb-false, eqb-true}
 use Rattle.coordinates.specs.declared.axis.Axis.{Axis}
 use Rattle.coordinates.specs.declared.axis.Axis.the-variants.{Column, Row}
 use Rattle.coordinates.specs.Refusals.{refusalOf}
-use Rattle.line_placement.specs.Css.{Bytes, Entry}
-use Rattle.name_store.proofs.Booleans.{neither}
+use Rattle.name_rules.specs.Css.{Bytes, Entry}
+use Rattle.name_entries.proofs.Booleans.{neither}
 use Rattle.panel_tables.specs.declared.Panel.{Panel}
 use Rattle.panel_tables.specs.View.{PanelView}
 use Rattle.panel_tables.specs.Axes.{viewIn}

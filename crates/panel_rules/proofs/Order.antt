@@ -9,14 +9,14 @@ use lib.Dec.{ltb}
 use lib.ListN.{length, getD}
 use Rattle.coordinates.specs.declared.axis.Axis.{Axis}
 use Rattle.coordinates.specs.Refusals.{noRefusal, count}
-use Rattle.explicit_grid.specs.Template.{Component}
-use Rattle.line_placement.specs.Css.{Entry, AxisNames, Area as CssArea, Placement as CssPlacement, ResolvedEnds}
-use Rattle.line_placement.specs.Conditions.{SameMembers, SameNames}
-use Rattle.line_placement.specs.Rule.{named?, resolve}
-use Rattle.line_placement.proofs.Order.{resolve-same}
-use Rattle.named.specs.Placements.{endsOf}
-use Rattle.tables.specs.View.{AxisView, AxisLine, componentsOf}
-use Rattle.tables.proofs.Fits.{Fits}
+use Rattle.template_rules.specs.Template.{Component}
+use Rattle.name_rules.specs.Css.{Entry, AxisNames, Area as CssArea, Placement as CssPlacement, ResolvedEnds}
+use Rattle.name_rules.specs.Conditions.{SameMembers, SameNames}
+use Rattle.name_rules.specs.Rule.{named?, resolve}
+use Rattle.name_rules.proofs.Order.{resolve-same}
+use Rattle.name_resolver.specs.Placements.{endsOf}
+use Rattle.axis_tables.specs.View.{AxisView, AxisLine, componentsOf}
+use Rattle.axis_tables.proofs.Fits.{Fits}
 use Rattle.panel_tables.specs.View.{Area, Placement, PanelView, noPlacement}
 use Rattle.panel_tables.specs.Areas.{edgesIn}
 use Rattle.panel_tables.specs.Axes.{viewIn}

@@ -4,9 +4,9 @@ use mathlib.Core.Path.{_≡_, refl, ap, _∙_}
 use mathlib.Core.List.{List, [], _∷_}
 use native.Mathlib.Omega.{arith}
 use lib.ListN.{length, getD}
-use Rattle.line_placement.specs.Css as Css
-use Rattle.named.specs.Placements.{placementOf}
-use Rattle.tables.proofs.Runs.{All}
+use Rattle.name_rules.specs.Css as Css
+use Rattle.name_resolver.specs.Placements.{placementOf}
+use Rattle.axis_tables.proofs.Runs.{All}
 use Rattle.panel_tables.specs.declared.EndPlace.{EndPlace}
 use Rattle.panel_tables.specs.declared.PlacementPlace.{PlacementPlace}
 use Rattle.panel_tables.specs.View.{End, Placement, noPlacement}

@@ -11,18 +11,18 @@ use lib.IntN.{ℤ, pos, negsuc}
 use lib.ListN.{length}
 use Rattle.coordinates.specs.declared.axis.Axis.{Axis}
 use Rattle.coordinates.specs.declared.axis.Axis.the-variants.{Column, Row}
-use Rattle.explicit_grid.specs.Template.{Component}
-use Rattle.explicit_grid.specs.Summary.{meaningOf}
-use Rattle.explicit_grid.specs.Explicit.{innerValue, validOf}
-use Rattle.explicit_grid.proofs.Valid.{valid-css}
-use Rattle.line_placement.specs.Css.{Bytes, Entry, Area, Side, start, end, edge, AxisNames, Placement as CssPlacement, auto, line, named, span, nspan}
-use Rattle.line_placement.specs.Conditions.{NoZero}
-use Rattle.line_placement.specs.Rule.{eqBytes}
-use Rattle.line_placement.specs.Template as Css
-use Rattle.line_placement.proofs.Names.{all-lie}
-use Rattle.name_store.proofs.Booleans.{both}
-use Rattle.name_store.proofs.Same.{same-sound}
-use Rattle.tables.specs.View.{AxisView, componentsOf}
+use Rattle.template_rules.specs.Template.{Component}
+use Rattle.template_rules.specs.Summary.{meaningOf}
+use Rattle.template_rules.specs.Explicit.{innerValue, validOf}
+use Rattle.template_rules.proofs.Valid.{valid-css}
+use Rattle.name_rules.specs.Css.{Bytes, Entry, Area, Side, start, end, edge, AxisNames, Placement as CssPlacement, auto, line, named, span, nspan}
+use Rattle.name_rules.specs.Conditions.{NoZero}
+use Rattle.name_rules.specs.Rule.{eqBytes}
+use Rattle.name_rules.specs.Template as Css
+use Rattle.name_rules.proofs.Names.{all-lie}
+use Rattle.name_entries.proofs.Booleans.{both}
+use Rattle.name_entries.proofs.Same.{same-sound}
+use Rattle.axis_tables.specs.View.{AxisView, componentsOf}
 use Rattle.panel_tables.specs.View.{Placement, PanelView}
 use Rattle.panel_tables.specs.Axes.{viewIn}
 use Rattle.sheet_rules.specs.Sheet.{innerOf, sizeOf, itemsOf}

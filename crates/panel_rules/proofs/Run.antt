@@ -8,14 +8,14 @@ use borrow.Author.Tests.{lt-ltb}
 use lib.ListN.{length, getD}
 use lib.Dec.{ltb}
 use Rattle.coordinates.specs.declared.axis.Axis.{Axis}
-use Rattle.line_placement.specs.Css.{Bytes, Entry, AxisNames, Placement as CssPlacement, Resolved, free, atLine, spanning, ResolvedEnds, CssEnds}
-use Rattle.line_placement.specs.Conditions.{UsedNamesLie, NoZero}
-use Rattle.line_placement.specs.Rule.{named?, resolve}
-use Rattle.line_placement.proofs.Resolve.{resolve-css, resolve-css-all}
-use Rattle.line_placement.proofs.Unique.{ends-unique}
-use Rattle.named.proofs.Theorems.{ends-back}
-use Rattle.tables.specs.View.{axisBytes}
-use Rattle.tables.proofs.Fits.{Fits}
+use Rattle.name_rules.specs.Css.{Bytes, Entry, AxisNames, Placement as CssPlacement, Resolved, free, atLine, spanning, ResolvedEnds, CssEnds}
+use Rattle.name_rules.specs.Conditions.{UsedNamesLie, NoZero}
+use Rattle.name_rules.specs.Rule.{named?, resolve}
+use Rattle.name_rules.proofs.Resolve.{resolve-css, resolve-css-all}
+use Rattle.name_rules.proofs.Unique.{ends-unique}
+use Rattle.name_resolver.proofs.Theorems.{ends-back}
+use Rattle.axis_tables.specs.View.{axisBytes}
+use Rattle.axis_tables.proofs.Fits.{Fits}
 use Rattle.panel_tables.specs.View.{Placement, PanelView, noPlacement}
 use Rattle.panel_tables.specs.Axes.{viewIn}
 use Rattle.sheet_rules.specs.Sheet.{explicitOf, entriesOf}

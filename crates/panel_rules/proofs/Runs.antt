@@ -6,14 +6,14 @@ use native.Mathlib.Omega.{arith}
 use lib.ListN.{length, length-map}
 use Rattle.coordinates.specs.declared.axis.Axis.{Axis}
 use Rattle.coordinates.specs.declared.axis.Axis.the-variants.{Column, Row}
-use Rattle.line_placement.specs.Css.{Bytes, Entry}
-use Rattle.name_store.specs.Entries.{entryOf, namedEntry}
-use Rattle.name_store.specs.Entries as Store
-use Rattle.grid_track.specs.declared.GridTrack.{GridTrack}
-use Rattle.grid_track.specs.Records.{tracksIn}
+use Rattle.name_rules.specs.Css.{Bytes, Entry}
+use Rattle.name_entries.specs.Entries.{entryOf, namedEntry}
+use Rattle.name_entries.specs.Entries as Store
+use Rattle.track_rules.specs.declared.GridTrack.{GridTrack}
+use Rattle.track_rules.specs.Records.{tracksIn}
 use Rattle.track_run.specs.Run.{fillAnswerOf, runAfter}
-use Rattle.tables.specs.View.{AxisView, sizesOf, componentsOf, axisBytes}
-use Rattle.tables.proofs.Fits.{Fits}
+use Rattle.axis_tables.specs.View.{AxisView, sizesOf, componentsOf, axisBytes}
+use Rattle.axis_tables.proofs.Fits.{Fits}
 use Rattle.panel_tables.specs.View.{PanelView}
 use Rattle.panel_tables.specs.Axes.{viewIn}
 use Rattle.panel_tables.proofs.Axes.{axis-in-fits}

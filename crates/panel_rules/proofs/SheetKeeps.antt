@@ -5,7 +5,7 @@ use mathlib.Core.Bool.{Bool, true, false, cond}
 use lib.Dec.{eqb, ltb}
 use lib.ListN.{length}
 use Rattle.text.specs.Split.{split}
-use Rattle.records.specs.Records.{recordOf}
+use Rattle.sheet_forms.specs.Records.{recordOf}
 use Rattle.panel_tables.specs.View.{PanelView, emptyView, refused, accepted}
 use Rattle.sheet_rules.specs.Lines.{recordStep, stageOf, recordFault, atStage, lineStep}
 use Rattle.sheet_rules.specs.Sheet.{endFault, outcome, ended, run, sheetOf}

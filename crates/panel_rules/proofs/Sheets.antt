@@ -10,8 +10,8 @@ use lib.ListN.{length, drop}
 use borrow.Author.Tests.{eqb-true, eqb-false, eq-eqb}
 use Rattle.coordinates.specs.declared.refusal.Refusal.{Refusal}
 use Rattle.coordinates.specs.Refusals.{noRefusal}
-use Rattle.tables.specs.View.{AxisView, axisBytes}
-use Rattle.tables.specs.Written.{wordsWith}
+use Rattle.axis_tables.specs.View.{AxisView, axisBytes}
+use Rattle.axis_tables.specs.Written.{wordsWith}
 use Rattle.panel_tables.specs.View.{PanelView}
 use Rattle.sheet_rules.specs.Sheet.{Outcome, sheetOf}
 use Rattle.sheet_rules.specs.Panels.{Tables, entryWords, sizedState, sizedPanel, tablesOf, pasted}

@@ -10,23 +10,23 @@ use lib.Dec.{leb, ltb}
 use lib.ListN.{length, getD}
 use Rattle.coordinates.specs.declared.axis.Axis.{Axis}
 use Rattle.coordinates.specs.Refusals.{noRefusal}
-use Rattle.explicit_grid.specs.Template.{Component}
-use Rattle.explicit_grid.specs.Counts.{isAutomatic, automaticCount}
-use Rattle.explicit_grid.specs.declared.RepetitionCount.{RepetitionCount}
-use Rattle.explicit_grid.specs.declared.RepetitionCount.the-variants.{Single, Count, AutoFill, AutoFit}
-use Rattle.explicit_grid.proofs.Valid.{one-at-most}
-use Rattle.grid_track.specs.declared.GridTrack.{GridTrack}
-use Rattle.grid_track.specs.declared.RecordAnswer.{RecordAnswer}
-use Rattle.grid_track.specs.declared.WrittenTrack.{WrittenTrack}
-use Rattle.grid_track.specs.Tracks.{zeroGridTrack}
-use Rattle.grid_track.specs.Written.{repeatsOf, copies, onceOf, writtenOut}
-use Rattle.grid_track.specs.Records.{tracksIn, recordsIn, noTrack, recordsOf, recordAnswerOf}
-use Rattle.grid_track.specs.Lines.{Stands}
-use Rattle.grid_track.proofs.Lines.{line-record}
+use Rattle.template_rules.specs.Template.{Component}
+use Rattle.template_rules.specs.Counts.{isAutomatic, automaticCount}
+use Rattle.template_rules.specs.declared.RepetitionCount.{RepetitionCount}
+use Rattle.template_rules.specs.declared.RepetitionCount.the-variants.{Single, Count, AutoFill, AutoFit}
+use Rattle.template_rules.proofs.Valid.{one-at-most}
+use Rattle.track_rules.specs.declared.GridTrack.{GridTrack}
+use Rattle.track_rules.specs.declared.RecordAnswer.{RecordAnswer}
+use Rattle.track_rules.specs.declared.WrittenTrack.{WrittenTrack}
+use Rattle.track_rules.specs.Tracks.{zeroGridTrack}
+use Rattle.track_rules.specs.Written.{repeatsOf, copies, onceOf, writtenOut}
+use Rattle.track_rules.specs.Records.{tracksIn, recordsIn, noTrack, recordsOf, recordAnswerOf}
+use Rattle.track_rules.specs.Lines.{Stands}
+use Rattle.track_rules.proofs.Lines.{line-record}
 use Rattle.track_run.specs.Run.{runAfter}
 use Rattle.track_run.proofs.Filling.{run-line-record}
-use Rattle.tables.specs.View.{AxisView, sizesOf, componentsOf}
-use Rattle.tables.proofs.Fits.{Fits}
+use Rattle.axis_tables.specs.View.{AxisView, sizesOf, componentsOf}
+use Rattle.axis_tables.proofs.Fits.{Fits}
 use Rattle.panel_tables.specs.View.{PanelView}
 use Rattle.panel_tables.specs.Axes.{viewIn}
 use Rattle.sheet_rules.specs.Sheet.{sizeOf, explicitOf}

@@ -11,34 +11,34 @@ use borrow.Author.Tests.{eq-eqb}
 use Rattle.coordinates.specs.declared.axis.Axis.{Axis}
 use Rattle.coordinates.specs.declared.axis.Axis.the-variants.{Column, Row}
 use Rattle.coordinates.specs.Refusals.{count}
-use Rattle.line_placement.specs.Css.{Bytes, Entry}
-use Rattle.line_placement.specs.Conditions.{SameMembers}
-use Rattle.line_placement.specs.Rule.{seek, named?}
-use Rattle.line_placement.specs.Template.{repeated, passed, ruleFrom}
+use Rattle.name_rules.specs.Css.{Bytes, Entry}
+use Rattle.name_rules.specs.Conditions.{SameMembers}
+use Rattle.name_rules.specs.Rule.{seek, named?}
+use Rattle.name_rules.specs.Template.{repeated, passed, ruleFrom}
 use Rattle.text.specs.Split.{split, onto, same, index}
-use Rattle.numeral.specs.Whole.{digitsOf, naturalOf, nonNegative, negative, wholeOf, countIn, indexIn}
-use Rattle.numeral.specs.Hexadecimal.{bitsFrom, bitsOf}
+use Rattle.text.specs.Whole.{digitsOf, naturalOf, nonNegative, negative, wholeOf, countIn, indexIn}
+use Rattle.text.specs.Hexadecimal.{bitsFrom, bitsOf}
 use Rattle.sizing.specs.Ranges.{upTo, minimumKind, largestOf, valueInRange, lengthInRange}
 use Rattle.sizing.specs.Words.{floatUpTo, sizingOfKind, sizingOf}
-use Rattle.explicit_grid.specs.Css.{Automatic, noComponent}
-use Rattle.explicit_grid.specs.Explicit.{templateSizeOf}
-use Rattle.explicit_grid.specs.Counts.{outsideCount, automaticCount, beforeCount, automaticTracks, anyEmpty, allFixed, everyFixed}
-use Rattle.explicit_grid.specs.Space.{outsideSpace, repetitionSpace}
-use Rattle.explicit_grid.specs.Repetitions.{fittingOf, heldOf, repetitionsOf}
-use Rattle.explicit_grid.specs.Whole.{floorOf, ceilingOf}
-use Rattle.records.specs.Faults.{rankOf, firstOf}
-use Rattle.records.specs.Fields.{axisOf, ruleOf, countOf, repetitionOf, codes, nameFault}
-use Rattle.records.specs.Sizes.{kindOf, sizeOf as sizeRead, innerOf}
-use Rattle.records.specs.Ends.{endKind, endName, endNumber, endOf}
-use Rattle.records.specs.Records.{axisLine, areaLine, nameLine, sizesLine, repeatLine, endLine, extraLine, itemLine, placeLine, byKind, recordOf as recordRead}
-use Rattle.name_store.specs.Names.{isName}
-use Rattle.name_store.proofs.Booleans.{both}
-use Rattle.name_store.specs.LineNames.{shownAfter, explicitLineNames}
-use Rattle.grid_track.specs.declared.RecordAnswer.{RecordAnswer}
-use Rattle.grid_track.specs.Tracks.{refusedRecord}
-use Rattle.grid_track.specs.Written.{writtenOut}
-use Rattle.grid_track.specs.Records.{listed, openTo, allTracks, recordsOf, recordAnswerOf}
-use Rattle.tables.specs.View.{AxisView, componentsOf, emptyAxis, trackStep, repeatStep, endStep, nameStep, spareStep, itemStep, extraStep, axisStep}
+use Rattle.template_rules.specs.Css.{Automatic, noComponent}
+use Rattle.template_rules.specs.Explicit.{templateSizeOf}
+use Rattle.template_rules.specs.Counts.{outsideCount, automaticCount, beforeCount, automaticTracks, anyEmpty, allFixed, everyFixed}
+use Rattle.template_rules.specs.Space.{outsideSpace, repetitionSpace}
+use Rattle.template_rules.specs.Repetitions.{fittingOf, heldOf, repetitionsOf}
+use Rattle.template_rules.specs.Whole.{floorOf, ceilingOf}
+use Rattle.sheet_forms.specs.Faults.{rankOf, firstOf}
+use Rattle.sheet_forms.specs.Fields.{axisOf, ruleOf, countOf, repetitionOf, codes, nameFault}
+use Rattle.sheet_forms.specs.Sizes.{kindOf, sizeOf as sizeRead, innerOf}
+use Rattle.sheet_forms.specs.Ends.{endKind, endName, endNumber, endOf}
+use Rattle.sheet_forms.specs.Records.{axisLine, areaLine, nameLine, sizesLine, repeatLine, endLine, extraLine, itemLine, placeLine, byKind, recordOf as recordRead}
+use Rattle.name_entries.specs.Names.{isName}
+use Rattle.name_entries.proofs.Booleans.{both}
+use Rattle.name_entries.specs.LineNames.{shownAfter, explicitLineNames}
+use Rattle.track_rules.specs.declared.RecordAnswer.{RecordAnswer}
+use Rattle.track_rules.specs.Tracks.{refusedRecord}
+use Rattle.track_rules.specs.Written.{writtenOut}
+use Rattle.track_rules.specs.Records.{listed, openTo, allTracks, recordsOf, recordAnswerOf}
+use Rattle.axis_tables.specs.View.{AxisView, componentsOf, emptyAxis, trackStep, repeatStep, endStep, nameStep, spareStep, itemStep, extraStep, axisStep}
 use Rattle.panel_tables.specs.View.{PanelView, emptyView, areaStep, placeStep}
 use Rattle.panel_tables.specs.Axes.{viewIn}
 use Rattle.sheet_rules.specs.Lines.{recordStep, recordFault, lineStep}

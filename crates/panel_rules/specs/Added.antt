@@ -5,8 +5,8 @@ use mathlib.Core.List.{List, [], _∷_, _++_}
 use lib.Dec.{eqb}
 use lib.ListN.{length}
 use Rattle.coordinates.specs.declared.axis.Axis.{Axis}
-use Rattle.line_placement.specs.Css.{Entry}
-use Rattle.tables.specs.View.{AxisView, axisBytes}
+use Rattle.name_rules.specs.Css.{Entry}
+use Rattle.axis_tables.specs.View.{AxisView, axisBytes}
 use Rattle.panel_tables.specs.Axes.{viewIn}
 use Rattle.sheet_rules.specs.Sheet.{sheetOf}
 use Rattle.sheet_rules.specs.Panels.{entryWords}

@@ -7,8 +7,8 @@ use lib.ListN.{getD}
 use Rattle.coordinates.specs.declared.axis.Axis.the-variants.{Column}
 use Rattle.coordinates.specs.declared.refusal.Refusal.{Refusal}
 use Rattle.text.specs.Split.{split, same}
-use Rattle.records.specs.Words.{at, axisWords, kindWords}
-use Rattle.grid_track.specs.declared.GridTrack.{GridTrack}
+use Rattle.sheet_forms.specs.Words.{at, axisWords, kindWords}
+use Rattle.track_rules.specs.declared.GridTrack.{GridTrack}
 use Rattle.panel_tables.specs.Axes.{stateIn}
 use Rattle.sheet_rules.specs.Panels.{Tables}
 use Rattle.panel_rules.specs.Runs.{Held, Call, refusalIn, after, Accepted, sheetHeld, runOf, marksOf, sizeOf, placementOf, listsOf, nameOf, recordWith, recordOf, runWith, fillWith}

@@ -9,14 +9,14 @@ use lib.ListN.{length}
 use Rattle.coordinates.specs.declared.axis.Axis.{Axis}
 use Rattle.coordinates.specs.declared.axis.Axis.the-variants.{Column, Row}
 use Rattle.sizing.specs.Words.{sizingOf}
-use Rattle.explicit_grid.specs.Template.{Component}
-use Rattle.explicit_grid.specs.Css.{Automatic, Valid, Repetitions}
-use Rattle.line_placement.specs.Css.{Bytes, Entry, AxisNames}
-use Rattle.line_placement.specs.Conditions.{NameLies, NoZero}
-use Rattle.line_placement.specs.Template.{flat, bookFrom, tracksIn, WrittenOut}
-use Rattle.name_store.specs.Names.{isName}
-use Rattle.tables.specs.Runs.{bytesOf}
-use Rattle.tables.specs.View.{AxisView, componentsOf, axisBytes}
+use Rattle.template_rules.specs.Template.{Component}
+use Rattle.template_rules.specs.Css.{Automatic, Valid, Repetitions}
+use Rattle.name_rules.specs.Css.{Bytes, Entry, AxisNames}
+use Rattle.name_rules.specs.Conditions.{NameLies, NoZero}
+use Rattle.name_rules.specs.Template.{flat, bookFrom, tracksIn, WrittenOut}
+use Rattle.name_entries.specs.Names.{isName}
+use Rattle.axis_tables.specs.Runs.{bytesOf}
+use Rattle.axis_tables.specs.View.{AxisView, componentsOf, axisBytes}
 use Rattle.panel_tables.specs.View.{Placement, PanelView}
 use Rattle.panel_tables.specs.Axes.{viewIn}
 use Rattle.sheet_rules.specs.Sheet.{innerOf, strategyOf, itemsOf}

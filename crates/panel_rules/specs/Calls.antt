@@ -10,18 +10,18 @@ use Rattle.coordinates.specs.declared.axis.Axis.the-variants.{Column, Row}
 use Rattle.coordinates.specs.Refusals.{noRefusal, refusalOf}
 use Rattle.sizing.specs.Words.{sizingOf}
 use Rattle.sizing.specs.declared.MinMax.{MinMax}
-use Rattle.explicit_grid.specs.Template.{Component, templateOf}
-use Rattle.line_placement.specs.Css.{Bytes, Entry, AxisNames}
-use Rattle.name_store.specs.Entries.{wordOf, entriesOf}
-use Rattle.name_store.specs.Enter.{entryRefusal}
-use Rattle.name_store.specs.LineNames.{explicitLineNames, ofAxis, lineCount}
-use Rattle.line_search.specs.Areas.{axisNames}
-use Rattle.grid_track.specs.declared.AxisTracks.{AxisTracks}
-use Rattle.grid_track.specs.declared.RecordAnswer.{RecordAnswer}
-use Rattle.grid_track.specs.Written.{sparesOf}
-use Rattle.grid_track.specs.Records.{recordAnswerOf}
-use Rattle.tables.specs.declared.AxisState.{AxisState}
-use Rattle.tables.specs.Runs.{partOf}
+use Rattle.template_rules.specs.Template.{Component, templateOf}
+use Rattle.name_rules.specs.Css.{Bytes, Entry, AxisNames}
+use Rattle.name_entries.specs.Entries.{wordOf, entriesOf}
+use Rattle.name_entries.specs.Enter.{entryRefusal}
+use Rattle.name_entries.specs.LineNames.{explicitLineNames, ofAxis, lineCount}
+use Rattle.name_lines.specs.Areas.{axisNames}
+use Rattle.track_rules.specs.declared.AxisTracks.{AxisTracks}
+use Rattle.track_rules.specs.declared.RecordAnswer.{RecordAnswer}
+use Rattle.track_rules.specs.Written.{sparesOf}
+use Rattle.track_rules.specs.Records.{recordAnswerOf}
+use Rattle.axis_tables.specs.declared.AxisState.{AxisState}
+use Rattle.axis_tables.specs.Runs.{partOf}
 use Rattle.panel_tables.specs.declared.Panel.{Panel}
 use Rattle.panel_tables.specs.Axes.{stateIn, withState}
 use Rattle.panel_tables.specs.Regions.{axisWordsIn, areaWordsIn, placementWordsIn, areaBytesIn, placementBytesIn}

@@ -3,8 +3,8 @@ use Prim.Native.Nat.{ℕ}
 use mathlib.Core.Path.{_≡_}
 use mathlib.Core.List.{List}
 use Rattle.coordinates.specs.declared.axis.Axis.{Axis}
-use Rattle.line_placement.specs.Conditions.{SameMembers}
-use Rattle.tables.specs.View.{componentsOf}
+use Rattle.name_rules.specs.Conditions.{SameMembers}
+use Rattle.axis_tables.specs.View.{componentsOf}
 use Rattle.panel_tables.specs.View.{PanelView}
 use Rattle.panel_tables.specs.Axes.{viewIn}
 use Rattle.panel_rules.specs.Runs.{Call}

@@ -7,12 +7,12 @@ use lib.IntN.{ℤ, pos, negsuc}
 use Rattle.coordinates.specs.declared.axis.Axis.{Axis}
 use Rattle.coordinates.specs.declared.axis.Axis.the-variants.{Column}
 use Rattle.coordinates.specs.Refusals.{noRefusal, refusalOf, count, short}
-use Rattle.named.specs.declared.Name.{Name}
-use Rattle.named.specs.declared.GridPlacement.{GridPlacement}
-use Rattle.named.specs.declared.GridPlacement.the-variants.{Auto, Line as AtLine, NamedLine, Span, NamedSpan}
-use Rattle.named.specs.declared.Line.{Line}
-use Rattle.named.specs.declared.Resolution.{Resolution}
-use Rattle.named.specs.Placements.{gridLineOf, zeroLine, resolutionOf}
+use Rattle.name_resolver.specs.declared.Name.{Name}
+use Rattle.name_resolver.specs.declared.GridPlacement.{GridPlacement}
+use Rattle.name_resolver.specs.declared.GridPlacement.the-variants.{Auto, Line as AtLine, NamedLine, Span, NamedSpan}
+use Rattle.name_resolver.specs.declared.Line.{Line}
+use Rattle.name_resolver.specs.declared.Resolution.{Resolution}
+use Rattle.name_resolver.specs.Placements.{gridLineOf, zeroLine, resolutionOf}
 use Rattle.panel_tables.specs.declared.Panel.{Panel}
 use Rattle.panel_tables.specs.declared.EndPlace.{EndPlace}
 use Rattle.panel_tables.specs.declared.PlacementPlace.{PlacementPlace}

@@ -5,11 +5,11 @@ use mathlib.Core.List.{List, [], _∷_}
 use lib.IntN.{ℤ, pos, negsuc}
 use lib.ListN.{length}
 use Rattle.coordinates.specs.declared.axis.Axis.{Axis}
-use Rattle.tables.specs.View.{AxisView}
+use Rattle.axis_tables.specs.View.{AxisView}
 use Rattle.panel_tables.specs.View.{Area, End, Placement, PanelView}
 use Rattle.panel_tables.specs.Areas.{edgesIn}
 use Rattle.panel_tables.specs.Axes.{viewIn}
-use Rattle.tables.proofs.Runs.{All}
+use Rattle.axis_tables.proofs.Runs.{All}
 
 -- "largest area end - 1" of an axis, 0 without areas
 abbrev pub largest : Axis → List Area → ℕ

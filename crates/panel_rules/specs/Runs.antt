@@ -7,13 +7,13 @@ use lib.ListN.{length}
 use Rattle.coordinates.specs.declared.axis.Axis.{Axis}
 use Rattle.coordinates.specs.declared.refusal.Refusal.{Refusal}
 use Rattle.coordinates.specs.Refusals.{noRefusal}
-use Rattle.line_placement.specs.Css.{Bytes}
-use Rattle.name_store.specs.LineNames.{ofAxis}
-use Rattle.grid_track.specs.declared.GridTrack.{GridTrack}
-use Rattle.grid_track.specs.declared.RecordAnswer.{RecordAnswer}
+use Rattle.name_rules.specs.Css.{Bytes}
+use Rattle.name_entries.specs.LineNames.{ofAxis}
+use Rattle.track_rules.specs.declared.GridTrack.{GridTrack}
+use Rattle.track_rules.specs.declared.RecordAnswer.{RecordAnswer}
 use Rattle.track_run.specs.declared.FillAnswer.{FillAnswer}
 use Rattle.track_run.specs.Run.{fillAnswerOf, runAfter}
-use Rattle.tables.specs.declared.AxisState.{AxisState}
+use Rattle.axis_tables.specs.declared.AxisState.{AxisState}
 use Rattle.panel_tables.specs.declared.Panel.{Panel}
 use Rattle.panel_tables.specs.Axes.{stateIn}
 use Rattle.sheet_rules.specs.Panels.{Tables}

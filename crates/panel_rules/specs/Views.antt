@@ -11,19 +11,19 @@ use Rattle.coordinates.specs.declared.axis.Axis.the-variants.{Column, Row}
 use Rattle.coordinates.specs.Refusals.{noRefusal, count}
 use Rattle.sizing.specs.Words.{sizingOf}
 use Rattle.sizing.specs.declared.MinMax.{MinMax}
-use Rattle.line_placement.specs.Css as Css
-use Rattle.line_placement.specs.Css.{Bytes, Entry, AxisNames}
-use Rattle.line_placement.specs.Rule.{named?, resolve}
-use Rattle.name_store.specs.Entries.{wordOf}
-use Rattle.name_store.specs.LineNames.{ofAxis, explicitLineNames, lineCount}
-use Rattle.named.specs.Placements.{endsOf, resolvedEnds}
-use Rattle.grid_track.specs.declared.AxisTracks.{AxisTracks}
-use Rattle.grid_track.specs.declared.RecordAnswer.{RecordAnswer}
-use Rattle.grid_track.specs.Records.{recordAnswerOf}
-use Rattle.tables.specs.declared.AxisState.{AxisState}
-use Rattle.tables.specs.Runs.{bytesOf, wordsFrom}
-use Rattle.tables.specs.View.{AxisView, sizesOf, componentsOf, axisBytes}
-use Rattle.tables.specs.Written.{wordsWith}
+use Rattle.name_rules.specs.Css as Css
+use Rattle.name_rules.specs.Css.{Bytes, Entry, AxisNames}
+use Rattle.name_rules.specs.Rule.{named?, resolve}
+use Rattle.name_entries.specs.Entries.{wordOf}
+use Rattle.name_entries.specs.LineNames.{ofAxis, explicitLineNames, lineCount}
+use Rattle.name_resolver.specs.Placements.{endsOf, resolvedEnds}
+use Rattle.track_rules.specs.declared.AxisTracks.{AxisTracks}
+use Rattle.track_rules.specs.declared.RecordAnswer.{RecordAnswer}
+use Rattle.track_rules.specs.Records.{recordAnswerOf}
+use Rattle.axis_tables.specs.declared.AxisState.{AxisState}
+use Rattle.axis_tables.specs.Runs.{bytesOf, wordsFrom}
+use Rattle.axis_tables.specs.View.{AxisView, sizesOf, componentsOf, axisBytes}
+use Rattle.axis_tables.specs.Written.{wordsWith}
 use Rattle.panel_tables.specs.declared.AreaEdges.{AreaEdges}
 use Rattle.panel_tables.specs.View.{Area, End, Placement, PanelView, noPlacement}
 use Rattle.panel_tables.specs.Areas.{edgesIn}

@@ -12,17 +12,17 @@ use Rattle.coordinates.specs.Refusals.{noRefusal, count}
 use Rattle.sizing.specs.declared.MinMax.{MinMax}
 use Rattle.sizing.specs.declared.Sizing.{Sizing}
 use Rattle.sizing.specs.declared.Sizing.the-variants.{Length, Fraction, Auto, MinContent}
-use Rattle.explicit_grid.specs.Template.{Component}
-use Rattle.explicit_grid.specs.Css.{Automatic}
-use Rattle.line_placement.specs.Css.{Bytes}
-use Rattle.named.specs.declared.NonNamedGridPlacement.{NonNamedGridPlacement}
-use Rattle.named.specs.declared.NonNamedGridPlacement.the-variants as Placed
-use Rattle.named.specs.Placements.{gridLineOf}
-use Rattle.grid_track.specs.declared.GridTrack.{GridTrack}
-use Rattle.grid_track.specs.declared.RecordAnswer.{RecordAnswer}
-use Rattle.grid_track.specs.Tracks.{gutterOf, trackOf, refusedRecord}
-use Rattle.grid_track.specs.Records.{listed}
-use Rattle.tables.specs.View.{componentsOf}
+use Rattle.template_rules.specs.Template.{Component}
+use Rattle.template_rules.specs.Css.{Automatic}
+use Rattle.name_rules.specs.Css.{Bytes}
+use Rattle.name_resolver.specs.declared.NonNamedGridPlacement.{NonNamedGridPlacement}
+use Rattle.name_resolver.specs.declared.NonNamedGridPlacement.the-variants as Placed
+use Rattle.name_resolver.specs.Placements.{gridLineOf}
+use Rattle.track_rules.specs.declared.GridTrack.{GridTrack}
+use Rattle.track_rules.specs.declared.RecordAnswer.{RecordAnswer}
+use Rattle.track_rules.specs.Tracks.{gutterOf, trackOf, refusedRecord}
+use Rattle.track_rules.specs.Records.{listed}
+use Rattle.axis_tables.specs.View.{componentsOf}
 use Rattle.panel_tables.specs.View.{PanelView}
 use Rattle.panel_tables.specs.Axes.{viewIn}
 use Rattle.sheet_rules.specs.Sheet.{sizeOf as templateSize, sheetOf}

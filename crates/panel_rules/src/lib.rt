@@ -1,7 +1,7 @@
 // What the calls on a panel answer, runs of them, and the laws of the third demand: definitions and proofs alone.
 use coordinates::Axis;
 use coordinates::Refusal;
-use named::ResolvedLine;
+use name_resolver::ResolvedLine;
 use panel_tables::Panel;
 
 // The answer of an entry call: its refusal, and the panel with the entry, on a refusal as it came.

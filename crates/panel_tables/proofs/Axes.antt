@@ -2,9 +2,9 @@
 use mathlib.Core.Path.{_≡_, refl}
 use Rattle.coordinates.specs.declared.axis.Axis.{Axis}
 use Rattle.coordinates.specs.declared.axis.Axis.the-variants.{Column, Row}
-use Rattle.tables.specs.View.{AxisOutcome}
-use Rattle.tables.specs.Written.{heldOf}
-use Rattle.tables.proofs.Fits.{Fits}
+use Rattle.axis_tables.specs.View.{AxisOutcome}
+use Rattle.axis_tables.specs.Written.{heldOf}
+use Rattle.axis_tables.proofs.Fits.{Fits}
 use Rattle.panel_tables.specs.View.{PanelView}
 use Rattle.panel_tables.specs.Written.{heldPanel, stepped}
 use Rattle.panel_tables.specs.Axes.{viewIn, stepIn, heldIn}

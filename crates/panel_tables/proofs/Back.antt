@@ -12,13 +12,13 @@ use borrow.Author.Tests.{ltb-true, ltb-false, leb-true, lt-ltb, le-ltb, le-leb, 
 use Rattle.coordinates.specs.declared.axis.Axis.{Axis}
 use Rattle.coordinates.specs.declared.axis.Axis.the-variants.{Column, Row}
 use Rattle.text.specs.Split.{same}
-use Rattle.tables.specs.Lay.{pad, Region, lay}
-use Rattle.tables.specs.Runs.{bytesOf, wordsFrom, partOf}
-use Rattle.tables.specs.Store.{nameWord}
-use Rattle.tables.specs.Reads.{namePlace}
-use Rattle.tables.proofs.Lays.{lay-get, pad-get, pad-is}
-use Rattle.tables.proofs.Runs.{All, length-words, word-at, name-part, name-room}
-use Rattle.tables.proofs.Back.{place-back}
+use Rattle.axis_tables.specs.Lay.{pad, Region, lay}
+use Rattle.axis_tables.specs.Runs.{bytesOf, wordsFrom, partOf}
+use Rattle.axis_tables.specs.Store.{nameWord}
+use Rattle.axis_tables.specs.Reads.{namePlace}
+use Rattle.axis_tables.proofs.Lays.{lay-get, pad-get, pad-is}
+use Rattle.axis_tables.proofs.Runs.{All, length-words, word-at, name-part, name-room}
+use Rattle.axis_tables.proofs.Back.{place-back}
 use Rattle.panel_tables.specs.declared.AreaEdges.{AreaEdges}
 use Rattle.panel_tables.specs.declared.PlacementEnd.{PlacementEnd}
 use Rattle.panel_tables.specs.declared.EndPlace.{EndPlace}

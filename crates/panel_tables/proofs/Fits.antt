@@ -9,11 +9,11 @@ use lib.IntN.{ℤ, pos, negsuc}
 use lib.ListN.{length, length-append}
 use borrow.Author.Tests.{ltb-false, leb-false, leb-true}
 use Rattle.coordinates.specs.declared.axis.Axis.{Axis}
-use Rattle.tables.specs.Runs.{bytesOf}
-use Rattle.tables.specs.View.{AxisView}
-use Rattle.tables.proofs.Runs.{All, all-append}
-use Rattle.tables.proofs.Fits.{Fits}
-use Rattle.tables.proofs.Kept.{empty-fits}
+use Rattle.axis_tables.specs.Runs.{bytesOf}
+use Rattle.axis_tables.specs.View.{AxisView}
+use Rattle.axis_tables.proofs.Runs.{All, all-append}
+use Rattle.axis_tables.proofs.Fits.{Fits}
+use Rattle.axis_tables.proofs.Kept.{empty-fits}
 use Rattle.panel_tables.specs.declared.AreaEdges.{AreaEdges}
 use Rattle.panel_tables.specs.declared.PlacementEnd.{PlacementEnd}
 use Rattle.panel_tables.specs.View.{Area, End, Placement, PanelView, PanelOutcome, emptyView, refused, accepted, raised, edgeOutside, edgesOutside, areaStep, numberOutside, endOutside, placeStep}

@@ -7,8 +7,8 @@ use lib.ListN.{length, take, drop, length-drop, take-append-drop}
 use lib.Seq.{take-all, drop-drop}
 use Rattle.coordinates.specs.declared.axis.Axis.{Axis}
 use Rattle.coordinates.specs.declared.axis.Axis.the-variants.{Column, Row}
-use Rattle.tables.specs.Runs.{partOf, withPart}
-use Rattle.tables.proofs.Regions.{lent-own, lent-before, lent-after}
+use Rattle.axis_tables.specs.Runs.{partOf, withPart}
+use Rattle.axis_tables.proofs.Regions.{lent-own, lent-before, lent-after}
 use Rattle.panel_tables.specs.Regions.{panelWords, panelBytes, firstWord, axisWordsIn, areaWordsIn, placementWordsIn, marksIn, areaBytesIn, placementBytesIn}
 
 -- a region before the rest

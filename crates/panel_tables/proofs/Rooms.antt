@@ -3,8 +3,8 @@ use Prim.Native.Nat.{ℕ, _+_}
 use mathlib.Core.Path.{_≡_, refl, sym, _∙_}
 use mathlib.Core.Bool.{Bool, true, false, cond}
 use native.Mathlib.Omega.{arith}
-use Rattle.tables.specs.View.{noRoom}
-use Rattle.tables.proofs.Rooms.{Room, room}
+use Rattle.axis_tables.specs.View.{noRoom}
+use Rattle.axis_tables.proofs.Rooms.{Room, room}
 use Rattle.panel_tables.specs.declared.Panel.{Panel}
 use Rattle.panel_tables.specs.declared.PlacementEnd.{PlacementEnd}
 use Rattle.panel_tables.specs.View.{endOutside}

@@ -10,17 +10,17 @@ use lib.Seq.{sets}
 use borrow.Author.Tests.{ltb-true, ltb-false, le-ltb, lt-ltb, leb-true, leb-false}
 use Rattle.coordinates.specs.declared.axis.Axis.{Axis}
 use Rattle.coordinates.specs.declared.axis.Axis.the-variants.{Column, Row}
-use Rattle.tables.specs.Lay.{pad, Region, lay, joined}
-use Rattle.tables.specs.Runs.{bytesOf, wordsFrom, putBytes}
-use Rattle.tables.specs.View.{AxisView, emptyAxis, noRoom}
-use Rattle.tables.specs.declared.AxisState.{AxisState}
-use Rattle.tables.specs.declared.AxisReading.{AxisReading}
-use Rattle.tables.specs.Store.{nameWord, zeroState, zeroReading}
-use Rattle.tables.specs.Written.{regionsOf, wordsWith, axisWords, namesStore, stateOf, readingOf, Held, heldOf}
-use Rattle.tables.proofs.Same.{axis-empty}
-use Rattle.tables.proofs.Lays.{length-pad, pad-put, pad-puts, pad-none, lay-put, lay-none}
-use Rattle.tables.proofs.Runs.{bytes-more, length-words, words-more}
-use Rattle.tables.proofs.Regions.{zeros-part}
+use Rattle.axis_tables.specs.Lay.{pad, Region, lay, joined}
+use Rattle.axis_tables.specs.Runs.{bytesOf, wordsFrom, putBytes}
+use Rattle.axis_tables.specs.View.{AxisView, emptyAxis, noRoom}
+use Rattle.axis_tables.specs.declared.AxisState.{AxisState}
+use Rattle.axis_tables.specs.declared.AxisReading.{AxisReading}
+use Rattle.axis_tables.specs.Store.{nameWord, zeroState, zeroReading}
+use Rattle.axis_tables.specs.Written.{regionsOf, wordsWith, axisWords, namesStore, stateOf, readingOf, Held, heldOf}
+use Rattle.axis_tables.proofs.Same.{axis-empty}
+use Rattle.axis_tables.proofs.Lays.{length-pad, pad-put, pad-puts, pad-none, lay-put, lay-none}
+use Rattle.axis_tables.proofs.Runs.{bytes-more, length-words, words-more}
+use Rattle.axis_tables.proofs.Regions.{zeros-part}
 use Rattle.panel_tables.specs.declared.AreaEdges.{AreaEdges}
 use Rattle.panel_tables.specs.View.{Area, End, Placement, PanelView, emptyView, edgesOutside, areaStep, endOutside, placeStep}
 use Rattle.panel_tables.specs.Areas.{edgesWord, putArea}

@@ -7,11 +7,11 @@ use lib.ListN.{length, getD, set}
 use Rattle.coordinates.specs.declared.axis.Axis.{Axis}
 use Rattle.coordinates.specs.declared.axis.Axis.the-variants.{Column, Row}
 use Rattle.text.specs.Split.{same}
-use Rattle.tables.specs.declared.AxisState.{AxisState}
-use Rattle.tables.specs.Runs.{partOf, putBytes}
-use Rattle.tables.specs.View.{noRoom}
-use Rattle.tables.specs.Store.{nameWord, withAreas}
-use Rattle.tables.specs.Reads.{namePlace}
+use Rattle.axis_tables.specs.declared.AxisState.{AxisState}
+use Rattle.axis_tables.specs.Runs.{partOf, putBytes}
+use Rattle.axis_tables.specs.View.{noRoom}
+use Rattle.axis_tables.specs.Store.{nameWord, withAreas}
+use Rattle.axis_tables.specs.Reads.{namePlace}
 use Rattle.panel_tables.specs.declared.Panel.{Panel}
 use Rattle.panel_tables.specs.declared.PanelPut.{PanelPut}
 use Rattle.panel_tables.specs.declared.AreaEdges.{AreaEdges}

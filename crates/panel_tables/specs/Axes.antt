@@ -3,11 +3,11 @@ use Prim.Native.Nat.{ℕ}
 use mathlib.Core.List.{List}
 use Rattle.coordinates.specs.declared.axis.Axis.{Axis}
 use Rattle.coordinates.specs.declared.axis.Axis.the-variants.{Column, Row}
-use Rattle.tables.specs.declared.AxisState.{AxisState}
-use Rattle.tables.specs.declared.AxisReading.{AxisReading}
-use Rattle.tables.specs.declared.AxisPut.{AxisPut}
-use Rattle.tables.specs.View.{AxisView, AxisOutcome}
-use Rattle.tables.specs.Written.{Held}
+use Rattle.axis_tables.specs.declared.AxisState.{AxisState}
+use Rattle.axis_tables.specs.declared.AxisReading.{AxisReading}
+use Rattle.axis_tables.specs.declared.AxisPut.{AxisPut}
+use Rattle.axis_tables.specs.View.{AxisView, AxisOutcome}
+use Rattle.axis_tables.specs.Written.{Held}
 use Rattle.panel_tables.specs.declared.Panel.{Panel}
 use Rattle.panel_tables.specs.declared.Reading.{Reading}
 use Rattle.panel_tables.specs.declared.PanelRead.{PanelRead}

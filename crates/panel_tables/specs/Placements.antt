@@ -6,8 +6,8 @@ use lib.Dec.{eqb, ltb}
 use lib.ListN.{length, getD, set}
 use Rattle.coordinates.specs.declared.axis.Axis.{Axis}
 use Rattle.coordinates.specs.declared.axis.Axis.the-variants.{Column, Row}
-use Rattle.tables.specs.Runs.{partOf, putBytes}
-use Rattle.tables.specs.View.{noRoom}
+use Rattle.axis_tables.specs.Runs.{partOf, putBytes}
+use Rattle.axis_tables.specs.View.{noRoom}
 use Rattle.panel_tables.specs.declared.Panel.{Panel}
 use Rattle.panel_tables.specs.declared.PanelPut.{PanelPut}
 use Rattle.panel_tables.specs.declared.PlacementEnd.{PlacementEnd}

@@ -5,7 +5,7 @@ use Prim.Native.Nat.{ℕ}
 use mathlib.Core.List.{List}
 use Rattle.coordinates.specs.declared.axis.Axis.{Axis}
 use Rattle.coordinates.specs.declared.axis.Axis.the-variants.{Column, Row}
-use Rattle.tables.specs.Runs.{partOf}
+use Rattle.axis_tables.specs.Runs.{partOf}
 
 abbrev pub panelWords : ℕ
 panelWords = 25600

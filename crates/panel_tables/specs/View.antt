@@ -8,7 +8,7 @@ use lib.ListN.{length}
 use Rattle.coordinates.specs.declared.axis.Axis.{Axis}
 use Rattle.coordinates.specs.declared.axis.Axis.the-variants.{Column}
 use Rattle.text.specs.Split.{same}
-use Rattle.tables.specs.View.{AxisView, emptyAxis}
+use Rattle.axis_tables.specs.View.{AxisView, emptyAxis}
 use Rattle.panel_tables.specs.declared.AreaEdges.{AreaEdges}
 use Rattle.panel_tables.specs.declared.PlacementEnd.{PlacementEnd}
 

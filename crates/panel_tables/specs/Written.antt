@@ -4,11 +4,11 @@ use mathlib.Core.List.{List, [], _∷_, _++_, map}
 use lib.ListN.{length}
 use Rattle.coordinates.specs.declared.axis.Axis.{Axis}
 use Rattle.coordinates.specs.declared.axis.Axis.the-variants.{Column, Row}
-use Rattle.tables.specs.Lay.{pad, Region, region, lay}
-use Rattle.tables.specs.Runs.{bytesOf, wordsFrom}
-use Rattle.tables.specs.View.{AxisView, AxisOutcome}
-use Rattle.tables.specs.Store.{nameWord, zeroState, zeroReading}
-use Rattle.tables.specs.Written.{stateOf, readingOf, axisWords, namesStore}
+use Rattle.axis_tables.specs.Lay.{pad, Region, region, lay}
+use Rattle.axis_tables.specs.Runs.{bytesOf, wordsFrom}
+use Rattle.axis_tables.specs.View.{AxisView, AxisOutcome}
+use Rattle.axis_tables.specs.Store.{nameWord, zeroState, zeroReading}
+use Rattle.axis_tables.specs.Written.{stateOf, readingOf, axisWords, namesStore}
 use Rattle.panel_tables.specs.declared.Panel.{Panel}
 use Rattle.panel_tables.specs.declared.Reading.{Reading}
 use Rattle.panel_tables.specs.View.{Area, End, Placement, PanelView, PanelOutcome}

@@ -4,10 +4,10 @@ ghost use Prim.Native.Nat.{_≤_, min};
 ghost use Rattle.panel_tables.specs.Areas.{edgesOf, wordOf, areaAt, areaName, hasAreaIn};
 use crate::AreaEdges;
 use crate::AreaPlace;
+use axis_tables::layout::name_place;
+use axis_tables::layout::word_at;
+use axis_tables::name::name_part;
 use coordinates::Axis;
-use tables::layout::name_place;
-use tables::layout::word_at;
-use tables::name::name_part;
 
 pub const AREA_WORDS: usize = 128;
 

@@ -4,10 +4,10 @@ ghost use Rattle.panel_tables.specs.Axes.{stateIn, readingIn, readBy};
 use crate::Panel;
 use crate::PanelRead;
 use crate::Reading;
+use axis_tables::AxisPut;
+use axis_tables::AxisReading;
+use axis_tables::AxisState;
 use coordinates::Axis;
-use tables::AxisPut;
-use tables::AxisReading;
-use tables::AxisState;
 
 // The state of an axis.
 pub fn state_in(panel: Panel, axis: Axis) -> AxisState

@@ -6,9 +6,9 @@ pub mod placement;
 pub mod region;
 pub mod state;
 
+use axis_tables::AxisReading;
+use axis_tables::AxisState;
 use coordinates::Axis;
-use tables::AxisReading;
-use tables::AxisState;
 
 // A panel by value: its axes, how many areas and placements the tables hold, and how many bytes their names take.
 #[repr(C)]

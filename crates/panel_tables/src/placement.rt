@@ -7,8 +7,8 @@ use crate::EndPlace;
 use crate::PlacementEnd;
 use crate::PlacementPlace;
 use crate::number::number_of;
+use axis_tables::layout::word_at;
 use coordinates::Axis;
-use tables::layout::word_at;
 
 pub const PLACEMENT_WORDS: usize = 512;
 

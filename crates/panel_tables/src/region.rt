@@ -7,9 +7,9 @@ use crate::area::AREA_BYTES;
 use crate::area::AREA_WORDS;
 use crate::placement::PLACEMENT_BYTES;
 use crate::placement::PLACEMENT_WORDS;
+use axis_tables::layout::AXIS_MARKS;
+use axis_tables::layout::AXIS_WORDS;
 use coordinates::Axis;
-use tables::layout::AXIS_MARKS;
-use tables::layout::AXIS_WORDS;
 
 pub const PANEL_WORDS: usize = 25600;
 

@@ -10,7 +10,7 @@ use crate::Reading;
 pub fn zero_panel() -> Panel
     ensures { λ r. ⌜ r ≡ zeroPanel ⌝ }
 {
-    let zero = tables::state::zero_state();
+    let zero = axis_tables::state::zero_state();
     Panel {
         columns: zero,
         rows: zero,
@@ -25,7 +25,7 @@ pub fn zero_panel() -> Panel
 pub fn zero_panel_reading() -> Reading
     ensures { λ r. ⌜ r ≡ zeroPanelReading ⌝ }
 {
-    let zero = tables::state::zero_reading();
+    let zero = axis_tables::state::zero_reading();
     Reading {
         stage: 0,
         columns: zero,

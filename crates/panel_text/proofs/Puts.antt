@@ -5,7 +5,7 @@ use mathlib.Core.List.{List, [], _∷_, _++_, append-assoc}
 use native.Mathlib.Omega.{arith}
 use lib.ListN.{length, drop, length-append}
 use lib.Seq.{sets-eq}
-use Rattle.template_names.proofs.Placing.{sets-append}
+use Rattle.name_template.proofs.Placing.{sets-append}
 use Rattle.panel_text.specs.Written.{Put, PutField, WritesLine}
 
 -- a text and one after it

@@ -10,12 +10,12 @@ use lib.Dec.{ltb}
 use lib.IntN.{ℤ, pos, negsuc}
 use lib.ListN.{length, length-append}
 use borrow.Author.Tests.{ltb-true, ltb-false, lt-ltb, le-leb, lt-leb}
-use Rattle.numeral.specs.Whole.{wholeOf, whole}
-use Rattle.numeral.specs.Hexadecimal.{bitsOf}
-use Rattle.numeral.specs.declared.Bits.the-variants.{Value}
-use Rattle.numeral.specs.Spelling.{Digits, NoLeadingZero, valueFrom, decimal as decimalDigit, WritesNatural, Writes, HexDigit, HexDigits, hexadecimal as hexadecimalDigit, WritesBits}
-use Rattle.numeral.proofs.Decimals.{whole-written}
-use Rattle.numeral.proofs.Hexadecimals.{hex-written}
+use Rattle.text.specs.Whole.{wholeOf, whole}
+use Rattle.text.specs.Hexadecimal.{bitsOf}
+use Rattle.text.specs.declared.Bits.the-variants.{Value}
+use Rattle.text.specs.Spelling.{Digits, NoLeadingZero, valueFrom, decimal as decimalDigit, WritesNatural, Writes, HexDigit, HexDigits, hexadecimal as hexadecimalDigit, WritesBits}
+use Rattle.text.proofs.Decimals.{whole-written}
+use Rattle.text.proofs.Hexadecimals.{hex-written}
 use Rattle.panel_text.specs.Numerals.{digit, decimal, wholeNumber, hexadecimalDigits, hexadecimal}
 use Rattle.panel_text.proofs.Decimals.{decimal-one, decimal-next}
 

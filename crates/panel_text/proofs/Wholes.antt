@@ -13,7 +13,7 @@ use Rattle.sizing.specs.declared.Sizing.{Sizing}
 use Rattle.sizing.specs.declared.Sizing.the-variants.{Length, Percent, Fraction, Auto, MinContent, MaxContent, FitContentLength, FitContentPercent}
 use Rattle.sizing.specs.Words.{kindOf}
 use Rattle.text.specs.Split.{split, onto}
-use Rattle.records.specs.Words.{sizeWords}
+use Rattle.sheet_forms.specs.Words.{sizeWords}
 use Rattle.panel_text.specs.Numerals.{decimal, wholeNumber}
 use Rattle.panel_text.specs.Lines.{sizeWord}
 

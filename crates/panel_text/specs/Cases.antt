@@ -11,9 +11,9 @@ use Rattle.text.specs.Split.{same}
 use Rattle.coordinates.specs.declared.axis.Axis.the-variants.{Column, Row}
 use Rattle.sizing.specs.declared.Sizing.the-variants.{Length, Auto, FitContentPercent}
 use Rattle.sizing.specs.Words.{zero32, printedBits}
-use Rattle.grid_track.specs.declared.GridTrack.{GridTrack}
-use Rattle.grid_track.specs.declared.GridTrackKind.the-variants.{Track, Gutter}
-use Rattle.named.specs.declared.NonNamedGridPlacement.the-variants as End
+use Rattle.track_rules.specs.declared.GridTrack.{GridTrack}
+use Rattle.track_rules.specs.declared.GridTrackKind.the-variants.{Track, Gutter}
+use Rattle.name_resolver.specs.declared.NonNamedGridPlacement.the-variants as End
 use Rattle.panel_text.specs.Numerals.{decimal, decimalUpTo, hexadecimalDigits}
 use Rattle.panel_text.specs.Lines.{sizeLine, recordLine, placeLine, refusedLine}
 

@@ -8,13 +8,13 @@ use Rattle.coordinates.specs.declared.axis.Axis.the-variants.{Column, Row}
 use Rattle.coordinates.specs.declared.refusal.Refusal.{Refusal}
 use Rattle.sizing.specs.declared.Sizing.{Sizing}
 use Rattle.sizing.specs.Words.{kindOf, bitsOf}
-use Rattle.records.specs.Words.{axisWords, sizeWords, endWords}
-use Rattle.grid_track.specs.declared.GridTrack.{GridTrack}
-use Rattle.grid_track.specs.declared.GridTrackKind.{GridTrackKind}
-use Rattle.grid_track.specs.declared.GridTrackKind.the-variants.{Track, Gutter}
-use Rattle.named.specs.declared.NonNamedGridPlacement.{NonNamedGridPlacement}
-use Rattle.named.specs.declared.ResolvedLine.{ResolvedLine}
-use Rattle.named.specs.Placements.{resolvedKindOf, resolvedNumberOf}
+use Rattle.sheet_forms.specs.Words.{axisWords, sizeWords, endWords}
+use Rattle.track_rules.specs.declared.GridTrack.{GridTrack}
+use Rattle.track_rules.specs.declared.GridTrackKind.{GridTrackKind}
+use Rattle.track_rules.specs.declared.GridTrackKind.the-variants.{Track, Gutter}
+use Rattle.name_resolver.specs.declared.NonNamedGridPlacement.{NonNamedGridPlacement}
+use Rattle.name_resolver.specs.declared.ResolvedLine.{ResolvedLine}
+use Rattle.name_resolver.specs.Placements.{resolvedKindOf, resolvedNumberOf}
 use Rattle.panel_text.specs.Numerals.{decimal, wholeNumber, hexadecimal}
 
 -- "lines of text end in a line feed, fields parted by tabs"

@@ -2,8 +2,8 @@
 ghost use mathlib.Core.List.{[]};
 ghost use Prim.Native.Nat.{_≤_};
 ghost use lib.ListN.{length, getD};
-ghost use Rattle.records.specs.Words.{endWords};
-ghost use Rattle.named.specs.Placements.{resolvedKindOf, resolvedNumberOf};
+ghost use Rattle.sheet_forms.specs.Words.{endWords};
+ghost use Rattle.name_resolver.specs.Placements.{resolvedKindOf, resolvedNumberOf};
 ghost use Rattle.panel_text.specs.Numerals.{decimal, wholeNumber, hexadecimal};
 ghost use Rattle.panel_text.specs.Lines.{axisWord, trackWord, collapsedWord, sizeWord};
 ghost use Rattle.panel_text.specs.Written.{Put, PutField};
@@ -12,9 +12,9 @@ use crate::numerals::put_decimal;
 use crate::numerals::put_hexadecimal;
 use crate::numerals::put_whole;
 use coordinates::Axis;
-use grid_track::GridTrackKind;
-use named::NonNamedGridPlacement;
+use name_resolver::NonNamedGridPlacement;
 use sizing::Sizing;
+use track_rules::GridTrackKind;
 
 // The bytes of a word.
 fn put_word(out: &mut [u8], place: usize, word: &[u8]) -> usize

@@ -16,9 +16,9 @@ use fields::put_end_number;
 use fields::put_field;
 use fields::put_kind;
 use fields::put_track;
-use grid_track::GridTrack;
-use named::ResolvedLine;
+use name_resolver::ResolvedLine;
 use sizing::word::bits_of;
+use track_rules::GridTrack;
 
 // The line of an axis: its repetitions and its explicit count.
 pub fn size_line(out: &mut [u8], axis: Axis, repetitions: u32, count: u32) -> usize

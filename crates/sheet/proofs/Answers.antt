@@ -10,11 +10,11 @@ use lib.Seq.{sets-eq}
 use borrow.Author.Tests.{ltb-false, lt-ltb, le-ltb, eq-eqb, ne-eqb}
 use Rattle.coordinates.specs.Refusals.{noRefusal, refusalOf, short, unread}
 use Rattle.text.specs.Split.{split}
-use Rattle.tables.specs.Runs.{putBytes, partOf}
-use Rattle.tables.specs.View.{AxisView, axisBytes}
-use Rattle.tables.specs.Written.{namesStore}
-use Rattle.tables.proofs.Fits.{Fits}
-use Rattle.tables.proofs.Lays.{pad-take}
+use Rattle.axis_tables.specs.Runs.{putBytes, partOf}
+use Rattle.axis_tables.specs.View.{AxisView, axisBytes}
+use Rattle.axis_tables.specs.Written.{namesStore}
+use Rattle.axis_tables.proofs.Fits.{Fits}
+use Rattle.axis_tables.proofs.Lays.{pad-take}
 use Rattle.panel_tables.specs.View.{emptyView}
 use Rattle.panel_tables.specs.declared.Panel.{Panel}
 use Rattle.panel_tables.specs.declared.Reading.{Reading}

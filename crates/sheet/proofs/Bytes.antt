@@ -11,15 +11,15 @@ use Rattle.coordinates.specs.declared.axis.Axis.{Axis}
 use Rattle.coordinates.specs.declared.axis.Axis.the-variants.{Column, Row}
 use Rattle.text.specs.Split.{split}
 use Rattle.text.proofs.Cut.{join, join-split}
-use Rattle.records.specs.declared.Record.{Record}
-use Rattle.records.specs.declared.Record.the-variants.{Fault, Axis as AxisLine, Area, Name, Track, Repeat, End as EndLine, Spare, Extra, Item, Place}
-use Rattle.records.specs.Words.{at}
-use Rattle.records.specs.Forms.{name as nameKind, Of}
-use Rattle.records.specs.Records.{recordOf}
-use Rattle.records.proofs.Bounds.{Bounded}
-use Rattle.records.proofs.Theorem.{record-bounded}
-use Rattle.tables.specs.Runs.{bytesOf}
-use Rattle.tables.specs.View.{AxisView, NameRecord, emptyAxis, nameOf, axisNames, axisBytes, nameStep}
+use Rattle.sheet_forms.specs.declared.Record.{Record}
+use Rattle.sheet_forms.specs.declared.Record.the-variants.{Fault, Axis as AxisLine, Area, Name, Track, Repeat, End as EndLine, Spare, Extra, Item, Place}
+use Rattle.sheet_forms.specs.Words.{at}
+use Rattle.sheet_forms.specs.Forms.{name as nameKind, Of}
+use Rattle.sheet_forms.specs.Records.{recordOf}
+use Rattle.sheet_forms.proofs.Bounds.{Bounded}
+use Rattle.sheet_forms.proofs.Theorem.{record-bounded}
+use Rattle.axis_tables.specs.Runs.{bytesOf}
+use Rattle.axis_tables.specs.View.{AxisView, NameRecord, emptyAxis, nameOf, axisNames, axisBytes, nameStep}
 use Rattle.panel_tables.specs.declared.AreaEdges.{AreaEdges}
 use Rattle.panel_tables.specs.View.{End, PanelView, PanelOutcome, emptyView, refused as refusedPanel, accepted as acceptedPanel, raised, areaStep, placeStep, edgesOutside, endOutside}
 use Rattle.panel_tables.specs.Axes.{viewIn, withView}

@@ -8,12 +8,12 @@ use lib.Dec.{eqb}
 use lib.ListN.{length}
 use borrow.Author.Tests.{eq-eqb, ne-eqb, eqb-true, eqb-false}
 use Rattle.text.specs.Split.{split}
-use Rattle.records.proofs.Firsts.{first-zero}
-use Rattle.tables.specs.declared.AxisState.{AxisState}
-use Rattle.tables.specs.declared.AxisReading.{AxisReading}
-use Rattle.tables.specs.View.{AxisView}
-use Rattle.tables.specs.Written.{stateOf, readingOf, axisWords, wordsWith, namesStore}
-use Rattle.tables.proofs.Fits.{Fits}
+use Rattle.sheet_forms.proofs.Firsts.{first-zero}
+use Rattle.axis_tables.specs.declared.AxisState.{AxisState}
+use Rattle.axis_tables.specs.declared.AxisReading.{AxisReading}
+use Rattle.axis_tables.specs.View.{AxisView}
+use Rattle.axis_tables.specs.Written.{stateOf, readingOf, axisWords, wordsWith, namesStore}
+use Rattle.axis_tables.proofs.Fits.{Fits}
 use Rattle.panel_tables.specs.View.{PanelView}
 use Rattle.panel_tables.specs.Written.{panelReadingOf, PanelHeld, heldPanel, areaWords, areaStore, placementWords, placementStore}
 use Rattle.panel_tables.proofs.Fits.{FitsPanel}
@@ -21,8 +21,8 @@ use Rattle.sheet_rules.specs.Lines.{lineStep}
 use Rattle.sheet_rules.specs.Sheet.{axisFault, endFault, Outcome, outcome, ended, run}
 use Rattle.sheet_rules.specs.Panels.{entryWords, sizedPanel}
 use Rattle.sheet_rules.proofs.Fits.{line-fits}
-use Rattle.sheet_line.specs.Lines.{lineIn}
-use Rattle.sheet_line.proofs.Same.{line-fault, line-held}
+use Rattle.sheet_faults.specs.Lines.{lineIn}
+use Rattle.sheet_faults.proofs.Same.{line-fault, line-held}
 use Rattle.sheet_end.specs.End.{EndedAxis, endFaultIn, endIn}
 use Rattle.sheet_end.proofs.Same.{end-fault, end-same}
 use Rattle.sheet.specs.Runs.{HeldRun, stopped, heldRun, endedPanel, heldEnd, heldAfter}

@@ -6,11 +6,11 @@ use mathlib.Core.Bool.{Bool, true, false, cond}
 use native.Mathlib.Omega.{arith}
 use lib.Dec.{ltb}
 use lib.ListN.{length, length-append}
-use Rattle.tables.specs.Runs.{bytesOf}
-use Rattle.tables.specs.View.{Item as TemplateItem, Unended, none, inside, AxisView, AxisOutcome, NameRecord, nameOf, axisNames, axisBytes, accepted, refused, withTemplate, withName, noRoom, componentsOf, tracksIn, trackStep, repeatStep, endStep, nameStep, spareStep, itemStep, extraStep, axisStep, repeatKind, Repeat as TemplateRepeat}
-use Rattle.tables.specs.Written.{recordWord}
-use Rattle.tables.proofs.More as More
-use Rattle.tables.proofs.Runs.{bytes-more}
+use Rattle.axis_tables.specs.Runs.{bytesOf}
+use Rattle.axis_tables.specs.View.{Item as TemplateItem, Unended, none, inside, AxisView, AxisOutcome, NameRecord, nameOf, axisNames, axisBytes, accepted, refused, withTemplate, withName, noRoom, componentsOf, tracksIn, trackStep, repeatStep, endStep, nameStep, spareStep, itemStep, extraStep, axisStep, repeatKind, Repeat as TemplateRepeat}
+use Rattle.axis_tables.specs.Written.{recordWord}
+use Rattle.axis_tables.proofs.More as More
+use Rattle.axis_tables.proofs.Runs.{bytes-more}
 
 -- ---- names that a sheet of n bytes can have
 

@@ -12,7 +12,7 @@ use Rattle.panel_tables.specs.declared.Panel.{Panel}
 use Rattle.panel_tables.specs.declared.Reading.{Reading}
 use Rattle.panel_tables.specs.Regions.{axisWordsIn, areaWordsIn, placementWordsIn}
 use Rattle.panel_tables.specs.Written.{PanelHeld, PanelStepped, panelHeldOf}
-use Rattle.sheet_line.specs.Lines.{lineIn}
+use Rattle.sheet_faults.specs.Lines.{lineIn}
 use Rattle.sheet.specs.Runs.{HeldRun, stopped, heldRun, EndedPanel, endedPanel, atEnd, heldAfter, heldSheet}
 
 -- there is always a part

@@ -5,11 +5,11 @@ use mathlib.Core.Bool.{cond}
 use lib.Dec.{eqb}
 use lib.ListN.{length}
 use Rattle.text.specs.Split.{split}
-use Rattle.records.specs.Faults.{firstOf}
+use Rattle.sheet_forms.specs.Faults.{firstOf}
 use Rattle.panel_tables.specs.declared.Panel.{Panel}
 use Rattle.panel_tables.specs.declared.Reading.{Reading}
 use Rattle.panel_tables.specs.Written.{PanelHeld, PanelStepped}
-use Rattle.sheet_line.specs.Lines.{lineIn}
+use Rattle.sheet_faults.specs.Lines.{lineIn}
 use Rattle.sheet_end.specs.End.{EndedAxis, endIn}
 
 -- a refusal's number, 0 where there is none, its line, and what is held

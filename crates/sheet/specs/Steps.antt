@@ -2,9 +2,9 @@
 use mathlib.Core.List.{List}
 use Prim.Native.Nat.{ℕ}
 use Rattle.coordinates.specs.declared.axis.Axis.{Axis}
-use Rattle.tables.specs.declared.AxisState.{AxisState}
-use Rattle.tables.specs.declared.AxisReading.{AxisReading}
-use Rattle.tables.specs.Runs.{withPart}
+use Rattle.axis_tables.specs.declared.AxisState.{AxisState}
+use Rattle.axis_tables.specs.declared.AxisReading.{AxisReading}
+use Rattle.axis_tables.specs.Runs.{withPart}
 use Rattle.panel_tables.specs.Regions.{firstWord, axisWordsIn}
 use Rattle.sheet_end.specs.End.{EndedAxis, endIn}
 

@@ -10,19 +10,19 @@ ghost use Rattle.sheet.specs.Steps.{endedIn};
 use crate::PanelEnd;
 use crate::SheetRun;
 use crate::lines::read_lines;
+use axis_tables::AxisReading;
+use axis_tables::AxisState;
+use axis_tables::layout::AXIS_BYTES;
+use axis_tables::layout::AXIS_WORDS;
 use coordinates::Axis;
 use panel_tables::Panel;
 use panel_tables::Reading;
 use panel_tables::region::PANEL_BYTES;
 use panel_tables::region::PANEL_WORDS;
 use panel_tables::region::first_word;
-use records::first_fault;
 use sheet_end::AxisEnd;
 use sheet_end::end_axis;
-use tables::AxisReading;
-use tables::AxisState;
-use tables::layout::AXIS_BYTES;
-use tables::layout::AXIS_WORDS;
+use sheet_forms::first_fault;
 
 // One axis, in its part of the words.
 fn end_in(axis: Axis, state: AxisState, reading: AxisReading, words: &mut [u64]) -> AxisEnd

@@ -6,12 +6,12 @@ ghost use Rattle.text.specs.Split.{split};
 ghost use Rattle.panel_tables.specs.Written.{zeroPanel, zeroPanelReading, panelHeldOf};
 ghost use Rattle.sheet.specs.Runs.{heldRun};
 use crate::SheetRun;
+use axis_tables::layout::AXIS_BYTES;
 use panel_tables::region::PANEL_BYTES;
 use panel_tables::region::PANEL_WORDS;
 use panel_tables::state::zero_panel;
 use panel_tables::state::zero_panel_reading;
 use sheet_step::read_line;
-use tables::layout::AXIS_BYTES;
 use text::split::find;
 
 // Line after line into the arrays, until one is refused.

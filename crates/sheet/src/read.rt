@@ -1,10 +1,13 @@
 // A sheet read as a whole.
 ghost use mathlib.Core.Path.{_≡_};
-ghost use Rattle.tables.specs.Runs.{putBytes, partOf};
+ghost use Rattle.axis_tables.specs.Runs.{putBytes, partOf};
 ghost use Rattle.panel_tables.specs.Written.{zeroPanel};
 ghost use Rattle.sheet_rules.specs.Panels.{tablesIn};
 ghost use Rattle.sheet_rules.specs.Read.{SheetRead, readSheet};
 use crate::end::read_panel;
+use axis_tables::layout::AXIS_BYTES;
+use axis_tables::name::name_part;
+use axis_tables::name::put_bytes;
 use coordinates::Refusal;
 use coordinates::refusal::SHORT;
 use coordinates::refusal::UNREAD;
@@ -13,9 +16,6 @@ use panel_tables::region::PANEL_BYTES;
 use panel_tables::region::PANEL_WORDS;
 use panel_tables::state::zero_panel;
 use sheet_rules::SheetAnswer;
-use tables::layout::AXIS_BYTES;
-use tables::name::name_part;
-use tables::name::put_bytes;
 
 // The most bytes of a sheet.
 const SHEET_BYTES: usize = 32768;

@@ -4,23 +4,23 @@ use mathlib.Core.Path.{_≡_, refl, sym, ap, _∙_}
 use mathlib.Core.List.{List, [], _∷_, _++_, map}
 use native.Mathlib.Omega.{arith}
 use lib.ListN.{length, length-map}
-use Rattle.line_placement.specs.Template.{ruleFrom}
-use Rattle.name_store.specs.Entries.{namedEntry, entriesOf as heldEntries}
-use Rattle.template_names.specs.Records.{recordOf}
-use Rattle.template_names.specs.Writing.{writtenEntries}
-use Rattle.template_names.specs.Lines.{Below}
-use Rattle.template_names.proofs.Placing.{small-offset, small-length}
-use Rattle.template_names.proofs.Lines.{written-lines, read-back}
-use Rattle.template_names.proofs.Pieces.{named}
-use Rattle.template_names.proofs.Items.{written-rule}
-use Rattle.records.specs.Faults.{firstOf}
-use Rattle.records.proofs.Firsts.{first-zero}
-use Rattle.tables.specs.View.{Unended, none, inside, AxisView, tracksOf, componentsOf, namesOf, written, axisBytes}
-use Rattle.tables.specs.Written.{componentsFrom}
-use Rattle.tables.specs.Reads.{nameRecordIn}
-use Rattle.tables.proofs.Joins.{length-components}
-use Rattle.tables.proofs.Fits.{Fits, few-tracks}
-use Rattle.tables.proofs.Back.{name-words-back, names-back}
+use Rattle.name_rules.specs.Template.{ruleFrom}
+use Rattle.name_entries.specs.Entries.{namedEntry, entriesOf as heldEntries}
+use Rattle.name_template.specs.Records.{recordOf}
+use Rattle.name_template.specs.Writing.{writtenEntries}
+use Rattle.name_template.specs.Lines.{Below}
+use Rattle.name_template.proofs.Placing.{small-offset, small-length}
+use Rattle.name_template.proofs.Lines.{written-lines, read-back}
+use Rattle.name_template.proofs.Pieces.{named}
+use Rattle.name_template.proofs.Items.{written-rule}
+use Rattle.sheet_forms.specs.Faults.{firstOf}
+use Rattle.sheet_forms.proofs.Firsts.{first-zero}
+use Rattle.axis_tables.specs.View.{Unended, none, inside, AxisView, tracksOf, componentsOf, namesOf, written, axisBytes}
+use Rattle.axis_tables.specs.Written.{componentsFrom}
+use Rattle.axis_tables.specs.Reads.{nameRecordIn}
+use Rattle.axis_tables.proofs.Joins.{length-components}
+use Rattle.axis_tables.proofs.Fits.{Fits, few-tracks}
+use Rattle.axis_tables.proofs.Back.{name-words-back, names-back}
 use Rattle.sheet_rules.specs.Sheet.{sizeOf, entriesOf, openFault, countFault, entriesFault, axisFault}
 use Rattle.sheet_rules.specs.Panels.{nameWords, entryWords}
 use Rattle.sheet_end.proofs.Items.{few-held, items-read, order-read}

@@ -8,11 +8,11 @@ use borrow.Author.Tests.{eq-eqb, ne-eqb, lt-ltb, le-ltb, ltb-true, ltb-false, eq
 use lib.Dec.{eqb, ltb}
 use lib.ListN.{length}
 use lib.Seq.{sets}
-use Rattle.explicit_grid.specs.declared.ExplicitSize.{ExplicitSize}
-use Rattle.name_store.specs.declared.NameEntry.{NameEntry}
-use Rattle.template_names.specs.Writing.{writtenEntries, entryWord}
-use Rattle.tables.specs.declared.AxisState.{AxisState}
-use Rattle.tables.specs.declared.AxisReading.{AxisReading}
+use Rattle.template_rules.specs.declared.ExplicitSize.{ExplicitSize}
+use Rattle.name_entries.specs.declared.NameEntry.{NameEntry}
+use Rattle.name_template.specs.Writing.{writtenEntries, entryWord}
+use Rattle.axis_tables.specs.declared.AxisState.{AxisState}
+use Rattle.axis_tables.specs.declared.AxisReading.{AxisReading}
 use Rattle.sheet_rules.specs.Panels.{withSize}
 use Rattle.sheet_end.specs.Steps.{faultBy}
 use Rattle.sheet_end.specs.End.{componentsIn, namesIn, sizeIn, entriesIn, endFaultIn, EndedAxis, endIn}

@@ -8,19 +8,19 @@ use native.Mathlib.Omega.{arith}
 use borrow.Author.Tests.{le-leb, lt-leb}
 use lib.Dec.{eqb}
 use lib.ListN.{length, take, drop, length-append}
-use Rattle.explicit_grid.specs.declared.RepetitionCount.the-variants.{Single, Count, AutoFill, AutoFit}
-use Rattle.explicit_grid.specs.Template.{componentOf, countOf}
-use Rattle.line_placement.specs.Template.{label, single as one, repeat as times}
-use Rattle.template_names.specs.Records.{recordOf, stands, leading}
-use Rattle.template_names.specs.Items.{nameOf, reached, piecesFrom, itemOf as wordItem, itemsFrom, Ordered, InOrder}
-use Rattle.template_names.specs.Lines.{FewTracks}
-use Rattle.tables.specs.View.{Piece, name, track, Repeat, Item, single, repeat, tracksIn, tracksOf, NameRecord, namesIn, namesFrom}
-use Rattle.tables.specs.Store.{componentWord}
-use Rattle.tables.specs.Written.{componentsFrom}
-use Rattle.tables.specs.Reads.{nameRecordIn}
-use Rattle.tables.proofs.Same.{positive}
-use Rattle.tables.proofs.Fits.{SmallRepeat, SmallItems}
-use Rattle.tables.proofs.Back.{word-back}
+use Rattle.template_rules.specs.declared.RepetitionCount.the-variants.{Single, Count, AutoFill, AutoFit}
+use Rattle.template_rules.specs.Template.{componentOf, countOf}
+use Rattle.name_rules.specs.Template.{label, single as one, repeat as times}
+use Rattle.name_template.specs.Records.{recordOf, stands, leading}
+use Rattle.name_template.specs.Items.{nameOf, reached, piecesFrom, itemOf as wordItem, itemsFrom, Ordered, InOrder}
+use Rattle.name_template.specs.Lines.{FewTracks}
+use Rattle.axis_tables.specs.View.{Piece, name, track, Repeat, Item, single, repeat, tracksIn, tracksOf, NameRecord, namesIn, namesFrom}
+use Rattle.axis_tables.specs.Store.{componentWord}
+use Rattle.axis_tables.specs.Written.{componentsFrom}
+use Rattle.axis_tables.specs.Reads.{nameRecordIn}
+use Rattle.axis_tables.proofs.Same.{positive}
+use Rattle.axis_tables.proofs.Fits.{SmallRepeat, SmallItems}
+use Rattle.axis_tables.proofs.Back.{word-back}
 use Rattle.sheet_rules.specs.Sheet.{timesOf, piecesOf, itemsOf}
 use Rattle.sheet_end.proofs.Names.{later-names, inner-names, name-read, place-read, before-stands, later-leading, inner-before, inner-leading, first-words, last-words}
 

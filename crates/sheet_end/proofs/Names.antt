@@ -7,11 +7,11 @@ use native.Mathlib.Omega.{arith}
 use borrow.Author.Tests.{eq-eqb, ne-eqb, lt-ltb}
 use lib.Dec.{eqb}
 use lib.ListN.{length, take, drop}
-use Rattle.template_names.specs.Records.{recordOf, stands, leading}
-use Rattle.template_names.specs.Items.{nameOf}
-use Rattle.tables.specs.View.{Piece, name, track, Item, single, repeat, NameRecord, namesIn, namesFrom}
-use Rattle.tables.specs.Reads.{namePlace, nameRecordIn}
-use Rattle.tables.proofs.Runs.{All, all-append}
+use Rattle.name_template.specs.Records.{recordOf, stands, leading}
+use Rattle.name_template.specs.Items.{nameOf}
+use Rattle.axis_tables.specs.View.{Piece, name, track, Item, single, repeat, NameRecord, namesIn, namesFrom}
+use Rattle.axis_tables.specs.Reads.{namePlace, nameRecordIn}
+use Rattle.axis_tables.proofs.Runs.{All, all-append}
 
 -- a record inside component k, and one of a later component
 abbrev pub Inner : ℕ → NameRecord → Type 0

@@ -8,12 +8,12 @@ use borrow.Author.Tests.{le-ltb}
 use lib.Dec.{eqb, ltb}
 use lib.ListN.{length, drop, length-map}
 use lib.Seq.{sets, length-sets, sets-eq, take-at}
-use Rattle.name_store.specs.declared.NameEntry.{NameEntry}
-use Rattle.template_names.specs.declared.WrittenNames.{WrittenNames}
-use Rattle.template_names.specs.Writing.{writtenEntries, entryWord, TableAfter, namesWritten}
-use Rattle.tables.specs.declared.AxisState.{AxisState}
-use Rattle.tables.specs.declared.AxisReading.{AxisReading}
-use Rattle.tables.specs.Runs.{partOf}
+use Rattle.name_entries.specs.declared.NameEntry.{NameEntry}
+use Rattle.name_template.specs.declared.WrittenNames.{WrittenNames}
+use Rattle.name_template.specs.Writing.{writtenEntries, entryWord, TableAfter, namesWritten}
+use Rattle.axis_tables.specs.declared.AxisState.{AxisState}
+use Rattle.axis_tables.specs.declared.AxisReading.{AxisReading}
+use Rattle.axis_tables.specs.Runs.{partOf}
 use Rattle.sheet_end.specs.End.{EndedAxis, endFaultIn, entriesIn, endIn}
 
 -- no entries, nothing to put

@@ -9,16 +9,16 @@ use lib.Dec.{ltb}
 use lib.ListN.{length, length-map, length-append}
 use lib.Seq.{sets}
 use Rattle.coordinates.specs.Refusals.{noRefusal, count}
-use Rattle.explicit_grid.specs.Explicit.{refusedSize, withAreas, explicitSizeOf}
-use Rattle.template_names.specs.Writing.{writtenEntries, entryWord}
-use Rattle.records.specs.Faults.{firstOf, rankOf}
-use Rattle.records.proofs.Firsts.{first-left, first-one, first-zero}
-use Rattle.tables.specs.View.{Repeat, Unended, none, inside, AxisView, componentsOf}
-use Rattle.tables.specs.Written.{componentsFrom, regionsOf, wordsWith, axisWords, stateOf, repeatOf, readingOf}
-use Rattle.tables.proofs.Lays.{lay-put}
-use Rattle.tables.proofs.Same.{positive}
-use Rattle.tables.proofs.Fits.{Fits, SmallUnended}
-use Rattle.tables.proofs.Back.{template-back, components-back, name-words-back}
+use Rattle.template_rules.specs.Explicit.{refusedSize, withAreas, explicitSizeOf}
+use Rattle.name_template.specs.Writing.{writtenEntries, entryWord}
+use Rattle.sheet_forms.specs.Faults.{firstOf, rankOf}
+use Rattle.sheet_forms.proofs.Firsts.{first-left, first-one, first-zero}
+use Rattle.axis_tables.specs.View.{Repeat, Unended, none, inside, AxisView, componentsOf}
+use Rattle.axis_tables.specs.Written.{componentsFrom, regionsOf, wordsWith, axisWords, stateOf, repeatOf, readingOf}
+use Rattle.axis_tables.proofs.Lays.{lay-put}
+use Rattle.axis_tables.proofs.Same.{positive}
+use Rattle.axis_tables.proofs.Fits.{Fits, SmallUnended}
+use Rattle.axis_tables.proofs.Back.{template-back, components-back, name-words-back}
 use Rattle.sheet_rules.specs.Sheet.{sizeOf, explicitOf, entriesOf, openFault, countFault, entriesFault, axisFault}
 use Rattle.sheet_rules.specs.Panels.{nameWords, entryWords, sizedState}
 use Rattle.sheet_end.specs.End.{sizeIn, entriesIn, endFaultIn, endIn}

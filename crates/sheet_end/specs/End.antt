@@ -6,18 +6,18 @@ use lib.Dec.{eqb, ltb}
 use lib.ListN.{length}
 use lib.Seq.{sets}
 use Rattle.sizing.specs.Words.{floatUpTo, largestBits, sizingOf}
-use Rattle.explicit_grid.specs.declared.InnerSize.{InnerSize}
-use Rattle.explicit_grid.specs.declared.InnerSize.the-variants.{Definite, Indefinite}
-use Rattle.explicit_grid.specs.declared.AutoRepeatStrategy.{AutoRepeatStrategy}
-use Rattle.explicit_grid.specs.declared.AutoRepeatStrategy.the-variants.{MaxRepetitionsThatDoNotOverflow, MinRepetitionsThatDoOverflow}
-use Rattle.explicit_grid.specs.declared.ExplicitSize.{ExplicitSize}
-use Rattle.explicit_grid.specs.Explicit.{explicitSizeOf}
-use Rattle.explicit_grid.specs.Template.{templateOf}
-use Rattle.name_store.specs.declared.NameEntry.{NameEntry}
-use Rattle.template_names.specs.Writing.{writtenEntries, entryWord}
-use Rattle.tables.specs.declared.AxisState.{AxisState}
-use Rattle.tables.specs.declared.AxisReading.{AxisReading}
-use Rattle.tables.specs.Runs.{partOf}
+use Rattle.template_rules.specs.declared.InnerSize.{InnerSize}
+use Rattle.template_rules.specs.declared.InnerSize.the-variants.{Definite, Indefinite}
+use Rattle.template_rules.specs.declared.AutoRepeatStrategy.{AutoRepeatStrategy}
+use Rattle.template_rules.specs.declared.AutoRepeatStrategy.the-variants.{MaxRepetitionsThatDoNotOverflow, MinRepetitionsThatDoOverflow}
+use Rattle.template_rules.specs.declared.ExplicitSize.{ExplicitSize}
+use Rattle.template_rules.specs.Explicit.{explicitSizeOf}
+use Rattle.template_rules.specs.Template.{templateOf}
+use Rattle.name_entries.specs.declared.NameEntry.{NameEntry}
+use Rattle.name_template.specs.Writing.{writtenEntries, entryWord}
+use Rattle.axis_tables.specs.declared.AxisState.{AxisState}
+use Rattle.axis_tables.specs.declared.AxisReading.{AxisReading}
+use Rattle.axis_tables.specs.Runs.{partOf}
 use Rattle.sheet_rules.specs.Panels.{withSize}
 use Rattle.sheet_end.specs.declared.AxisEnd.{AxisEnd}
 

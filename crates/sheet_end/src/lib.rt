@@ -9,8 +9,8 @@ mod written;
 use crate::size::size_in;
 use crate::written::count_entries;
 use crate::written::put_entries;
-use tables::AxisReading;
-use tables::AxisState;
+use axis_tables::AxisReading;
+use axis_tables::AxisState;
 
 // An axis after the last line: the number of its refusal, 0 where there is none, and its state, on a refusal as it came.
 pub struct AxisEnd {

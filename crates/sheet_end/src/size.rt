@@ -1,16 +1,16 @@
 // The explicit size of an axis, from its state and words.
 ghost use mathlib.Core.Path.{_≡_};
 ghost use Rattle.sheet_end.specs.End.{innerIn, strategyIn, sizeIn};
-use explicit_grid::AutoRepeatStrategy;
-use explicit_grid::ExplicitSize;
-use explicit_grid::InnerSize;
+use axis_tables::AxisState;
+use axis_tables::layout::MAXIMUMS;
+use axis_tables::layout::MINIMUMS;
+use axis_tables::layout::words_part;
 use explicit_size::compute_explicit_grid_size_in_axis;
 use sizing::word::length_of;
 use sizing::word::sizing_of;
-use tables::AxisState;
-use tables::layout::MAXIMUMS;
-use tables::layout::MINIMUMS;
-use tables::layout::words_part;
+use template_rules::AutoRepeatStrategy;
+use template_rules::ExplicitSize;
+use template_rules::InnerSize;
 
 // The inner size, where the axis has one.
 pub fn inner_in(state: AxisState) -> InnerSize

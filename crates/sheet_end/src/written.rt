@@ -4,16 +4,16 @@ ghost use mathlib.Core.List.{map};
 ghost use Prim.Native.Nat.{_+_, _≤_, min};
 ghost use lib.ListN.{length};
 ghost use lib.Seq.{sets};
-ghost use Rattle.template_names.specs.Writing.{writtenEntries, entryWord, namesWritten};
+ghost use Rattle.name_template.specs.Writing.{writtenEntries, entryWord, namesWritten};
 ghost use Rattle.sheet_end.specs.End.{componentsIn, namesIn};
-use tables::AxisState;
-use tables::layout::ENTRIES;
-use tables::layout::NAMES;
-use tables::layout::words_part;
-use tables::write::set_word;
-use template_names::WrittenNames;
-use template_names::count::count_written_names;
-use template_names::write_out::write_names;
+use axis_tables::AxisState;
+use axis_tables::layout::ENTRIES;
+use axis_tables::layout::NAMES;
+use axis_tables::layout::words_part;
+use axis_tables::write::set_word;
+use name_template::WrittenNames;
+use name_template::count::count_written_names;
+use name_template::write_out::write_names;
 
 // How many entries an axis has with so many repetitions, held at 4,097.
 pub fn count_entries(state: AxisState, repetitions: u32, words: &[u64]) -> u32

@@ -10,9 +10,9 @@ use lib.Seq.{getD-set-same, getD-set-other}
 use borrow.Author.Tests.{eqb-true, eqb-false, ltb-false}
 use Rattle.coordinates.specs.declared.axis.Axis.{Axis}
 use Rattle.text.specs.Split.{same}
-use Rattle.records.specs.Words.{at, kindWords}
-use Rattle.records.specs.Forms.{Kind, axis, area, name, track, repeat, end, spare, extra, item, kindNumber}
-use Rattle.tables.specs.View.{Sizes, Piece, name as aName, track as aTrack, Repeat as ARepeat, Item as AnItem, single, repeat as aRepeat, Unended, none, inside, AxisView, AxisOutcome, noLine, tracksIn, componentsOf, refused, accepted, withTemplate, withName, withItem, withPiece, morePieces, noRoom, axisNames, axisBytes, trackBy, trackStep, repeatKind, repeatBy, repeatStep, endBy, endStep, nameStep, spareStep, itemStep, extraStep, axisStep}
+use Rattle.sheet_forms.specs.Words.{at, kindWords}
+use Rattle.sheet_forms.specs.Forms.{Kind, axis, area, name, track, repeat, end, spare, extra, item, kindNumber}
+use Rattle.axis_tables.specs.View.{Sizes, Piece, name as aName, track as aTrack, Repeat as ARepeat, Item as AnItem, single, repeat as aRepeat, Unended, none, inside, AxisView, AxisOutcome, noLine, tracksIn, componentsOf, refused, accepted, withTemplate, withName, withItem, withPiece, morePieces, noRoom, axisNames, axisBytes, trackBy, trackStep, repeatKind, repeatBy, repeatStep, endBy, endStep, nameStep, spareStep, itemStep, extraStep, axisStep}
 use Rattle.panel_tables.specs.View.{raised}
 use Rattle.sheet_rules.specs.Contents.{Line, those, isOf, isOn, linesWith, linesIn, isTemplate, templateIn, countIn, sizesIn, axisLineIn, spanIn, TemplateLine, piece, opening, closing, templateLineIn, itemLines, templateLines, lastOf, largest, isAmong}
 use Rattle.sheet_rules.proofs.LineFields.{not-zero}

@@ -11,16 +11,16 @@ use Rattle.coordinates.specs.declared.axis.Axis.{Axis}
 use Rattle.coordinates.specs.declared.axis.Axis.the-variants.{Column, Row}
 use Rattle.text.specs.Split.{split, same}
 use Rattle.text.proofs.Which.{same-self}
-use Rattle.records.specs.declared.PlaceEnd.{PlaceEnd}
-use Rattle.records.specs.declared.Record.{Record}
-use Rattle.records.specs.declared.Record.the-variants.{Fault, Axis as AxisLine, Area, Name, Track, Repeat, End, Spare, Extra, Item, Place}
-use Rattle.records.specs.Words.{at}
-use Rattle.records.specs.Faults.{firstOf}
-use Rattle.records.specs.Ends.{usesName}
-use Rattle.records.specs.Records.{recordOf, faultOf}
-use Rattle.records.specs.Forms.{Kind, axis, area, name, track, repeat, end, spare, extra, item, place}
-use Rattle.records.proofs.Firsts.{first-zero}
-use Rattle.tables.specs.View.{name as aName, track as aTrack, Unended, none, inside, AxisView, written, namesOf, nameOf, emptyAxis, repeatKind}
+use Rattle.sheet_forms.specs.declared.PlaceEnd.{PlaceEnd}
+use Rattle.sheet_forms.specs.declared.Record.{Record}
+use Rattle.sheet_forms.specs.declared.Record.the-variants.{Fault, Axis as AxisLine, Area, Name, Track, Repeat, End, Spare, Extra, Item, Place}
+use Rattle.sheet_forms.specs.Words.{at}
+use Rattle.sheet_forms.specs.Faults.{firstOf}
+use Rattle.sheet_forms.specs.Ends.{usesName}
+use Rattle.sheet_forms.specs.Records.{recordOf, faultOf}
+use Rattle.sheet_forms.specs.Forms.{Kind, axis, area, name, track, repeat, end, spare, extra, item, place}
+use Rattle.sheet_forms.proofs.Firsts.{first-zero}
+use Rattle.axis_tables.specs.View.{name as aName, track as aTrack, Unended, none, inside, AxisView, written, namesOf, nameOf, emptyAxis, repeatKind}
 use Rattle.panel_tables.specs.declared.AreaEdges.{AreaEdges}
 use Rattle.panel_tables.specs.View.{Area as AnArea, End as PlacedEnd, Placement, PanelView, PanelOutcome, emptyView, refused as refusedPanel, accepted as acceptedPanel, raised, edgesOutside, endOutside, areaStep, placeStep}
 use Rattle.panel_tables.specs.Axes.{viewIn, withView}

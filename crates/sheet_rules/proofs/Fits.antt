@@ -6,12 +6,12 @@ use mathlib.Core.Bool.{Bool, true, false, cond}
 use lib.Dec.{eqb, ltb}
 use lib.ListN.{length}
 use Rattle.text.specs.Split.{split}
-use Rattle.records.specs.declared.Record.{Record}
-use Rattle.records.specs.declared.Record.the-variants.{Fault, Axis as AxisLine, Area, Name, Track, Repeat, End, Spare, Extra, Item, Place}
-use Rattle.records.specs.Words.{at}
-use Rattle.records.specs.Records.{recordOf}
-use Rattle.tables.specs.View.{trackStep, repeatStep, endStep, nameStep, spareStep, itemStep, extraStep, axisStep}
-use Rattle.tables.proofs.Kept.{track-fits, repeat-fits, end-fits, name-fits, spare-fits, item-fits, extra-fits, axis-fits}
+use Rattle.sheet_forms.specs.declared.Record.{Record}
+use Rattle.sheet_forms.specs.declared.Record.the-variants.{Fault, Axis as AxisLine, Area, Name, Track, Repeat, End, Spare, Extra, Item, Place}
+use Rattle.sheet_forms.specs.Words.{at}
+use Rattle.sheet_forms.specs.Records.{recordOf}
+use Rattle.axis_tables.specs.View.{trackStep, repeatStep, endStep, nameStep, spareStep, itemStep, extraStep, axisStep}
+use Rattle.axis_tables.proofs.Kept.{track-fits, repeat-fits, end-fits, name-fits, spare-fits, item-fits, extra-fits, axis-fits}
 use Rattle.panel_tables.specs.View.{PanelView, refused, accepted, emptyView}
 use Rattle.panel_tables.specs.Axes.{viewIn}
 use Rattle.panel_tables.proofs.Axes.{axis-in-fits, step-in-fits}

@@ -5,22 +5,22 @@ use mathlib.Core.Bool.{Bool, true, _&&_}
 use lib.Dec.{T, eqb}
 use lib.Ieee.{ofBits, add, sub, mul, div, lt, ofInt}
 use Rattle.text.specs.Split.{split, onto, same, index}
-use Rattle.numeral.specs.Whole.{digitsOf, naturalOf, nonNegative, negative, wholeOf, countIn, indexIn}
-use Rattle.numeral.specs.Hexadecimal.{bitsFrom, bitsOf}
+use Rattle.text.specs.Whole.{digitsOf, naturalOf, nonNegative, negative, wholeOf, countIn, indexIn}
+use Rattle.text.specs.Hexadecimal.{bitsFrom, bitsOf}
 use Rattle.sizing.specs.Ranges.{upTo, minimumKind, largestOf, valueInRange, lengthInRange}
 use Rattle.sizing.specs.Words.{floatUpTo, sizingOfKind, sizingOf}
-use Rattle.explicit_grid.specs.Explicit.{templateSizeOf}
-use Rattle.explicit_grid.specs.Counts.{outsideCount, automaticCount, beforeCount, automaticTracks, anyEmpty, allFixed, everyFixed}
-use Rattle.explicit_grid.specs.Space.{outsideSpace, repetitionSpace}
-use Rattle.explicit_grid.specs.Repetitions.{fittingOf, heldOf, repetitionsOf}
-use Rattle.explicit_grid.specs.Whole.{floorOf, ceilingOf}
-use Rattle.line_placement.specs.Template.{repeated, passed, ruleFrom}
-use Rattle.records.specs.Faults.{rankOf, firstOf}
-use Rattle.records.specs.Fields.{axisOf, ruleOf, countOf, repetitionOf, codes, nameFault}
-use Rattle.records.specs.Sizes.{kindOf, sizeOf, innerOf}
-use Rattle.records.specs.Ends.{endKind, endName, endNumber, endOf}
-use Rattle.records.specs.Records.{axisLine, areaLine, nameLine, sizesLine, repeatLine, endLine, extraLine, itemLine, placeLine, byKind, recordOf}
-use Rattle.tables.specs.View.{emptyAxis, trackStep, repeatStep, endStep, nameStep, spareStep, itemStep, extraStep, axisStep}
+use Rattle.template_rules.specs.Explicit.{templateSizeOf}
+use Rattle.template_rules.specs.Counts.{outsideCount, automaticCount, beforeCount, automaticTracks, anyEmpty, allFixed, everyFixed}
+use Rattle.template_rules.specs.Space.{outsideSpace, repetitionSpace}
+use Rattle.template_rules.specs.Repetitions.{fittingOf, heldOf, repetitionsOf}
+use Rattle.template_rules.specs.Whole.{floorOf, ceilingOf}
+use Rattle.name_rules.specs.Template.{repeated, passed, ruleFrom}
+use Rattle.sheet_forms.specs.Faults.{rankOf, firstOf}
+use Rattle.sheet_forms.specs.Fields.{axisOf, ruleOf, countOf, repetitionOf, codes, nameFault}
+use Rattle.sheet_forms.specs.Sizes.{kindOf, sizeOf, innerOf}
+use Rattle.sheet_forms.specs.Ends.{endKind, endName, endNumber, endOf}
+use Rattle.sheet_forms.specs.Records.{axisLine, areaLine, nameLine, sizesLine, repeatLine, endLine, extraLine, itemLine, placeLine, byKind, recordOf}
+use Rattle.axis_tables.specs.View.{emptyAxis, trackStep, repeatStep, endStep, nameStep, spareStep, itemStep, extraStep, axisStep}
 use Rattle.panel_tables.specs.View.{emptyView, areaStep, placeStep}
 use Rattle.sheet_rules.specs.Lines.{recordStep, recordFault, lineStep}
 use Rattle.sheet_rules.specs.Sheet.{sizeOf as templateSize, entriesOf, endFault, ended, run, sheetOf}

@@ -13,37 +13,37 @@ use Rattle.sizing.specs.Ranges.{valueInRange, lengthInRange}
 use Rattle.sizing.specs.Words.{sizeWordOf}
 use Rattle.text.specs.Split.{same, index}
 use Rattle.text.proofs.Which.{same-equal}
-use Rattle.numeral.specs.Whole.{Written, none as unwritten, whole, wholeOf, digitsOf, naturalOf, nonNegative, countIn as countWithin, indexIn}
-use Rattle.numeral.specs.Hexadecimal.{bitsOf}
-use Rattle.numeral.specs.declared.Bits.{Bits}
-use Rattle.numeral.specs.declared.Count.the-variants.{Outside, Value as Counted}
-use Rattle.numeral.specs.declared.Index.the-variants.{Outside as OutsideIndex, Value as Indexed}
-use Rattle.records.specs.declared.NumberField.{NumberField}
-use Rattle.numeral.specs.declared.Bits.the-variants.{Unread, Value}
-use Rattle.records.specs.declared.Record.{Record}
-use Rattle.records.specs.declared.Record.the-variants.{Fault, Axis as AxisLine, Area, Name, Track, Repeat, End, Spare, Extra, Item, Place}
-use Rattle.records.specs.declared.RepeatRecord.{RepeatRecord}
-use Rattle.records.specs.declared.AxisRecord.{AxisRecord}
-use Rattle.records.specs.declared.PlaceEnd.{PlaceEnd}
-use Rattle.records.specs.declared.Position.{Position}
-use Rattle.records.specs.declared.Position.the-variants.{Minimum, Maximum, Gap}
-use Rattle.records.specs.declared.field.Field.{Field}
-use Rattle.records.specs.declared.field.AxisField.{AxisField}
-use Rattle.records.specs.declared.SizeField.{SizeField}
-use Rattle.records.specs.declared.InnerField.{InnerField}
-use Rattle.records.specs.Words.{at, dash, nought, kindWords, sizeWords, ruleWords, repeatWords, endWords}
-use Rattle.records.specs.Faults.{firstOf}
-use Rattle.records.specs.Fields.{good, faulty, wordOf, countField, axisOf, ruleOf, countOf, repetitionOf, repetitionAt, nameFault}
-use Rattle.records.specs.Sizes.{allowedAt, faultySize, sizeField, sizeOf, kindOf, innerField, noInner, someInner, innerOf}
-use Rattle.records.specs.Ends.{endKind, endName, endNumber, indexField, faultyNumber, spanField, unusedNumber, endOf}
-use Rattle.records.specs.Records.{unless, edgesOf, madeAxis, madeArea, madeName, madeSizes, madeRepeat, madeEnd, madeExtra, madeItem, madePlace, axisLine, areaLine, nameLine, sizesLine, repeatLine, endLine, extraLine, itemLine, placeLine, recordOf}
-use Rattle.records.specs.Forms.{Kind, axis, area, name, track, repeat, end, spare, extra, item, place}
-use Rattle.records.proofs.Firsts.{none-or-some, first-zero}
-use Rattle.records.proofs.FieldRows.{below-or}
-use Rattle.records.proofs.LineRows.{kindAt, number-back}
-use Rattle.records.proofs.LineFaults.{lineOf, line-record, no-record}
+use Rattle.text.specs.Whole.{Written, none as unwritten, whole, wholeOf, digitsOf, naturalOf, nonNegative, countIn as countWithin, indexIn}
+use Rattle.text.specs.Hexadecimal.{bitsOf}
+use Rattle.text.specs.declared.Bits.{Bits}
+use Rattle.text.specs.declared.Count.the-variants.{Outside, Value as Counted}
+use Rattle.text.specs.declared.Index.the-variants.{Outside as OutsideIndex, Value as Indexed}
+use Rattle.sheet_forms.specs.declared.NumberField.{NumberField}
+use Rattle.text.specs.declared.Bits.the-variants.{Unread, Value}
+use Rattle.sheet_forms.specs.declared.Record.{Record}
+use Rattle.sheet_forms.specs.declared.Record.the-variants.{Fault, Axis as AxisLine, Area, Name, Track, Repeat, End, Spare, Extra, Item, Place}
+use Rattle.sheet_forms.specs.declared.RepeatRecord.{RepeatRecord}
+use Rattle.sheet_forms.specs.declared.AxisRecord.{AxisRecord}
+use Rattle.sheet_forms.specs.declared.PlaceEnd.{PlaceEnd}
+use Rattle.sheet_forms.specs.declared.Position.{Position}
+use Rattle.sheet_forms.specs.declared.Position.the-variants.{Minimum, Maximum, Gap}
+use Rattle.sheet_forms.specs.declared.field.Field.{Field}
+use Rattle.sheet_forms.specs.declared.field.AxisField.{AxisField}
+use Rattle.sheet_forms.specs.declared.SizeField.{SizeField}
+use Rattle.sheet_forms.specs.declared.InnerField.{InnerField}
+use Rattle.sheet_forms.specs.Words.{at, dash, nought, kindWords, sizeWords, ruleWords, repeatWords, endWords}
+use Rattle.sheet_forms.specs.Faults.{firstOf}
+use Rattle.sheet_forms.specs.Fields.{good, faulty, wordOf, countField, axisOf, ruleOf, countOf, repetitionOf, repetitionAt, nameFault}
+use Rattle.sheet_forms.specs.Sizes.{allowedAt, faultySize, sizeField, sizeOf, kindOf, innerField, noInner, someInner, innerOf}
+use Rattle.sheet_forms.specs.Ends.{endKind, endName, endNumber, indexField, faultyNumber, spanField, unusedNumber, endOf}
+use Rattle.sheet_forms.specs.Records.{unless, edgesOf, madeAxis, madeArea, madeName, madeSizes, madeRepeat, madeEnd, madeExtra, madeItem, madePlace, axisLine, areaLine, nameLine, sizesLine, repeatLine, endLine, extraLine, itemLine, placeLine, recordOf}
+use Rattle.sheet_forms.specs.Forms.{Kind, axis, area, name, track, repeat, end, spare, extra, item, place}
+use Rattle.sheet_forms.proofs.Firsts.{none-or-some, first-zero}
+use Rattle.sheet_forms.proofs.FieldRows.{below-or}
+use Rattle.sheet_forms.proofs.LineRows.{kindAt, number-back}
+use Rattle.sheet_forms.proofs.LineFaults.{lineOf, line-record, no-record}
 use Rattle.text.proofs.Which.{index-word}
-use Rattle.tables.specs.View.{repeatKind}
+use Rattle.axis_tables.specs.View.{repeatKind}
 use Rattle.sheet_rules.specs.Lines.{bit, edgesOf as areaEdges}
 use Rattle.sheet_rules.specs.Contents.{Line, wholeBy, wholeIn, countBy, countIn, bitsBy, bitsIn, sizeIn, areaIn, repeatKindIn}
 

@@ -13,18 +13,18 @@ use borrow.Author.Tests.{le-ltb, le-leb, eqb-true, eqb-false, ltb-true, ltb-fals
 use Rattle.coordinates.specs.declared.axis.Axis.{Axis}
 use Rattle.text.specs.Split.{same}
 use Rattle.text.proofs.Which.{same-equal, unequal}
-use Rattle.records.specs.declared.Record.{Record}
-use Rattle.records.specs.declared.Record.the-variants.{Fault, Axis as AxisLine, Area as AreaLine, Name, Track, Repeat, End, Spare, Extra, Item, Place}
-use Rattle.records.specs.declared.PlaceEnd.{PlaceEnd}
-use Rattle.records.specs.Words.{at}
-use Rattle.records.specs.Faults.{firstOf, FirstBy, noRow}
-use Rattle.records.specs.Ends.{usesName}
-use Rattle.records.specs.Forms.{InNameRange, Kind, axis, area, name, track, repeat, end, spare, extra, item, place, Of}
-use Rattle.records.proofs.Firsts.{firsts-by, first-left, first-one}
-use Rattle.records.proofs.LineRows.{same-kind}
-use Rattle.records.proofs.FieldBounds.{EndBounded}
-use Rattle.records.proofs.Bounds.{Bounded}
-use Rattle.tables.specs.View.{Unended, none, inside, AxisView, AxisOutcome, refused as refusedAxis, accepted as acceptedAxis, withName, trackBy, trackStep, repeatBy, repeatStep, endBy, endStep, nameStep, spareStep, itemStep, extraStep, axisStep, tracksIn, componentsOf, axisNames, axisBytes, noRoom}
+use Rattle.sheet_forms.specs.declared.Record.{Record}
+use Rattle.sheet_forms.specs.declared.Record.the-variants.{Fault, Axis as AxisLine, Area as AreaLine, Name, Track, Repeat, End, Spare, Extra, Item, Place}
+use Rattle.sheet_forms.specs.declared.PlaceEnd.{PlaceEnd}
+use Rattle.sheet_forms.specs.Words.{at}
+use Rattle.sheet_forms.specs.Faults.{firstOf, FirstBy, noRow}
+use Rattle.sheet_forms.specs.Ends.{usesName}
+use Rattle.sheet_forms.specs.Forms.{InNameRange, Kind, axis, area, name, track, repeat, end, spare, extra, item, place, Of}
+use Rattle.sheet_forms.proofs.Firsts.{firsts-by, first-left, first-one}
+use Rattle.sheet_forms.proofs.LineRows.{same-kind}
+use Rattle.sheet_forms.proofs.FieldBounds.{EndBounded}
+use Rattle.sheet_forms.proofs.Bounds.{Bounded}
+use Rattle.axis_tables.specs.View.{Unended, none, inside, AxisView, AxisOutcome, refused as refusedAxis, accepted as acceptedAxis, withName, trackBy, trackStep, repeatBy, repeatStep, endBy, endStep, nameStep, spareStep, itemStep, extraStep, axisStep, tracksIn, componentsOf, axisNames, axisBytes, noRoom}
 use Rattle.panel_tables.specs.declared.AreaEdges.{AreaEdges}
 use Rattle.panel_tables.specs.View.{Area, PanelView, PanelOutcome, hasArea, refused, accepted, edgeOutside, edgesOutside, numberOutside, endOutside, areaStep, placeStep}
 use Rattle.panel_tables.specs.Axes.{viewIn}

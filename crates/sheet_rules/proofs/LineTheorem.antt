@@ -7,14 +7,14 @@ use mathlib.Core.Logic.{_⊎_, inl, inr, ⊎-elim, _↔_}
 use native.Mathlib.Omega.{arith}
 use lib.Dec.{eqb, ltb}
 use borrow.Author.Tests.{le-ltb, eqb-true}
-use Rattle.records.specs.declared.Record.{Record}
-use Rattle.records.specs.declared.Record.the-variants.{Fault, Axis as AxisLine, Area, Name, Track, Repeat, End, Spare, Extra, Item, Place}
-use Rattle.records.specs.Faults.{rankOf, firstOf, FirstBy, noRow, firstRow}
-use Rattle.records.specs.Records.{recordOf, faultOf}
-use Rattle.records.specs.Forms.{Kind, axis, area, name, track, repeat, end, spare, extra, item, place, Of}
-use Rattle.records.proofs.Firsts.{firsts-by, first-same, first-unique, first-none}
-use Rattle.records.proofs.Bounds.{Bounded}
-use Rattle.records.proofs.Theorem.{record-bounded}
+use Rattle.sheet_forms.specs.declared.Record.{Record}
+use Rattle.sheet_forms.specs.declared.Record.the-variants.{Fault, Axis as AxisLine, Area, Name, Track, Repeat, End, Spare, Extra, Item, Place}
+use Rattle.sheet_forms.specs.Faults.{rankOf, firstOf, FirstBy, noRow, firstRow}
+use Rattle.sheet_forms.specs.Records.{recordOf, faultOf}
+use Rattle.sheet_forms.specs.Forms.{Kind, axis, area, name, track, repeat, end, spare, extra, item, place, Of}
+use Rattle.sheet_forms.proofs.Firsts.{firsts-by, first-same, first-unique, first-none}
+use Rattle.sheet_forms.proofs.Bounds.{Bounded}
+use Rattle.sheet_forms.proofs.Theorem.{record-bounded}
 use Rattle.panel_tables.specs.View.{PanelView, PanelOutcome, refused, accepted}
 use Rattle.sheet_rules.specs.Lines.{recordStep, twiceFault, stageOf, lateFault, recordFault, recordOutcome, lineStep}
 use Rattle.sheet_rules.specs.Rows.{MisnestedBy, TwiceBy, LateBy, CrowdedBy, AtKind, Row, unread, badName, badValue, badCount, badArea, twice, late, crowded, numberOf, Holds, First}

@@ -4,10 +4,10 @@ use mathlib.Core.Path.{_≡_, refl, sym, ap, _∙_, subst}
 use mathlib.Core.List.{List}
 use mathlib.Core.Bool.{Bool, true, false, cond}
 use native.Mathlib.Omega.{arith}
-use Rattle.records.specs.Faults.{rankOf, FirstBy, noRow, firstRow}
-use Rattle.records.specs.Records.{recordOf, faultOf}
-use Rattle.records.specs.Rows.{Row as LineRow, unread as unread', badName as badName', badValue as badValue', badCount as badCount', badArea as badArea', numberOf as lineNumber, Holds as LineHolds, UnreadLine, BadName, BadValue, BadCount, BadArea}
-use Rattle.records.proofs.Theorem.{record-first}
+use Rattle.sheet_forms.specs.Faults.{rankOf, FirstBy, noRow, firstRow}
+use Rattle.sheet_forms.specs.Records.{recordOf, faultOf}
+use Rattle.sheet_forms.specs.Rows.{Row as LineRow, unread as unread', badName as badName', badValue as badValue', badCount as badCount', badArea as badArea', numberOf as lineNumber, Holds as LineHolds, UnreadLine, BadName, BadValue, BadCount, BadArea}
+use Rattle.sheet_forms.proofs.Theorem.{record-first}
 use Rattle.sheet_rules.specs.Rows.{Row, unread, badName, badValue, badCount, badArea, twice, late, crowded, numberOf, First}
 
 pub some-number : (r : Row) → numberOf r ≡ 0 → ⊥

@@ -4,12 +4,12 @@ use mathlib.Core.Path.{_≡_, refl, sym, ap, _∙_}
 use mathlib.Core.List.{List}
 use Rattle.coordinates.specs.declared.axis.Axis.{Axis}
 use Rattle.coordinates.specs.declared.axis.Axis.the-variants.{Column, Row}
-use Rattle.records.specs.declared.Record.{Record}
-use Rattle.records.specs.declared.Record.the-variants.{Fault, Axis as AxisLine, Area, Name, Track, Repeat, End, Spare, Extra, Item, Place}
-use Rattle.records.specs.Words.{at}
-use Rattle.tables.specs.View.{AxisOutcome, accepted as acceptedAxis, trackStep, repeatStep, endStep, nameStep, spareStep, itemStep, extraStep, axisStep}
-use Rattle.tables.specs.Written.{Held, heldOf}
-use Rattle.tables.proofs.Same.{track-same, repeat-same, end-same, name-same, spare-same, item-same, extra-same, axis-same}
+use Rattle.sheet_forms.specs.declared.Record.{Record}
+use Rattle.sheet_forms.specs.declared.Record.the-variants.{Fault, Axis as AxisLine, Area, Name, Track, Repeat, End, Spare, Extra, Item, Place}
+use Rattle.sheet_forms.specs.Words.{at}
+use Rattle.axis_tables.specs.View.{AxisOutcome, accepted as acceptedAxis, trackStep, repeatStep, endStep, nameStep, spareStep, itemStep, extraStep, axisStep}
+use Rattle.axis_tables.specs.Written.{Held, heldOf}
+use Rattle.axis_tables.proofs.Same.{track-same, repeat-same, end-same, name-same, spare-same, item-same, extra-same, axis-same}
 use Rattle.panel_tables.specs.View.{PanelView}
 use Rattle.panel_tables.specs.Written.{heldPanel, stepped}
 use Rattle.panel_tables.specs.Axes.{viewIn, stepIn, heldIn}

@@ -12,22 +12,22 @@ use Rattle.coordinates.specs.declared.axis.Axis.{Axis}
 use Rattle.coordinates.specs.declared.axis.Axis.the-variants.{Column, Row as Rows}
 use Rattle.text.specs.Split.{index}
 use Rattle.text.proofs.Which.{index-word}
-use Rattle.records.specs.declared.Record.{Record}
-use Rattle.records.specs.declared.Record.the-variants.{Fault, Axis as AxisLine, Area, Name, Track, Repeat, End, Spare, Extra, Item, Place}
-use Rattle.records.specs.declared.RepeatRecord.{RepeatRecord}
-use Rattle.records.specs.declared.field.AxisField.{AxisField}
-use Rattle.records.specs.Words.{at, axisWords, kindWords}
-use Rattle.records.specs.Faults.{firstOf}
-use Rattle.records.specs.Fields.{axisAt, axisOf, ruleOf, countOf, repetitionOf, nameFault}
-use Rattle.records.specs.declared.Position.the-variants.{Minimum, Maximum, Gap}
-use Rattle.records.specs.Sizes.{sizeOf, innerOf}
-use Rattle.records.specs.Ends.{endOf}
-use Rattle.records.specs.Records.{unless, edgesOf, madeAxis, madeArea, madeName, madeSizes, madeRepeat, madeEnd, madeExtra, madeItem, madePlace, axisLine, areaLine, nameLine, sizesLine, repeatLine, endLine, extraLine, itemLine, placeLine, recordOf}
-use Rattle.records.specs.Forms.{Kind, axis, area, name, track, repeat, end, spare, extra, item, place, kindNumber, fieldsOf, Of}
-use Rattle.records.proofs.Firsts.{none-or-some, first-zero}
-use Rattle.records.proofs.FieldRows.{below-or}
-use Rattle.records.proofs.LineRows.{kindAt, number-back, same-kind, word-index, kind-below}
-use Rattle.records.proofs.LineFaults.{lineOf, line-record, no-record}
+use Rattle.sheet_forms.specs.declared.Record.{Record}
+use Rattle.sheet_forms.specs.declared.Record.the-variants.{Fault, Axis as AxisLine, Area, Name, Track, Repeat, End, Spare, Extra, Item, Place}
+use Rattle.sheet_forms.specs.declared.RepeatRecord.{RepeatRecord}
+use Rattle.sheet_forms.specs.declared.field.AxisField.{AxisField}
+use Rattle.sheet_forms.specs.Words.{at, axisWords, kindWords}
+use Rattle.sheet_forms.specs.Faults.{firstOf}
+use Rattle.sheet_forms.specs.Fields.{axisAt, axisOf, ruleOf, countOf, repetitionOf, nameFault}
+use Rattle.sheet_forms.specs.declared.Position.the-variants.{Minimum, Maximum, Gap}
+use Rattle.sheet_forms.specs.Sizes.{sizeOf, innerOf}
+use Rattle.sheet_forms.specs.Ends.{endOf}
+use Rattle.sheet_forms.specs.Records.{unless, edgesOf, madeAxis, madeArea, madeName, madeSizes, madeRepeat, madeEnd, madeExtra, madeItem, madePlace, axisLine, areaLine, nameLine, sizesLine, repeatLine, endLine, extraLine, itemLine, placeLine, recordOf}
+use Rattle.sheet_forms.specs.Forms.{Kind, axis, area, name, track, repeat, end, spare, extra, item, place, kindNumber, fieldsOf, Of}
+use Rattle.sheet_forms.proofs.Firsts.{none-or-some, first-zero}
+use Rattle.sheet_forms.proofs.FieldRows.{below-or}
+use Rattle.sheet_forms.proofs.LineRows.{kindAt, number-back, same-kind, word-index, kind-below}
+use Rattle.sheet_forms.proofs.LineFaults.{lineOf, line-record, no-record}
 use Rattle.sheet_rules.specs.Rows.{OnAxis}
 
 -- a line that is no record is unread where its word is `repeat` or `end`

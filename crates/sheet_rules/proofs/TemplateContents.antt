@@ -9,9 +9,9 @@ use lib.Seq.{append-snoc}
 use Rattle.coordinates.specs.declared.axis.Axis.{Axis}
 use Rattle.text.specs.Split.{same}
 use Rattle.text.proofs.Which.{same-equal}
-use Rattle.records.specs.Words.{at, kindWords}
-use Rattle.records.specs.Forms.{Kind, name, track, repeat, end, kindNumber}
-use Rattle.tables.specs.View.{Sizes, Piece, name as aName, track as aTrack, Repeat as ARepeat, Item as AnItem, single, repeat as aRepeat, tracksIn, tracksOf, namesIn, namesFrom, nameOf}
+use Rattle.sheet_forms.specs.Words.{at, kindWords}
+use Rattle.sheet_forms.specs.Forms.{Kind, name, track, repeat, end, kindNumber}
+use Rattle.axis_tables.specs.View.{Sizes, Piece, name as aName, track as aTrack, Repeat as ARepeat, Item as AnItem, single, repeat as aRepeat, tracksIn, tracksOf, namesIn, namesFrom, nameOf}
 use Rattle.sheet_rules.specs.Contents.{Line, those, isOf, isOn, linesIn, isTemplate, templateIn, countIn, sizesIn, TemplateLine, piece, opening, closing, repeatKindIn, templateLineIn, templateLines}
 
 -- ---- the names and the tracks

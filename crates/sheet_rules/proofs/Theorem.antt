@@ -11,9 +11,9 @@ use lib.Dec.{eqb, ltb}
 use lib.ListN.{length}
 use borrow.Author.Tests.{ne-eqb, eqb-true, eqb-false, ltb-true, ltb-false}
 use Rattle.text.specs.Split.{split}
-use Rattle.records.specs.Faults.{rankOf, firstOf, FirstBy, noRow, firstRow}
-use Rattle.records.proofs.Firsts.{firsts-by, first-same}
-use Rattle.tables.specs.View.{Unended, none, inside, AxisView}
+use Rattle.sheet_forms.specs.Faults.{rankOf, firstOf, FirstBy, noRow, firstRow}
+use Rattle.sheet_forms.proofs.Firsts.{firsts-by, first-same}
+use Rattle.axis_tables.specs.View.{Unended, none, inside, AxisView}
 use Rattle.panel_tables.specs.View.{PanelView, emptyView}
 use Rattle.sheet_rules.specs.Lines.{lineStep}
 use Rattle.sheet_rules.specs.Sheet.{explicitOf, entriesOf, openFault, countFault, entriesFault, axisFault, endFault, Outcome, outcome, ended, run, sheetOf}

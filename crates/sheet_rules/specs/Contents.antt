@@ -11,14 +11,14 @@ use Rattle.coordinates.specs.declared.axis.Axis.{Axis}
 use Rattle.coordinates.specs.declared.axis.Axis.the-variants.{Column, Row}
 use Rattle.sizing.specs.Words.{sizeWordOf}
 use Rattle.text.specs.Split.{split, same, index}
-use Rattle.numeral.specs.Whole.{Written, none as unwritten, whole, wholeOf}
-use Rattle.numeral.specs.Hexadecimal.{bitsOf}
-use Rattle.numeral.specs.declared.Bits.{Bits}
-use Rattle.numeral.specs.declared.Bits.the-variants.{Unread, Value}
-use Rattle.records.specs.Words.{at, dash, axisWords, kindWords, sizeWords, ruleWords, repeatWords, endWords}
-use Rattle.records.specs.Ends.{usesName}
-use Rattle.records.specs.Forms.{Kind, axis, area, name, track, repeat, end, spare, extra, item, place, kindNumber}
-use Rattle.tables.specs.View.{Sizes, Piece, name as aName, track as aTrack, Item, single, repeat as aRepeat, none, AxisLine, AxisView, noLine, tracksOf, nameOf, axisNames}
+use Rattle.text.specs.Whole.{Written, none as unwritten, whole, wholeOf}
+use Rattle.text.specs.Hexadecimal.{bitsOf}
+use Rattle.text.specs.declared.Bits.{Bits}
+use Rattle.text.specs.declared.Bits.the-variants.{Unread, Value}
+use Rattle.sheet_forms.specs.Words.{at, dash, axisWords, kindWords, sizeWords, ruleWords, repeatWords, endWords}
+use Rattle.sheet_forms.specs.Ends.{usesName}
+use Rattle.sheet_forms.specs.Forms.{Kind, axis, area, name, track, repeat, end, spare, extra, item, place, kindNumber}
+use Rattle.axis_tables.specs.View.{Sizes, Piece, name as aName, track as aTrack, Item, single, repeat as aRepeat, none, AxisLine, AxisView, noLine, tracksOf, nameOf, axisNames}
 use Rattle.panel_tables.specs.View.{Area, End, Placement, PanelView}
 use Rattle.panel_tables.specs.Axes.{viewIn}
 

@@ -3,15 +3,15 @@ use Prim.Native.Nat.{ℕ}
 use mathlib.Core.List.{List, []}
 use mathlib.Core.Bool.{Bool, cond}
 use lib.Dec.{eqb, ltb}
-use Rattle.records.specs.declared.Record.{Record}
-use Rattle.records.specs.declared.Record.the-variants.{Fault, Axis as AxisLine, Area, Name, Track, Repeat, End, Spare, Extra, Item, Place}
-use Rattle.records.specs.declared.AreaRecord.{AreaRecord}
-use Rattle.records.specs.declared.PlaceEnd.{PlaceEnd}
-use Rattle.records.specs.Words.{at}
-use Rattle.records.specs.Faults.{firstOf}
-use Rattle.records.specs.Ends.{usesName}
-use Rattle.records.specs.Records.{recordOf, faultOf}
-use Rattle.tables.specs.View.{trackStep, repeatStep, endStep, nameStep, spareStep, itemStep, extraStep, axisStep}
+use Rattle.sheet_forms.specs.declared.Record.{Record}
+use Rattle.sheet_forms.specs.declared.Record.the-variants.{Fault, Axis as AxisLine, Area, Name, Track, Repeat, End, Spare, Extra, Item, Place}
+use Rattle.sheet_forms.specs.declared.AreaRecord.{AreaRecord}
+use Rattle.sheet_forms.specs.declared.PlaceEnd.{PlaceEnd}
+use Rattle.sheet_forms.specs.Words.{at}
+use Rattle.sheet_forms.specs.Faults.{firstOf}
+use Rattle.sheet_forms.specs.Ends.{usesName}
+use Rattle.sheet_forms.specs.Records.{recordOf, faultOf}
+use Rattle.axis_tables.specs.View.{trackStep, repeatStep, endStep, nameStep, spareStep, itemStep, extraStep, axisStep}
 use Rattle.panel_tables.specs.declared.AreaEdges.{AreaEdges}
 use Rattle.panel_tables.specs.View.{PanelView, PanelOutcome, End as PlacedEnd, hasArea, refused, accepted, areaStep, placeStep}
 use Rattle.panel_tables.specs.Axes.{viewIn, stepIn}

@@ -2,11 +2,11 @@
 use Prim.Native.Nat.{ℕ}
 use mathlib.Core.List.{List, _++_, map}
 use lib.ListN.{length, drop}
-use Rattle.template_names.specs.Writing.{writtenEntries, entryWord}
-use Rattle.tables.specs.declared.AxisState.{AxisState}
-use Rattle.tables.specs.Runs.{wordsFrom}
-use Rattle.tables.specs.View.{AxisView, nameOf, axisNames, axisBytes}
-use Rattle.tables.specs.Written.{componentsFrom, recordWord, stateOf, wordsWith}
+use Rattle.name_template.specs.Writing.{writtenEntries, entryWord}
+use Rattle.axis_tables.specs.declared.AxisState.{AxisState}
+use Rattle.axis_tables.specs.Runs.{wordsFrom}
+use Rattle.axis_tables.specs.View.{AxisView, nameOf, axisNames, axisBytes}
+use Rattle.axis_tables.specs.Written.{componentsFrom, recordWord, stateOf, wordsWith}
 use Rattle.panel_tables.specs.declared.Panel.{Panel}
 use Rattle.panel_tables.specs.View.{PanelView}
 use Rattle.coordinates.specs.declared.axis.Axis.the-variants.{Column, Row}

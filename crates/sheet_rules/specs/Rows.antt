@@ -7,12 +7,12 @@ use mathlib.Core.Logic.{_⊎_}
 use lib.ListN.{length, getD}
 use Rattle.coordinates.specs.declared.axis.Axis.{Axis}
 use Rattle.coordinates.specs.declared.axis.Axis.the-variants.{Column, Row as Rows}
-use Rattle.records.specs.Words.{at, axisWords}
+use Rattle.sheet_forms.specs.Words.{at, axisWords}
 use Rattle.text.specs.Split.{split}
-use Rattle.records.specs.Faults.{rankOf, FirstBy}
-use Rattle.records.specs.Forms.{Kind, axis, area, name, track, repeat, end, spare, extra, item, place, Of}
-use Rattle.records.specs.Rows.{UnreadLine, BadName, BadValue, BadCount, BadArea}
-use Rattle.tables.specs.View.{Unended, none, inside, AxisView, tracksIn, componentsOf, axisNames, axisBytes}
+use Rattle.sheet_forms.specs.Faults.{rankOf, FirstBy}
+use Rattle.sheet_forms.specs.Forms.{Kind, axis, area, name, track, repeat, end, spare, extra, item, place, Of}
+use Rattle.sheet_forms.specs.Rows.{UnreadLine, BadName, BadValue, BadCount, BadArea}
+use Rattle.axis_tables.specs.View.{Unended, none, inside, AxisView, tracksIn, componentsOf, axisNames, axisBytes}
 use Rattle.panel_tables.specs.View.{Area, PanelView, emptyView}
 use Rattle.panel_tables.specs.Axes.{viewIn}
 use Rattle.sheet_rules.specs.Lines.{lineStep}

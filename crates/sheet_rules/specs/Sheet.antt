@@ -5,18 +5,18 @@ use mathlib.Core.Bool.{cond}
 use lib.Dec.{eqb, ltb}
 use lib.ListN.{length}
 use Rattle.sizing.specs.Words.{floatUpTo, largestBits, sizingOf}
-use Rattle.explicit_grid.specs.declared.InnerSize.{InnerSize}
-use Rattle.explicit_grid.specs.declared.InnerSize.the-variants.{Definite, Indefinite}
-use Rattle.explicit_grid.specs.declared.AutoRepeatStrategy.{AutoRepeatStrategy}
-use Rattle.explicit_grid.specs.declared.AutoRepeatStrategy.the-variants.{MaxRepetitionsThatDoNotOverflow, MinRepetitionsThatDoOverflow}
-use Rattle.explicit_grid.specs.declared.TemplateSize.{TemplateSize}
-use Rattle.explicit_grid.specs.Summary.{meaningOf}
-use Rattle.explicit_grid.specs.Explicit.{templateSizeOf, innerValue}
-use Rattle.line_placement.specs.Css.{Entry}
-use Rattle.line_placement.specs.Template.{Piece as WrittenPiece, label, track as written, Item as WrittenItem, single as one, repeat as times, ruleFrom}
+use Rattle.template_rules.specs.declared.InnerSize.{InnerSize}
+use Rattle.template_rules.specs.declared.InnerSize.the-variants.{Definite, Indefinite}
+use Rattle.template_rules.specs.declared.AutoRepeatStrategy.{AutoRepeatStrategy}
+use Rattle.template_rules.specs.declared.AutoRepeatStrategy.the-variants.{MaxRepetitionsThatDoNotOverflow, MinRepetitionsThatDoOverflow}
+use Rattle.template_rules.specs.declared.TemplateSize.{TemplateSize}
+use Rattle.template_rules.specs.Summary.{meaningOf}
+use Rattle.template_rules.specs.Explicit.{templateSizeOf, innerValue}
+use Rattle.name_rules.specs.Css.{Entry}
+use Rattle.name_rules.specs.Template.{Piece as WrittenPiece, label, track as written, Item as WrittenItem, single as one, repeat as times, ruleFrom}
 use Rattle.text.specs.Split.{split}
-use Rattle.records.specs.Faults.{firstOf}
-use Rattle.tables.specs.View.{Piece, name, track, Repeat, Item, single, repeat, Unended, none, inside, AxisLine, AxisView, componentsOf}
+use Rattle.sheet_forms.specs.Faults.{firstOf}
+use Rattle.axis_tables.specs.View.{Piece, name, track, Repeat, Item, single, repeat, Unended, none, inside, AxisLine, AxisView, componentsOf}
 use Rattle.panel_tables.specs.View.{PanelView, PanelOutcome, emptyView}
 use Rattle.sheet_rules.specs.Lines.{lineStep}
 

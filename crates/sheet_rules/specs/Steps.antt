@@ -3,12 +3,12 @@ use Prim.Native.Nat.{ℕ}
 use mathlib.Core.List.{List}
 use Rattle.coordinates.specs.declared.axis.Axis.{Axis}
 use Rattle.coordinates.specs.declared.axis.Axis.the-variants.{Column, Row}
-use Rattle.records.specs.declared.Record.{Record}
-use Rattle.records.specs.declared.Record.the-variants.{Fault, Axis as AxisLine, Area, Name, Track, Repeat, End, Spare, Extra, Item, Place}
-use Rattle.records.specs.Words.{at}
-use Rattle.tables.specs.Store.{put, InWords, InMarks, InNames, putTrack, openRepeat, closeRepeat, putName, putSpare, putItem, putExtra, putAxis}
-use Rattle.tables.specs.Written.{Held}
-use Rattle.tables.specs.declared.AxisPut.{AxisPut}
+use Rattle.sheet_forms.specs.declared.Record.{Record}
+use Rattle.sheet_forms.specs.declared.Record.the-variants.{Fault, Axis as AxisLine, Area, Name, Track, Repeat, End, Spare, Extra, Item, Place}
+use Rattle.sheet_forms.specs.Words.{at}
+use Rattle.axis_tables.specs.Store.{put, InWords, InMarks, InNames, putTrack, openRepeat, closeRepeat, putName, putSpare, putItem, putExtra, putAxis}
+use Rattle.axis_tables.specs.Written.{Held}
+use Rattle.axis_tables.specs.declared.AxisPut.{AxisPut}
 use Rattle.panel_tables.specs.Areas.{putArea}
 use Rattle.panel_tables.specs.Placements.{putPlacement}
 use Rattle.panel_tables.specs.Written.{PanelHeld, PanelStepped, ofAreas, ofPlacements}

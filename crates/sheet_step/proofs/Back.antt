@@ -7,14 +7,14 @@ use lib.ListN.{length, take, drop, length-append, length-drop}
 use lib.Seq.{length-take-le}
 use Rattle.coordinates.specs.declared.axis.Axis.{Axis}
 use Rattle.coordinates.specs.declared.axis.Axis.the-variants.{Column, Row}
-use Rattle.records.specs.declared.Record.{Record}
-use Rattle.records.specs.declared.PlaceEnd.{PlaceEnd}
-use Rattle.tables.specs.declared.AxisState.{AxisState}
-use Rattle.tables.specs.declared.AxisReading.{AxisReading}
-use Rattle.tables.specs.Runs.{partOf, withPart}
-use Rattle.tables.specs.Store.{put}
-use Rattle.tables.specs.Written.{Held}
-use Rattle.tables.proofs.Regions.{lent-own, lent-before, lent-after}
+use Rattle.sheet_forms.specs.declared.Record.{Record}
+use Rattle.sheet_forms.specs.declared.PlaceEnd.{PlaceEnd}
+use Rattle.axis_tables.specs.declared.AxisState.{AxisState}
+use Rattle.axis_tables.specs.declared.AxisReading.{AxisReading}
+use Rattle.axis_tables.specs.Runs.{partOf, withPart}
+use Rattle.axis_tables.specs.Store.{put}
+use Rattle.axis_tables.specs.Written.{Held}
+use Rattle.axis_tables.proofs.Regions.{lent-own, lent-before, lent-after}
 use Rattle.panel_tables.specs.declared.Panel.{Panel}
 use Rattle.panel_tables.specs.declared.Reading.{Reading}
 use Rattle.panel_tables.specs.declared.AreaEdges.{AreaEdges}
@@ -23,7 +23,7 @@ use Rattle.panel_tables.specs.Axes.{stateIn, readingIn, withState, withReading,
 use Rattle.panel_tables.specs.Regions.{firstWord, firstMark, axisWordsIn, marksIn, areaWordsIn, areaBytesIn, placementWordsIn, placementBytesIn}
 use Rattle.panel_tables.specs.Written.{PanelHeld, PanelStepped, panelHeldOf, ofAreas, ofPlacements}
 use Rattle.sheet_rules.specs.Steps.{axisRecord, onHeld}
-use Rattle.sheet_line.specs.Parts.{named, placeIn}
+use Rattle.sheet_faults.specs.Parts.{named, placeIn}
 use Rattle.sheet_step.specs.Regions.{axisIn, axisBack, onAxis, partsBack, onAreas, onPlacements}
 
 -- ---- what was written into parts, put back

@@ -1,2 +1,2 @@
--- What the contracts on a line of a sheet cite beside sheet_line's.
+-- What the contracts on a line of a sheet cite beside sheet_faults's.
 pub mod Regions

@@ -2,11 +2,11 @@
 use Prim.Native.Nat.{ℕ}
 use mathlib.Core.List.{List}
 use Rattle.coordinates.specs.declared.axis.Axis.{Axis}
-use Rattle.records.specs.declared.Record.{Record}
-use Rattle.records.specs.declared.PlaceEnd.{PlaceEnd}
-use Rattle.tables.specs.Runs.{withPart}
-use Rattle.tables.specs.Store.{put}
-use Rattle.tables.specs.Written.{Held}
+use Rattle.sheet_forms.specs.declared.Record.{Record}
+use Rattle.sheet_forms.specs.declared.PlaceEnd.{PlaceEnd}
+use Rattle.axis_tables.specs.Runs.{withPart}
+use Rattle.axis_tables.specs.Store.{put}
+use Rattle.axis_tables.specs.Written.{Held}
 use Rattle.panel_tables.specs.declared.Panel.{Panel}
 use Rattle.panel_tables.specs.declared.Reading.{Reading}
 use Rattle.panel_tables.specs.declared.AreaEdges.{AreaEdges}
@@ -14,7 +14,7 @@ use Rattle.panel_tables.specs.Areas.{InAreas, putArea}
 use Rattle.panel_tables.specs.Axes.{stateIn, readingIn}
 use Rattle.panel_tables.specs.Regions.{firstWord, firstMark, axisWordsIn, marksIn, areaWordsIn, areaBytesIn, placementWordsIn, placementBytesIn}
 use Rattle.sheet_rules.specs.Steps.{axisRecord}
-use Rattle.sheet_line.specs.Parts.{named, placeIn}
+use Rattle.sheet_faults.specs.Parts.{named, placeIn}
 
 -- ---- an axis
 

@@ -1,22 +1,22 @@
 // What a record does to one axis.
 ghost use mathlib.Core.Path.{_≡_};
-ghost use Rattle.tables.specs.Store.{put};
+ghost use Rattle.axis_tables.specs.Store.{put};
 ghost use Rattle.sheet_rules.specs.Lines.{bit};
 ghost use Rattle.sheet_rules.specs.Steps.{axisRecord};
-ghost use Rattle.sheet_line.specs.Parts.{named};
-use axis_records::axis::put_axis;
-use axis_records::axis::put_extra;
-use axis_records::axis::put_item;
-use axis_records::spare::put_spare;
-use axis_records::template::close_repeat;
-use axis_records::template::open_repeat;
-use axis_records::template::put_track;
-use records::Record;
-use tables::AxisPut;
-use tables::AxisReading;
-use tables::AxisState;
-use tables::name::put_name;
-use tables::state::put;
+ghost use Rattle.sheet_faults.specs.Parts.{named};
+use axis_tables::AxisPut;
+use axis_tables::AxisReading;
+use axis_tables::AxisState;
+use axis_tables::name::put_name;
+use axis_tables::state::put;
+use axis_writes::axis::put_axis;
+use axis_writes::axis::put_extra;
+use axis_writes::axis::put_item;
+use axis_writes::spare::put_spare;
+use axis_writes::template::close_repeat;
+use axis_writes::template::open_repeat;
+use axis_writes::template::put_track;
+use sheet_forms::Record;
 
 // 1 where it is so, else 0.
 fn bit(whether: bool) -> u32

@@ -1,11 +1,11 @@
 // Prints the records of three axes: M12 of document 01, its slip about negative spare sizes, and a template that is used after zero repetitions.
 ghost use Prim.Native.Nat.{_≤_};
-use grid_track::AxisTracks;
-use grid_track::GridTrack;
-use grid_track::GridTrackKind;
 use libc::STDOUT_FILENO;
 use sizing::Sizing;
 use track_counts::TrackCounts;
+use track_rules::AxisTracks;
+use track_rules::GridTrack;
+use track_rules::GridTrackKind;
 
 // The kind of a size, in the order of a sheet's words.
 fn kind_of(size: Sizing) -> u64 {

@@ -1,4 +1,6 @@
-// Layer 2: sizes of tracks, and the words that hold them.
+// Layer 2: sizes of tracks, the words that hold them, the range of each kind, and what a size measures where that is definite.
+pub mod definite;
+pub mod range;
 pub mod word;
 
 // The size of a track at one end.

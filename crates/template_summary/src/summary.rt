@@ -4,16 +4,16 @@ ghost use mathlib.Core.Bool.{cond};
 ghost use Prim.Native.Nat.{_≤_};
 ghost use lib.Dec.{eqb, leb};
 ghost use lib.ListN.{length};
-ghost use Rattle.explicit_grid.specs.Template.{withTracks, templateOf};
-ghost use Rattle.explicit_grid.specs.Summary.{meaningOf, noComponents, stepsInside, firstPart};
-ghost use Rattle.explicit_grid.specs.Steps.{outsideStep, automaticStep, stepBy, summaryStep, cutAfter};
-ghost use Rattle.explicit_grid.specs.Bounds.{OfWord, Gathered};
+ghost use Rattle.template_rules.specs.Template.{withTracks, templateOf};
+ghost use Rattle.template_rules.specs.Summary.{meaningOf, noComponents, stepsInside, firstPart};
+ghost use Rattle.template_rules.specs.Steps.{outsideStep, automaticStep, stepBy, summaryStep, cutAfter};
+ghost use Rattle.template_rules.specs.Bounds.{OfWord, Gathered};
 use crate::tracks::component_totals;
-use explicit_grid::GridTemplateComponent;
-use explicit_grid::RepetitionCount;
-use explicit_grid::TemplateSummary;
-use explicit_grid::TrackTotals;
-use explicit_grid::component::component_of;
+use template_rules::GridTemplateComponent;
+use template_rules::RepetitionCount;
+use template_rules::TemplateSummary;
+use template_rules::TrackTotals;
+use template_rules::component::component_of;
 
 // How many of these tracks lie before the automatic repeat: none once there is one.
 fn tracks_before(automatic: u64, tracks: u64) -> u64

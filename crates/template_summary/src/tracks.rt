@@ -2,16 +2,16 @@
 ghost use mathlib.Core.Path.{_≡_};
 ghost use mathlib.Core.List.{foldl};
 ghost use Rattle.sizing.specs.Words.{minMaxOf};
-ghost use Rattle.explicit_grid.specs.Template.{tracksFrom};
-ghost use Rattle.explicit_grid.specs.Space.{repeatedSpace, spaceIn};
-ghost use Rattle.explicit_grid.specs.Steps.{noTracks, ofTrack, addTotals, trackStep, totalsOf};
-ghost use Rattle.explicit_grid.specs.Bounds.{OfWord};
-use definite_sizes::definite::track_definite_value;
-use explicit_grid::GridTemplateComponent;
-use explicit_grid::RepetitionCount;
-use explicit_grid::TrackTotals;
-use explicit_grid::component::word_at;
+ghost use Rattle.template_rules.specs.Template.{tracksFrom};
+ghost use Rattle.template_rules.specs.Space.{repeatedSpace, spaceIn};
+ghost use Rattle.template_rules.specs.Steps.{noTracks, ofTrack, addTotals, trackStep, totalsOf};
+ghost use Rattle.template_rules.specs.Bounds.{OfWord};
 use sizing::DefiniteSize;
+use sizing::definite::track_definite_value;
+use template_rules::GridTemplateComponent;
+use template_rules::RepetitionCount;
+use template_rules::TrackTotals;
+use template_rules::component::word_at;
 
 // Whether a track has a fixed kind, and what it measures, from one decoding: it has a definite size exactly where its kind is fixed.
 fn track_totals(min: u64, max: u64, inner: f32) -> TrackTotals

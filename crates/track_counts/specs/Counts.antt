@@ -5,9 +5,9 @@ use lib.Dec.{ltb}
 use lib.IntN.{ℤ, pos, negsuc, _+ℤ_, _-ℤ_}
 use Rattle.coordinates.specs.Refusals.{noRefusal, refusalOf, count}
 use Rattle.coordinates.specs.Lines.{outside}
-use Rattle.grid_lines.specs.Answers.{lineAnswer, refusedLine, countAnswer, refusedCount}
-use Rattle.grid_lines.specs.declared.line.OriginZeroAnswer.{OriginZeroAnswer}
-use Rattle.grid_lines.specs.declared.line.CountAnswer.{CountAnswer}
+use Rattle.coordinates.specs.Answers.{lineAnswer, refusedLine, countAnswer, refusedCount}
+use Rattle.coordinates.specs.declared.line.OriginZeroAnswer.{OriginZeroAnswer}
+use Rattle.coordinates.specs.declared.line.CountAnswer.{CountAnswer}
 use Rattle.track_counts.specs.declared.counts.TrackCounts.{TrackCounts}
 use Rattle.track_counts.specs.declared.counts.TrackAnswer.{TrackAnswer}
 use Rattle.track_counts.specs.declared.counts.IndexAnswer.{IndexAnswer}

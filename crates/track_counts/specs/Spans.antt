@@ -4,8 +4,8 @@ use mathlib.Core.Bool.{Bool, true, false, cond}
 use lib.IntN.{ℤ, pos, negsuc, _-ℤ_}
 use Rattle.coordinates.specs.Refusals.{count}
 use Rattle.coordinates.specs.Lines.{outside}
-use Rattle.grid_lines.specs.Answers.{countAnswer, refusedCount}
-use Rattle.grid_lines.specs.declared.line.CountAnswer.{CountAnswer}
+use Rattle.coordinates.specs.Answers.{countAnswer, refusedCount}
+use Rattle.coordinates.specs.declared.line.CountAnswer.{CountAnswer}
 
 -- the larger of a number and 0
 abbrev pub positivePart : ℤ → ℕ

@@ -3,16 +3,16 @@ ghost use mathlib.Core.Path.{_≡_};
 ghost use Prim.Native.Nat.{_≤_};
 ghost use Rattle.coordinates.specs.Refusals.{count};
 ghost use Rattle.coordinates.specs.Signed.{integerOf, sixteenBits};
-ghost use Rattle.grid_lines.specs.Answers.{lineAnswer, refusedLine};
+ghost use Rattle.coordinates.specs.Answers.{lineAnswer, refusedLine};
 ghost use Rattle.track_counts.specs.Counts.{tooMany, lengthAnswer, startAnswer, endAnswer, nextTrackAnswer, previousLineAnswer, placeAt, refusedIndex, vecIndexAnswer, trackAnswer, refusedTrack};
+use coordinates::line;
+use coordinates::line::CountAnswer;
+use coordinates::line::OriginZeroAnswer;
+use coordinates::line::OriginZeroLine;
 use coordinates::refusal;
 use coordinates::refusal::Refusal;
 use coordinates::signed;
 use coordinates::signed::Signed;
-use grid_lines::line;
-use grid_lines::line::CountAnswer;
-use grid_lines::line::OriginZeroAnswer;
-use grid_lines::line::OriginZeroLine;
 
 // How many tracks lie before the explicit grid, in it, and after it.
 pub struct TrackCounts {

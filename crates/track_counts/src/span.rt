@@ -4,12 +4,12 @@ ghost use Prim.Native.Nat.{_-_};
 ghost use Rattle.coordinates.specs.Signed.{integerOf, Small};
 ghost use Rattle.track_counts.specs.Spans.{positivePart, spanAnswer};
 ghost use lib.IntN.{_-ℤ_};
+use coordinates::line;
+use coordinates::line::CountAnswer;
+use coordinates::line::OriginZeroLine;
 use coordinates::refusal;
 use coordinates::signed;
 use coordinates::signed::Signed;
-use grid_lines::line;
-use grid_lines::line::CountAnswer;
-use grid_lines::line::OriginZeroLine;
 
 // The lines at which an item starts and ends.
 pub struct OriginZeroLines {

@@ -11,22 +11,22 @@ use lib.ListN.{length, getD, set, drop, replicate, length-append, length-drop, L
 use lib.Seq.{drop-cons, set-at}
 use borrow.Author.Tests.{ltb-false, lt-ltb, le-ltb, eq-eqb, ne-eqb}
 use Rattle.sizing.specs.declared.MinMax.{MinMax}
-use Rattle.explicit_grid.specs.Template.{Component, templateOf}
-use Rattle.grid_track.specs.declared.GridTrack.{GridTrack}
-use Rattle.grid_track.specs.declared.AxisTracks.{AxisTracks}
-use Rattle.grid_track.specs.declared.Cursor.{Cursor}
-use Rattle.grid_track.specs.declared.Plan.{Plan}
-use Rattle.grid_track.specs.Tracks.{zeroGridTrack}
-use Rattle.grid_track.specs.Written.{writtenOut}
-use Rattle.grid_track.specs.Records.{listed, negativeOf, explicitOf, tracksIn, recordsIn, allTracks, noTrack, itemAt, recordIn, recordsOf}
-use Rattle.grid_track.specs.Steps.{totalsOf, wordTotals, cursorOf, nextOf, cursorAt, planOf, recordOf}
-use Rattle.grid_track.specs.Lines.{Stands}
-use Rattle.grid_track.proofs.Lists.{lt-or-ge, length-listed, listed-same}
-use Rattle.grid_track.proofs.Words.{totals-words}
-use Rattle.grid_track.proofs.Cursors.{next-cursor}
-use Rattle.grid_track.proofs.RecordList.{record-same, records-length, record-of}
-use Rattle.grid_track.proofs.Lines.{line-record}
-use Rattle.grid_track.specs.declared.TrackWalk.{TrackWalk}
+use Rattle.template_rules.specs.Template.{Component, templateOf}
+use Rattle.track_rules.specs.declared.GridTrack.{GridTrack}
+use Rattle.track_rules.specs.declared.AxisTracks.{AxisTracks}
+use Rattle.track_rules.specs.declared.Cursor.{Cursor}
+use Rattle.track_rules.specs.declared.Plan.{Plan}
+use Rattle.track_rules.specs.Tracks.{zeroGridTrack}
+use Rattle.track_rules.specs.Written.{writtenOut}
+use Rattle.track_rules.specs.Records.{listed, negativeOf, explicitOf, tracksIn, recordsIn, allTracks, noTrack, itemAt, recordIn, recordsOf}
+use Rattle.track_rules.specs.Steps.{totalsOf, wordTotals, cursorOf, nextOf, cursorAt, planOf, recordOf}
+use Rattle.track_rules.specs.Lines.{Stands}
+use Rattle.track_rules.proofs.Lists.{lt-or-ge, length-listed, listed-same}
+use Rattle.track_rules.proofs.Words.{totals-words}
+use Rattle.track_rules.proofs.Cursors.{next-cursor}
+use Rattle.track_rules.proofs.RecordList.{record-same, records-length, record-of}
+use Rattle.track_rules.proofs.Lines.{line-record}
+use Rattle.track_rules.specs.declared.TrackWalk.{TrackWalk}
 use Rattle.track_run.specs.Run.{runAfter, zeroRecords}
 use Rattle.track_run.specs.Steps.{fillCount, filledTo, stateAt, stateRecord, advanceOf}
 

@@ -6,11 +6,11 @@ use lib.Dec.{ltb}
 use lib.ListN.{length, drop, replicate}
 use Rattle.coordinates.specs.Refusals.{noRefusal, refusalOf, short}
 use Rattle.sizing.specs.declared.MinMax.{MinMax}
-use Rattle.explicit_grid.specs.Template.{Component}
-use Rattle.grid_track.specs.declared.GridTrack.{GridTrack}
-use Rattle.grid_track.specs.declared.AxisTracks.{AxisTracks}
-use Rattle.grid_track.specs.Tracks.{zeroGridTrack}
-use Rattle.grid_track.specs.Records.{tracksIn, recordsIn, recordsOf}
+use Rattle.template_rules.specs.Template.{Component}
+use Rattle.track_rules.specs.declared.GridTrack.{GridTrack}
+use Rattle.track_rules.specs.declared.AxisTracks.{AxisTracks}
+use Rattle.track_rules.specs.Tracks.{zeroGridTrack}
+use Rattle.track_rules.specs.Records.{tracksIn, recordsIn, recordsOf}
 use Rattle.track_run.specs.declared.FillAnswer.{FillAnswer}
 
 -- a refused answer: 10, line 0 and count 0

@@ -5,13 +5,13 @@ use mathlib.Core.List.{List, _++_}
 use lib.Dec.{ltb, eqb}
 use lib.ListN.{drop}
 use Rattle.sizing.specs.declared.MinMax.{MinMax}
-use Rattle.explicit_grid.specs.Template.{Component}
-use Rattle.grid_track.specs.declared.GridTrack.{GridTrack}
-use Rattle.grid_track.specs.declared.AxisTracks.{AxisTracks}
-use Rattle.grid_track.specs.declared.Cursor.{Cursor}
-use Rattle.grid_track.specs.Records.{listed, negativeOf, tracksIn, recordsIn}
-use Rattle.grid_track.specs.Steps.{totalsOf, cursorOf, nextOf, cursorAt, planOf, recordWith, recordOf}
-use Rattle.grid_track.specs.declared.TrackWalk.{TrackWalk}
+use Rattle.template_rules.specs.Template.{Component}
+use Rattle.track_rules.specs.declared.GridTrack.{GridTrack}
+use Rattle.track_rules.specs.declared.AxisTracks.{AxisTracks}
+use Rattle.track_rules.specs.declared.Cursor.{Cursor}
+use Rattle.track_rules.specs.Records.{listed, negativeOf, tracksIn, recordsIn}
+use Rattle.track_rules.specs.Steps.{totalsOf, cursorOf, nextOf, cursorAt, planOf, recordWith, recordOf}
+use Rattle.track_rules.specs.declared.TrackWalk.{TrackWalk}
 
 -- how many records are written
 unfoldable pub fillCount : AxisTracks → ℕ → ℕ → ℕ

@@ -2,16 +2,16 @@
 ghost use mathlib.Core.Path.{_≡_};
 ghost use mathlib.Core.List.{_++_};
 ghost use lib.ListN.{length};
-ghost use Rattle.explicit_grid.specs.Template.{templateOf};
-ghost use Rattle.grid_track.specs.Written.{sparesOf};
+ghost use Rattle.template_rules.specs.Template.{templateOf};
+ghost use Rattle.track_rules.specs.Written.{sparesOf};
 ghost use Rattle.track_run.specs.Run.{fillAnswerOf, runAfter};
 
 pub mod lender;
 pub mod state;
 
 use coordinates::Refusal;
-use grid_track::AxisTracks;
-use grid_track::GridTrack;
+use track_rules::AxisTracks;
+use track_rules::GridTrack;
 
 // How many records were written, or a refusal and 0.
 pub struct FillAnswer {

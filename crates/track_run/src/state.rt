@@ -1,21 +1,21 @@
 // What the filling loop carries, and the functions that it is made of.
 ghost use mathlib.Core.Path.{_≡_};
-ghost use Rattle.explicit_grid.specs.Template.{templateOf};
-ghost use Rattle.grid_track.specs.Written.{sparesOf};
-ghost use Rattle.grid_track.specs.Records.{itemAt};
-ghost use Rattle.grid_track.specs.Steps.{wordTotals};
+ghost use Rattle.template_rules.specs.Template.{templateOf};
+ghost use Rattle.track_rules.specs.Written.{sparesOf};
+ghost use Rattle.track_rules.specs.Records.{itemAt};
+ghost use Rattle.track_rules.specs.Steps.{wordTotals};
 ghost use Rattle.track_run.specs.Run.{refusedFill, fillAnswerOf};
 ghost use Rattle.track_run.specs.Steps.{fillCount, stateAt, stateRecord, advanceOf};
 use crate::FillAnswer;
-use grid_track::AxisTracks;
-use grid_track::GridTrack;
-use grid_track::TrackWalk;
+use track_rules::AxisTracks;
+use track_rules::GridTrack;
+use track_rules::TrackWalk;
 
 // How many records are written: none where the run or the items are too short.
 pub fn fill_count(lent: usize, items: usize, axis: AxisTracks) -> usize
     ensures { λ r. ⌜ r ≡ fillCount axis lent items ⌝ }
 {
-    let tracks = written_tracks::plan::track_count(axis) as usize;
+    let tracks = track_record::plan::track_count(axis) as usize;
     if lent < 2 * tracks + 1 {
         return 0;
     }
@@ -37,7 +37,7 @@ fn refused() -> FillAnswer
 pub fn fill_answer(lent: usize, items: usize, axis: AxisTracks) -> FillAnswer
     ensures { λ r. ⌜ r ≡ fillAnswerOf axis lent items ⌝ }
 {
-    let tracks = written_tracks::plan::track_count(axis);
+    let tracks = track_record::plan::track_count(axis);
     if lent < (2 * tracks + 1) as usize {
         return refused();
     }
@@ -60,8 +60,8 @@ pub fn begin_at(
 ) -> TrackWalk
     ensures { λ r. ⌜ r ≡ stateAt axis (templateOf (now (components .entry)) (now (minimums .entry)) (now (maximums .entry))) (itemAt (now (items .entry))) index ⌝ }
 {
-    let plan = written_tracks::plan::make_plan(components, minimums, maximums, items, axis);
-    let cursor = track_rule::rule::cursor_at(components, axis, index as u64);
+    let plan = track_record::plan::make_plan(components, minimums, maximums, items, axis);
+    let cursor = track_record::rule::cursor_at(components, axis, index as u64);
     TrackWalk { axis, plan, cursor }
 }
 
@@ -91,7 +91,7 @@ pub fn record_at(
 ) -> GridTrack
     ensures { λ r. ⌜ r ≡ stateRecord (templateOf (now (components .entry)) (now (minimums .entry)) (now (maximums .entry))) (sparesOf (now («spare_minimums» .entry)) (now («spare_maximums» .entry))) (itemAt (now (items .entry))) at index ⌝ }
 {
-    track_rule::rule::record_with(
+    track_record::rule::record_with(
         components,
         minimums,
         maximums,
@@ -117,7 +117,7 @@ pub fn advance(components: &[u64], at: TrackWalk, index: usize) -> TrackWalk
     }
     let plan = at.plan;
     let cursor = at.cursor;
-    let next = written_tracks::cursor::next(components, axis.repetitions, cursor);
+    let next = track_record::cursor::next(components, axis.repetitions, cursor);
     TrackWalk {
         axis,
         plan,

@@ -8,7 +8,7 @@ use crate::input::between;
 use crate::input::line_at;
 use crate::input::number_of;
 use coordinates::Axis;
-use panel_entry::entering::enter_name;
+use panel_names::entering::enter_name;
 use panel_rules::EntryAnswer;
 use panel_tables::Panel;
 use panel_tables::region::PANEL_WORDS;

@@ -3,13 +3,13 @@
 use crate::input::after_line;
 use crate::input::line_at;
 use crate::input::number_of;
+use coordinates::GridLine;
+use coordinates::OriginZeroLine;
+use coordinates::line::CountAnswer;
 use coordinates::signed::joined;
 use coordinates::signed::split;
-use grid_lines::GridLine;
-use grid_lines::OriginZeroLine;
-use grid_lines::line::CountAnswer;
-use numeral::Index;
 use std::num::wrapping_add_u32;
+use text::Index;
 
 // Rows that were compared: how many differ, and where the next line starts.
 pub struct Rows {
@@ -19,7 +19,7 @@ pub struct Rows {
 
 // The whole number that a field writes, 0 where it writes none.
 fn whole_of(field: &[u8]) -> i16 {
-    match numeral::read_index(field) {
+    match text::read_index(field) {
         Index::Unread => 0,
         Index::Outside => 0,
         Index::Value(n) => joined(split(n)),

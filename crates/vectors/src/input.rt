@@ -1,7 +1,7 @@
 // The text of the lists: lines, their first words, and parts that are as long as a number says.
 ghost use Prim.Native.Nat.{_≤_};
 ghost use lib.ListN.{length};
-use numeral::Count;
+use text::Count;
 
 // The first words of lines, by number.
 pub const STORES: usize = 1;
@@ -52,7 +52,7 @@ pub fn further(input: &[u8], at: usize, count: u32) -> usize
 
 // The number that a field writes, 0 where it writes none.
 pub fn number_of(field: &[u8]) -> u32 {
-    match numeral::read_count(field, 0, 4294967295) {
+    match text::read_count(field, 0, 4294967295) {
         Count::Unread => 0,
         Count::Outside => 0,
         Count::Value(n) => n,

@@ -3,8 +3,8 @@ ghost use Prim.Native.Nat.{_≤_};
 use crate::expected::seen_number;
 use crate::expected::seen_part;
 use coordinates::Axis;
-use panel_grid::size::line_count;
-use panel_naming::naming::line_name;
+use panel_calls::size::line_count;
+use panel_names::naming::line_name;
 use panel_tables::Panel;
 use panel_tables::region::PANEL_WORDS;
 

@@ -4,8 +4,8 @@ use mathlib.Core.List.{List}
 use Rattle.text.specs.Split.{split}
 use Rattle.panel_tables.specs.Regions.{areaWordsIn, areaBytesIn}
 use Rattle.panel_tables.specs.Written.{PanelHeld, panelHeldOf}
-use Rattle.sheet_line.specs.Parts.{beforeOf}
-use Rattle.sheet_line.proofs.Parts.{line-by}
+use Rattle.sheet_faults.specs.Parts.{beforeOf}
+use Rattle.sheet_faults.proofs.Parts.{line-by}
 use borrow.Author.Needs.{needs}
 use Rattle.sheet_step.proofs.read_line.Statement.{statement}
 use Rattle.sheet_step.proofs.read_line.Tie as tie

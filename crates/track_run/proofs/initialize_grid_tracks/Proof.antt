@@ -49,23 +49,23 @@ use denote.Triple.Clauses.{ensured, lasts}
 use denote.Triple.Walked.{says, Stays, stay-slice, stay-none, stay-none-slice, walkOf, goes-slice, goes-none, goes-none-slice, AllGo, Walks, ends-at, walked, walk-meets}
 use denote.Exit.{yes}
 use Rattle.sizing.specs.declared.MinMax.{MinMax}
-use Rattle.explicit_grid.specs.Template.{Component, templateOf}
-use Rattle.grid_track.specs.declared.GridTrack.{GridTrack}
-use Rattle.grid_track.specs.declared.AxisTracks.{AxisTracks}
-use Rattle.grid_track.specs.Written.{sparesOf}
-use Rattle.grid_track.specs.Records.{itemAt}
-use Rattle.grid_track.specs.Steps.{wordTotals, recordOf}
+use Rattle.template_rules.specs.Template.{Component, templateOf}
+use Rattle.track_rules.specs.declared.GridTrack.{GridTrack}
+use Rattle.track_rules.specs.declared.AxisTracks.{AxisTracks}
+use Rattle.track_rules.specs.Written.{sparesOf}
+use Rattle.track_rules.specs.Records.{itemAt}
+use Rattle.track_rules.specs.Steps.{wordTotals, recordOf}
 use Rattle.track_run.specs.declared.FillAnswer.{FillAnswer}
-use Rattle.grid_track.specs.declared.TrackWalk.{TrackWalk}
+use Rattle.track_rules.specs.declared.TrackWalk.{TrackWalk}
 use Rattle.track_run.specs.Run.{fillAnswerOf}
 use Rattle.track_run.specs.Steps.{fillCount, filledTo, stateAt, stateRecord, advanceOf}
 use Rattle.track_run.proofs.Filling.{filled-length, filled-next, filled-run, count-within, state-record, advanced}
-use Rattle.grid_track.proofs.GridTrack as T
-use Rattle.grid_track.proofs.GridTrack.Laws as T′
-use Rattle.grid_track.proofs.AxisTracks as P
-use Rattle.grid_track.proofs.AxisTracks.Laws as P′
-use Rattle.grid_track.proofs.TrackWalk as G
-use Rattle.grid_track.proofs.TrackWalk.Laws as G′
+use Rattle.track_rules.proofs.GridTrack as T
+use Rattle.track_rules.proofs.GridTrack.Laws as T′
+use Rattle.track_rules.proofs.AxisTracks as P
+use Rattle.track_rules.proofs.AxisTracks.Laws as P′
+use Rattle.track_rules.proofs.TrackWalk as G
+use Rattle.track_rules.proofs.TrackWalk.Laws as G′
 use Rattle.track_run.proofs.FillAnswer as F
 use Rattle.track_run.proofs.FillAnswer.Laws as F′
 use Rattle.track_run.proofs.state.record_at as record-at

@@ -3,11 +3,11 @@ use Prim.Native.Nat.{ℕ, _≤_}
 use lib.Ieee.{Float}
 use Rattle.sizing.specs.Definite.{gapOf}
 use Rattle.sizing.specs.declared.Sizing.{Sizing}
-use Rattle.explicit_grid.specs.Repetitions.{fittingOf, heldOf, repetitionsOf}
-use Rattle.explicit_grid.specs.declared.InnerSize.{InnerSize}
-use Rattle.explicit_grid.specs.declared.InnerSize.the-variants.{Definite, Indefinite}
-use Rattle.explicit_grid.specs.declared.AutoRepeatStrategy.{AutoRepeatStrategy}
-use Rattle.explicit_grid.specs.declared.TemplateSummary.{TemplateSummary}
+use Rattle.template_rules.specs.Repetitions.{fittingOf, heldOf, repetitionsOf}
+use Rattle.template_rules.specs.declared.InnerSize.{InnerSize}
+use Rattle.template_rules.specs.declared.InnerSize.the-variants.{Definite, Indefinite}
+use Rattle.template_rules.specs.declared.AutoRepeatStrategy.{AutoRepeatStrategy}
+use Rattle.template_rules.specs.declared.TemplateSummary.{TemplateSummary}
 use borrow.Author.Needs.{needs}
 use Rattle.explicit_size.proofs.repetitions.automatic_repetitions.Statement.{statement}
 use Rattle.explicit_size.proofs.repetitions.automatic_repetitions.Tie as tie

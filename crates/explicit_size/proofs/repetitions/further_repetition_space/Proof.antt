@@ -1,4 +1,4 @@
-use Rattle.explicit_grid.proofs.Rounding.{in-float}
+use Rattle.template_rules.proofs.Rounding.{in-float}
 use native.Mathlib.Omega.{arith}
 use borrow.Author.Needs.{needs}
 use Rattle.explicit_size.proofs.repetitions.further_repetition_space.Statement.{statement}

@@ -2,8 +2,8 @@ use mathlib.Core.Path.{_≡_}
 use Prim.Native.Nat.{ℕ, _<_, _≤_, min, max}
 use native.Mathlib.Omega.{arith}
 use borrow.Author.Tests.{le-leb, lt-leb}
-use Rattle.explicit_grid.specs.Repetitions.{heldOf, room}
-use Rattle.explicit_grid.proofs.Held.{room-some, room-most}
+use Rattle.template_rules.specs.Repetitions.{heldOf, room}
+use Rattle.template_rules.proofs.Held.{room-some, room-most}
 use borrow.Author.Needs.{needs}
 use Rattle.explicit_size.proofs.repetitions.held_repetitions.Statement.{statement}
 use Rattle.explicit_size.proofs.repetitions.held_repetitions.Tie as tie

@@ -2,9 +2,9 @@ use mathlib.Core.Path.{_≡_}
 use mathlib.Core.Bool.{true, false}
 use Prim.Native.Nat.{ℕ}
 use lib.Ieee.{Float, binary32, lt, sub, div}
-use Rattle.explicit_grid.specs.Repetitions.{firstSpace, furtherSpace, wholeOf, oneMore, fittingOf}
-use Rattle.explicit_grid.specs.declared.AutoRepeatStrategy.{AutoRepeatStrategy}
-use Rattle.explicit_grid.specs.declared.TemplateSummary.{TemplateSummary}
+use Rattle.template_rules.specs.Repetitions.{firstSpace, furtherSpace, wholeOf, oneMore, fittingOf}
+use Rattle.template_rules.specs.declared.AutoRepeatStrategy.{AutoRepeatStrategy}
+use Rattle.template_rules.specs.declared.TemplateSummary.{TemplateSummary}
 use borrow.Author.Needs.{needs}
 use Rattle.explicit_size.proofs.repetitions.repetitions_that_fit.Statement.{statement}
 use Rattle.explicit_size.proofs.repetitions.repetitions_that_fit.Tie as tie

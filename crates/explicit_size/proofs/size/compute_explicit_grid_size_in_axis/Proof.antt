@@ -9,15 +9,15 @@ use lib.Ieee.{Float}
 use lib.ListN.{length, getD, length-map}
 use Rattle.coordinates.specs.Refusals.{crowded}
 use Rattle.sizing.specs.declared.Sizing.{Sizing}
-use Rattle.explicit_grid.specs.Template.{componentOf, withTracks, templateOf}
-use Rattle.explicit_grid.specs.Summary.{meaningOf, noComponents, stepsIn, firstPart}
-use Rattle.explicit_grid.specs.Explicit.{innerValue, templateSizeOf, refusedSize, withAreas, explicitSizeOf}
-use Rattle.explicit_grid.specs.declared.InnerSize.{InnerSize}
-use Rattle.explicit_grid.specs.declared.AutoRepeatStrategy.{AutoRepeatStrategy}
-use Rattle.explicit_grid.specs.declared.ExplicitSize.{ExplicitSize}
-use Rattle.explicit_grid.specs.declared.TemplateSize.{TemplateSize}
-use Rattle.explicit_grid.specs.declared.TemplateSummary.{TemplateSummary}
-use Rattle.explicit_grid.proofs.FirstPart.{first-part-all, most-steps}
+use Rattle.template_rules.specs.Template.{componentOf, withTracks, templateOf}
+use Rattle.template_rules.specs.Summary.{meaningOf, noComponents, stepsIn, firstPart}
+use Rattle.template_rules.specs.Explicit.{innerValue, templateSizeOf, refusedSize, withAreas, explicitSizeOf}
+use Rattle.template_rules.specs.declared.InnerSize.{InnerSize}
+use Rattle.template_rules.specs.declared.AutoRepeatStrategy.{AutoRepeatStrategy}
+use Rattle.template_rules.specs.declared.ExplicitSize.{ExplicitSize}
+use Rattle.template_rules.specs.declared.TemplateSize.{TemplateSize}
+use Rattle.template_rules.specs.declared.TemplateSummary.{TemplateSummary}
+use Rattle.template_rules.proofs.FirstPart.{first-part-all, most-steps}
 use borrow.Author.Needs.{needs}
 use Rattle.explicit_size.proofs.size.compute_explicit_grid_size_in_axis.Statement.{statement}
 use Rattle.explicit_size.proofs.size.compute_explicit_grid_size_in_axis.Tie as tie

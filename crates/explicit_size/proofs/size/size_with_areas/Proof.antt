@@ -3,9 +3,9 @@ use Prim.Native.Nat.{ℕ, _<_, _≤_, max}
 use borrow.Author.Tests.{le-leb, lt-leb}
 use Rattle.coordinates.specs.Refusals.{noRefusal, count}
 use Rattle.coordinates.specs.declared.refusal.Refusal.{Refusal}
-use Rattle.explicit_grid.specs.Explicit.{refusedSize, withAreas}
-use Rattle.explicit_grid.specs.declared.ExplicitSize.{ExplicitSize}
-use Rattle.explicit_grid.specs.declared.TemplateSize.{TemplateSize}
+use Rattle.template_rules.specs.Explicit.{refusedSize, withAreas}
+use Rattle.template_rules.specs.declared.ExplicitSize.{ExplicitSize}
+use Rattle.template_rules.specs.declared.TemplateSize.{TemplateSize}
 use borrow.Author.Needs.{needs}
 use Rattle.explicit_size.proofs.size.size_with_areas.Statement.{statement}
 use Rattle.explicit_size.proofs.size.size_with_areas.Tie as tie

@@ -4,15 +4,15 @@ use Prim.Native.Nat.{ℕ, _+_, _*_, _≤_}
 use native.Mathlib.Nat.{mul-le-mul}
 use native.Mathlib.Omega.{arith}
 use borrow.Author.Tests.{eq-eqb, ne-eqb, not-true}
-use Rattle.explicit_grid.proofs.Tests.{and-parts, above}
+use Rattle.template_rules.proofs.Tests.{and-parts, above}
 use mir.Val.{Fits}
 use mir.Syntax.{w64}
 use Rattle.sizing.specs.declared.Sizing.{Sizing}
-use Rattle.explicit_grid.specs.Repetitions.{repetitionsOf}
-use Rattle.explicit_grid.specs.Explicit.{validOf, sizeOf, repeatedSize, templateSizeOf}
-use Rattle.explicit_grid.specs.declared.InnerSize.{InnerSize}
-use Rattle.explicit_grid.specs.declared.AutoRepeatStrategy.{AutoRepeatStrategy}
-use Rattle.explicit_grid.specs.declared.TemplateSummary.{TemplateSummary}
+use Rattle.template_rules.specs.Repetitions.{repetitionsOf}
+use Rattle.template_rules.specs.Explicit.{validOf, sizeOf, repeatedSize, templateSizeOf}
+use Rattle.template_rules.specs.declared.InnerSize.{InnerSize}
+use Rattle.template_rules.specs.declared.AutoRepeatStrategy.{AutoRepeatStrategy}
+use Rattle.template_rules.specs.declared.TemplateSummary.{TemplateSummary}
 use borrow.Author.Needs.{needs}
 use Rattle.explicit_size.proofs.size.template_size.Statement.{statement}
 use Rattle.explicit_size.proofs.size.template_size.Tie as tie

@@ -1,6 +1,6 @@
 use borrow.Author.Tests.{lt-ltb, le-ltb, le-leb, lt-leb, not-true, not-false}
 use mathlib.Core.Path.{sym, _∙_}
-use Rattle.name_store.specs.Enter.{entryRefusal}
+use Rattle.name_entries.specs.Enter.{entryRefusal}
 use borrow.Author.Needs.{needs}
 use Rattle.name_entries.proofs.enter.entry_refusal.Statement.{statement}
 use Rattle.name_entries.proofs.enter.entry_refusal.Tie as tie

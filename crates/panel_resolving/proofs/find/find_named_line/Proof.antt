@@ -3,8 +3,8 @@ use mathlib.Core.Path.{_≡_, sym, _∙_}
 use mathlib.Core.Bool.{true, false, cond}
 use native.Mathlib.Omega.{arith}
 use borrow.Author.Needs.{needs}
-use Rattle.line_search.proofs.Suffixes.{never}
-use Rattle.named.specs.Questions.{foundBy}
+use Rattle.name_lines.proofs.Suffixes.{never}
+use Rattle.name_resolver.specs.Questions.{foundBy}
 use Rattle.panel_tables.specs.Regions.{areaBytesIn, areaWordsIn}
 use Rattle.panel_resolving.specs.Names.{bearsBy}
 use Rattle.panel_resolving.specs.Asking.{asksOwn, foundFrom}

@@ -1,6 +1,6 @@
 use mathlib.Core.Path.{ap, _∙_}
 use lib.Seq.{sets}
-use Rattle.panel_numbers.specs.declared.PlacementNumbers.{PlacementNumbers}
+use Rattle.library_numbers.specs.declared.PlacementNumbers.{PlacementNumbers}
 use Rattle.panel_resolving.specs.Placements.{numbersOf}
 use Rattle.panel_resolving.proofs.Numbers.{small-numbers}
 use borrow.Author.Needs.{needs}

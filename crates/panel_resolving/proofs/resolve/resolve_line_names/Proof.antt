@@ -4,9 +4,9 @@ use mathlib.Core.Bool.{true, cond}
 use native.Mathlib.Omega.{arith}
 use borrow.Author.Tests.{le-leb, lt-leb}
 use borrow.Author.Needs.{needs}
-use Rattle.line_search.proofs.Suffixes.{never}
-use Rattle.named.specs.Questions.{answered, answeredLine}
-use Rattle.named.specs.Steps.{firstEnd, questionOf}
+use Rattle.name_lines.proofs.Suffixes.{never}
+use Rattle.name_resolver.specs.Questions.{answered, answeredLine}
+use Rattle.name_resolver.specs.Steps.{firstEnd, questionOf}
 use Rattle.panel_tables.specs.Regions.{areaBytesIn, areaWordsIn, placementBytesIn}
 use Rattle.panel_resolving.specs.Names.{bearsBy, resolutionBy}
 use Rattle.panel_resolving.proofs.resolve.resolve_line_names.Statement.{statement}

@@ -1,6 +1,6 @@
 use mathlib.Core.Path.{sym, _∙_}
 use borrow.Author.Tests.{not-true}
-use Rattle.nth_line.specs.Sought.{lineSought}
+use Rattle.name_search.specs.Sought.{lineSought}
 use Rattle.panel_resolving.specs.Names.{soughtBy}
 use Rattle.panel_resolving.proofs.Sought.{part-listed, has-when, own-sought, own-ascend, alone-sought}
 use borrow.Author.Needs.{needs}

@@ -7,10 +7,10 @@ use borrow.Author.Tests.{not-true, not-false}
 use borrow.Author.Needs.{needs}
 use lib.ListN.{length}
 use lib.Seq.{length-sets}
-use Rattle.line_search.proofs.Suffixes.{never}
+use Rattle.name_lines.proofs.Suffixes.{never}
 use Rattle.panel_tables.specs.Placements.{placementAt}
 use Rattle.panel_rules.specs.Placing.{linePlacement}
-use Rattle.panel_numbers.specs.Answers.{placementNumbers}
+use Rattle.library_numbers.specs.Answers.{placementNumbers}
 use Rattle.panel_tables.specs.Regions.{areaBytesIn, areaWordsIn, placementBytesIn, placementWordsIn}
 use Rattle.panel_resolving.specs.Names.{bearsBy, resolutionBy}
 use Rattle.panel_resolving.specs.Placements.{numbersOf}

@@ -4,7 +4,7 @@ use borrow.Author.Needs.{needs}
 use mathlib.Core.Path.{_≡_, refl, sym, _∙_}
 use lib.ListN.{length, drop}
 use lib.Seq.{sets}
-use Rattle.name_store.proofs.Sets.{sets-next, sets-end}
+use Rattle.name_entries.proofs.Sets.{sets-next, sets-end}
 use Rattle.panel_text.proofs.fields.put_word.Statement.{statement}
 use Rattle.panel_text.proofs.fields.put_word.Tie as tie
 

@@ -6,7 +6,7 @@ use mathlib.Core.Path.{_≡_, refl, sym, ap, _∙_}
 use lib.ListN.{length, drop}
 use mathlib.Core.List.{List}
 use lib.Seq.{sets}
-use Rattle.tables.proofs.Sets.{sets-next, sets-end}
+use Rattle.axis_tables.proofs.Sets.{sets-next, sets-end}
 use Rattle.sheet_end.proofs.written.copy_words.Statement.{statement}
 use Rattle.sheet_end.proofs.written.copy_words.Tie as tie
 

@@ -1,4 +1,4 @@
-use Rattle.template_names.specs.Writing.{writtenEntries}
+use Rattle.name_template.specs.Writing.{writtenEntries}
 use Rattle.sheet_end.specs.End.{componentsIn, namesIn}
 use Rattle.sheet_end.proofs.Puts.{none-put, table-length, table-part}
 use mathlib.Core.Path.{sym, ap, _∙_}

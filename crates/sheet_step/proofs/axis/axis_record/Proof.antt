@@ -1,6 +1,6 @@
 use mathlib.Core.Path.{ap}
-use Rattle.tables.specs.Store.{put}
-use Rattle.tables.specs.Written.{Held}
+use Rattle.axis_tables.specs.Store.{put}
+use Rattle.axis_tables.specs.Written.{Held}
 use Rattle.sheet_rules.specs.Steps.{inWords, inMarks, inNames}
 use borrow.Author.Needs.{needs}
 use Rattle.sheet_step.proofs.axis.axis_record.Statement.{statement}

@@ -3,7 +3,7 @@ use mathlib.Core.Path.{refl}
 use mathlib.Core.List.{List}
 use native.Mathlib.Omega.{arith}
 use Rattle.panel_tables.specs.Regions.{placementWordsIn, placementBytesIn}
-use Rattle.sheet_line.specs.Parts.{placeIn}
+use Rattle.sheet_faults.specs.Parts.{placeIn}
 use Rattle.sheet_step.specs.Regions.{onPlacements}
 use Rattle.sheet_step.proofs.Back.{parts-put}
 use borrow.Author.Needs.{needs}

@@ -2,8 +2,8 @@ use native.Mathlib.Omega.{arith}
 use mathlib.Core.Path.{sym, _∙_}
 use Rattle.text.specs.Places.{partAt}
 use Rattle.panel_tables.specs.Written.{PanelHeld, panelHeldOf}
-use Rattle.sheet_line.specs.declared.Part.the-variants.{Nothing, Columns, Rows}
-use Rattle.sheet_line.proofs.Parts.{by-part}
+use Rattle.sheet_faults.specs.declared.Part.the-variants.{Nothing, Columns, Rows}
+use Rattle.sheet_faults.proofs.Parts.{by-part}
 use Rattle.sheet_step.proofs.Back.{columns-back, rows-back, areas-back, placements-back}
 use borrow.Author.Needs.{needs}
 use Rattle.sheet_step.proofs.panel.panel_record.Statement.{statement}

@@ -2,12 +2,12 @@ use mathlib.Core.Path.{_≡_}
 use mathlib.Core.List.{List}
 use Prim.Native.Nat.{ℕ}
 use lib.Ieee.{Float}
-use Rattle.explicit_grid.specs.Template.{tracksFrom, withTracks}
-use Rattle.explicit_grid.specs.Steps.{totalsOf, stepBy, summaryStep}
-use Rattle.explicit_grid.specs.declared.GridTemplateComponent.{GridTemplateComponent}
-use Rattle.explicit_grid.specs.declared.TrackTotals.{TrackTotals}
-use Rattle.explicit_grid.specs.declared.TemplateSummary.{TemplateSummary}
-use Rattle.explicit_grid.proofs.Bounds.{length-tracks}
+use Rattle.template_rules.specs.Template.{tracksFrom, withTracks}
+use Rattle.template_rules.specs.Steps.{totalsOf, stepBy, summaryStep}
+use Rattle.template_rules.specs.declared.GridTemplateComponent.{GridTemplateComponent}
+use Rattle.template_rules.specs.declared.TrackTotals.{TrackTotals}
+use Rattle.template_rules.specs.declared.TemplateSummary.{TemplateSummary}
+use Rattle.template_rules.proofs.Bounds.{length-tracks}
 use borrow.Author.Needs.{needs}
 use Rattle.template_summary.proofs.summary.add_component.Statement.{statement}
 use Rattle.template_summary.proofs.summary.add_component.Tie as tie

@@ -1,4 +1,4 @@
-use Rattle.explicit_grid.proofs.Bounds.{times-small, product-small, product-fits, small-in-float}
+use Rattle.template_rules.proofs.Bounds.{times-small, product-small, product-fits, small-in-float}
 use native.Mathlib.Omega.{arith}
 use borrow.Author.Needs.{needs}
 use Rattle.template_summary.proofs.summary.add_totals.Statement.{statement}

@@ -9,14 +9,14 @@ use borrow.Author.Needs.{needs}
 use lib.ListN.{length, getD, drop, drop-of-length-le}
 use lib.Seq.{drop-cons}
 use lib.Ieee.{Float}
-use Rattle.explicit_grid.specs.Template.{componentOf, tracksFrom, withTracks, templateOf}
-use Rattle.explicit_grid.specs.Summary.{stepsInside, firstPart}
-use Rattle.explicit_grid.specs.Steps.{summaryStep, summaryOf, totalsOf, cutAfter}
-use Rattle.explicit_grid.specs.Bounds.{OfWord, Gathered}
-use Rattle.explicit_grid.specs.declared.GridTemplateComponent.{GridTemplateComponent}
-use Rattle.explicit_grid.specs.declared.TemplateSummary.{TemplateSummary}
-use Rattle.explicit_grid.proofs.Bounds.{of-word, length-tracks, none-gathered, step-gathered, more-gathered}
-use Rattle.explicit_grid.proofs.FirstPart.{part-none, part-step, gathered-first-part, cut-tracks, cut-steps, cut-of-word}
+use Rattle.template_rules.specs.Template.{componentOf, tracksFrom, withTracks, templateOf}
+use Rattle.template_rules.specs.Summary.{stepsInside, firstPart}
+use Rattle.template_rules.specs.Steps.{summaryStep, summaryOf, totalsOf, cutAfter}
+use Rattle.template_rules.specs.Bounds.{OfWord, Gathered}
+use Rattle.template_rules.specs.declared.GridTemplateComponent.{GridTemplateComponent}
+use Rattle.template_rules.specs.declared.TemplateSummary.{TemplateSummary}
+use Rattle.template_rules.proofs.Bounds.{of-word, length-tracks, none-gathered, step-gathered, more-gathered}
+use Rattle.template_rules.proofs.FirstPart.{part-none, part-step, gathered-first-part, cut-tracks, cut-steps, cut-of-word}
 use Rattle.template_summary.proofs.summary.template_summary.Statement.{statement}
 use Rattle.template_summary.proofs.summary.template_summary.Tie as tie
 

@@ -11,15 +11,15 @@ use denote.Enum.Declared.{tagOf}
 use Rattle.sizing.specs.Words.{minMaxOf}
 use Rattle.sizing.specs.Definite.{fixedTrack}
 use Rattle.sizing.specs.declared.MinMax.{MinMax}
-use Rattle.explicit_grid.specs.Template.{tracksFrom}
-use Rattle.explicit_grid.specs.Counts.{allFixed}
-use Rattle.explicit_grid.specs.Steps.{noTracks, ofTrack, trackStep, totalsOf}
-use Rattle.explicit_grid.specs.Bounds.{CountOfWord}
-use Rattle.explicit_grid.specs.declared.RepetitionCount.{RepetitionCount}
-use Rattle.explicit_grid.specs.declared.RepetitionCount.the-variants.{Single, Count, AutoFill, AutoFit}
-use Rattle.explicit_grid.specs.declared.TrackTotals.{TrackTotals}
-use Rattle.explicit_grid.proofs.RepetitionCount.{the-type}
-use Rattle.explicit_grid.proofs.Bounds.{single-one}
+use Rattle.template_rules.specs.Template.{tracksFrom}
+use Rattle.template_rules.specs.Counts.{allFixed}
+use Rattle.template_rules.specs.Steps.{noTracks, ofTrack, trackStep, totalsOf}
+use Rattle.template_rules.specs.Bounds.{CountOfWord}
+use Rattle.template_rules.specs.declared.RepetitionCount.{RepetitionCount}
+use Rattle.template_rules.specs.declared.RepetitionCount.the-variants.{Single, Count, AutoFill, AutoFit}
+use Rattle.template_rules.specs.declared.TrackTotals.{TrackTotals}
+use Rattle.template_rules.proofs.RepetitionCount.{the-type}
+use Rattle.template_rules.proofs.Bounds.{single-one}
 use borrow.Author.Needs.{needs}
 use Rattle.template_summary.proofs.tracks.component_totals.Statement.{statement}
 use Rattle.template_summary.proofs.tracks.component_totals.Tie as tie

@@ -8,10 +8,10 @@ use borrow.Author.Needs.{needs}
 use lib.Ieee.{Float}
 use lib.ListN.{getD}
 use Rattle.sizing.specs.Words.{minMaxOf}
-use Rattle.explicit_grid.specs.Template.{tracksFrom}
-use Rattle.explicit_grid.specs.Steps.{ofTrack, addTotals, trackStep}
-use Rattle.explicit_grid.specs.declared.RepetitionCount.{RepetitionCount}
-use Rattle.explicit_grid.specs.declared.TrackTotals.{TrackTotals}
+use Rattle.template_rules.specs.Template.{tracksFrom}
+use Rattle.template_rules.specs.Steps.{ofTrack, addTotals, trackStep}
+use Rattle.template_rules.specs.declared.RepetitionCount.{RepetitionCount}
+use Rattle.template_rules.specs.declared.TrackTotals.{TrackTotals}
 use Rattle.template_summary.proofs.tracks.repeat_totals.Statement.{statement}
 use Rattle.template_summary.proofs.tracks.repeat_totals.Tie as tie
 

@@ -8,7 +8,7 @@ use Rattle.sizing.specs.declared.MinMax.{MinMax}
 use Rattle.sizing.specs.declared.DefiniteSize.{DefiniteSize}
 use Rattle.sizing.specs.declared.DefiniteSize.the-variants.{Definite, Indefinite}
 use Rattle.sizing.proofs.Fixed.{isDefinite, fixed-track-definite}
-use Rattle.explicit_grid.specs.Steps.{ofTrack}
+use Rattle.template_rules.specs.Steps.{ofTrack}
 use borrow.Author.Needs.{needs}
 use Rattle.template_summary.proofs.tracks.track_totals.Statement.{statement}
 use Rattle.template_summary.proofs.tracks.track_totals.Tie as tie

@@ -48,24 +48,24 @@ use denote.Triple.Walked.{says, Stays, stay-none, stay-none-slice, walkOf, goes-
 use denote.Exit.{yes}
 use borrow.Rule.Array.Init.{part-room}
 use Rattle.sizing.specs.declared.MinMax.{MinMax}
-use Rattle.explicit_grid.specs.Template.{Component, templateOf}
-use Rattle.grid_track.specs.declared.GridTrack.{GridTrack}
-use Rattle.grid_track.specs.declared.AxisTracks.{AxisTracks}
-use Rattle.grid_track.specs.Tracks.{zeroGridTrack}
-use Rattle.grid_track.specs.Written.{sparesOf}
+use Rattle.template_rules.specs.Template.{Component, templateOf}
+use Rattle.track_rules.specs.declared.GridTrack.{GridTrack}
+use Rattle.track_rules.specs.declared.AxisTracks.{AxisTracks}
+use Rattle.track_rules.specs.Tracks.{zeroGridTrack}
+use Rattle.track_rules.specs.Written.{sparesOf}
 use Rattle.track_run.specs.declared.FillAnswer.{FillAnswer}
 use Rattle.track_run.specs.Run.{fillAnswerOf, runAfter, zeroRecords}
 use Rattle.track_run.proofs.Filling.{zero-run}
-use Rattle.grid_track.proofs.GridTrack as T
-use Rattle.grid_track.proofs.GridTrack.Laws as T′
-use Rattle.grid_track.proofs.AxisTracks as P
-use Rattle.grid_track.proofs.AxisTracks.Laws as P′
+use Rattle.track_rules.proofs.GridTrack as T
+use Rattle.track_rules.proofs.GridTrack.Laws as T′
+use Rattle.track_rules.proofs.AxisTracks as P
+use Rattle.track_rules.proofs.AxisTracks.Laws as P′
 use Rattle.track_run.proofs.FillAnswer as F
 use Rattle.track_run.proofs.FillAnswer.Laws as F′
-use Rattle.grid_track.proofs.grid_track.zero as zero
-use Rattle.grid_track.proofs.grid_track.zero.Symbol as zero-def
-use Rattle.grid_track.proofs.grid_track.zero.Symbol.{name as #zero}
-use Rattle.grid_track.proofs.grid_track.zero.Met as zero-thm
+use Rattle.track_rules.proofs.grid_track.zero as zero
+use Rattle.track_rules.proofs.grid_track.zero.Symbol as zero-def
+use Rattle.track_rules.proofs.grid_track.zero.Symbol.{name as #zero}
+use Rattle.track_rules.proofs.grid_track.zero.Met as zero-thm
 use Rattle.track_run.proofs.initialize_grid_tracks as fill
 use Rattle.track_run.proofs.initialize_grid_tracks.Symbol as fill-def
 use Rattle.track_run.proofs.initialize_grid_tracks.Symbol.{name as #fill}
@@ -360,5 +360,5 @@ axis-records-spec 𝓤 H 𝓜 𝓖 𝓡 =
     entered 𝓤 H (tripleOf 𝓤 H (𝓖 .A) lend.signature (lend.spec 𝓤 H (𝓖 .A) (𝓜 .mem) (𝓡 .run)))
     (tables 𝓤 H 𝓜 𝓡 code.env .C) (tables 𝓤 H 𝓜 𝓡 code.env .Λ) #lend code.function (code.unfolded 𝓤 H 𝓜 𝓡)
     (lend-meets 𝓤 H (𝓖 .A) (givenOf 𝓤 H 𝓜 𝓖) (𝓜 .mem) (𝓡 .run) (tablesOf 𝓤 H 𝓜 (tables 𝓤 H 𝓜 𝓡 code.env))
-    (cited 𝓤 H (Zero 𝓤 H (𝓖 .A) (𝓜 .mem) (𝓡 .run)) 𝓜 𝓡 code.env #zero zero-def.routine code.calls-grid-track·grid-track·zero (zero-thm.met 𝓤 H 𝓜 𝓖 𝓡))
+    (cited 𝓤 H (Zero 𝓤 H (𝓖 .A) (𝓜 .mem) (𝓡 .run)) 𝓜 𝓡 code.env #zero zero-def.routine code.calls-track-rules·grid-track·zero (zero-thm.met 𝓤 H 𝓜 𝓖 𝓡))
     (cited 𝓤 H (Fill 𝓤 H (𝓖 .A) (𝓜 .mem) (𝓡 .run)) 𝓜 𝓡 code.env #fill fill-def.routine code.calls-track-run·initialize-grid-tracks (fill-thm.met 𝓤 H 𝓜 𝓖 𝓡)))

@@ -1,10 +1,10 @@
 use Prim.Native.Nat.{ℕ, _-_, _/_}
 use mathlib.Core.Path.{sym, ap, _∙_}
 use mathlib.Core.List.{List}
-use Rattle.explicit_grid.specs.Template.{templateOf}
-use Rattle.grid_track.specs.Records.{itemAt}
-use Rattle.grid_track.specs.Steps.{cursorAt}
-use Rattle.grid_track.proofs.Words.{totals-words}
+use Rattle.template_rules.specs.Template.{templateOf}
+use Rattle.track_rules.specs.Records.{itemAt}
+use Rattle.track_rules.specs.Steps.{cursorAt}
+use Rattle.track_rules.proofs.Words.{totals-words}
 use Rattle.track_run.proofs.Filling.{state-of}
 use borrow.Author.Needs.{needs}
 use Rattle.track_run.proofs.state.begin_at.Statement.{statement}

@@ -4,7 +4,7 @@ use mathlib.Core.Path.{_≡_, ap, ap₂}
 use borrow.Author.Tests.{lt-ltb, le-ltb}
 use Rattle.coordinates.specs.declared.refusal.Refusal.{Refusal}
 use Rattle.track_run.specs.declared.FillAnswer.{FillAnswer}
-use Rattle.grid_track.specs.Records.{tracksIn}
+use Rattle.track_rules.specs.Records.{tracksIn}
 use Rattle.track_run.specs.Run.{fillAnswerOf}
 use borrow.Author.Needs.{needs}
 use Rattle.track_run.proofs.state.fill_answer.Statement.{statement}

@@ -2,7 +2,7 @@ use Prim.Native.Nat.{_+_, _*_}
 use native.Mathlib.Omega.{arith}
 use mathlib.Core.Path.{_≡_}
 use borrow.Author.Tests.{lt-ltb, le-ltb}
-use Rattle.grid_track.specs.Records.{tracksIn}
+use Rattle.track_rules.specs.Records.{tracksIn}
 use Rattle.track_run.specs.Steps.{fillCount}
 use borrow.Author.Needs.{needs}
 use Rattle.track_run.proofs.state.fill_count.Statement.{statement}

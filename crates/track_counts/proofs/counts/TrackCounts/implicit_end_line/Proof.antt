@@ -3,7 +3,7 @@ use mathlib.Core.Path.{_≡_, _∙_, sym, ap}
 use mathlib.Core.Bool.{true, false}
 use Rattle.track_counts.specs.Counts.{tooMany}
 use Rattle.track_counts.specs.Counts.{endAnswer}
-use Rattle.grid_lines.specs.Answers.{lineAnswer}
+use Rattle.coordinates.specs.Answers.{lineAnswer}
 use borrow.Author.Needs.{needs}
 use Rattle.track_counts.proofs.counts.TrackCounts.implicit_end_line.Statement.{statement}
 use Rattle.track_counts.proofs.counts.TrackCounts.implicit_end_line.Tie as tie

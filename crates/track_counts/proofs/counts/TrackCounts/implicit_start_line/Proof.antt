@@ -1,7 +1,7 @@
 use mathlib.Core.Path.{_≡_, _∙_, sym, ap}
 use mathlib.Core.Bool.{true, false}
 use Rattle.track_counts.specs.Counts.{tooMany}
-use Rattle.grid_lines.specs.Answers.{lineAnswer}
+use Rattle.coordinates.specs.Answers.{lineAnswer}
 use Rattle.track_counts.proofs.Totals.{few, sixteen-count, sixteen-difference, sixteen-sum}
 use native.Mathlib.Omega.{arith}
 use Rattle.coordinates.specs.Signed.{sixteenBits}

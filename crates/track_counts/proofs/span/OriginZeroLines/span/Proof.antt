@@ -5,7 +5,7 @@ use mir.Syntax.{w16}
 use mir.Val.{SFits}
 use mir.Facts.{toZ-ofZ}
 use Rattle.coordinates.specs.Lines.{outside}
-use Rattle.grid_lines.specs.Answers.{countAnswer}
+use Rattle.coordinates.specs.Answers.{countAnswer}
 use Rattle.track_counts.specs.Spans.{spanAnswer}
 use borrow.Author.Needs.{needs}
 use Rattle.track_counts.proofs.span.OriginZeroLines.span.Statement.{statement}

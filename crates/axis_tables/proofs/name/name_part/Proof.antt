@@ -1,0 +1,66 @@
+use native.Mathlib.Omega.{arith}
+use Rattle.axis_tables.proofs.Parts.{past, cut, inside}
+use borrow.Author.Needs.{needs}
+use Rattle.axis_tables.proofs.name.name_part.Statement.{statement}
+use Rattle.axis_tables.proofs.name.name_part.Tie as tie
+
+sub-result : tie.Need-sub-result
+sub-result c = search needs
+
+part-result-start : tie.Need-part-result-start
+part-result-start c = search needs
+
+part-result-end : tie.Need-part-result-end
+part-result-end c = search needs
+
+returns : tie.Need-returns
+returns c = let a = c .before .before .args in past (a .store .now) (a .offset) (a .length) (c .before .if1 .taken)
+
+sub-if2 : tie.Need-sub-if2
+sub-if2 c = search needs
+
+sub-result-2 : tie.Need-sub-result-2
+sub-result-2 c = search needs
+
+part-result-start-2 : tie.Need-part-result-start-2
+part-result-start-2 c = search needs
+
+part-result-end-2 : tie.Need-part-result-end-2
+part-result-end-2 c = search needs
+
+returns-2 : tie.Need-returns-2
+returns-2 c = let a = c .before .before .before .args in cut (a .store .now) (a .offset) (a .length) (omega arith)
+
+add-last : tie.Need-add-last
+add-last c = search needs
+
+sub-result-3 : tie.Need-sub-result-3
+sub-result-3 c = search needs
+
+part-result-start-3 : tie.Need-part-result-start-3
+part-result-start-3 c = search needs
+
+part-result-end-3 : tie.Need-part-result-end-3
+part-result-end-3 c = search needs
+
+returns-3 : tie.Need-returns-3
+returns-3 c = let a = c .before .before .before .args in inside (a .store .now) (a .offset) (a .length)
+
+pub name-part-spec : {M : Type 1} → statement M
+name-part-spec =
+    tie.close
+    (tie.spec
+    sub-result
+    part-result-start
+    part-result-end
+    returns
+    sub-if2
+    sub-result-2
+    part-result-start-2
+    part-result-end-2
+    returns-2
+    add-last
+    sub-result-3
+    part-result-start-3
+    part-result-end-3
+    returns-3)

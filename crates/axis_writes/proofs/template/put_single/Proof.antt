@@ -1,0 +1,85 @@
+use borrow.Author.Tests.{lt-ltb, le-ltb}
+use Rattle.axis_tables.specs.Store.{putSingle}
+use borrow.Author.Needs.{needs}
+use Rattle.axis_writes.proofs.template.put_single.Statement.{statement}
+use Rattle.axis_writes.proofs.template.put_single.Tie as tie
+
+put-requires : tie.Need-put-requires
+put-requires c κs = search needs
+
+returns : tie.Need-returns
+unfolding putSingle
+returns c = rw (c .put .ensures, lt-ltb _ _ (c .before .if1 .taken))
+
+put-requires-2 : tie.Need-put-requires-2
+put-requires-2 c κs = search needs
+
+returns-2 : tie.Need-returns-2
+unfolding putSingle
+returns-2 c = rw (c .put2 .ensures, le-ltb _ _ (c .before .before .if1 .left), lt-ltb _ _ (c .before .if2 .taken))
+
+component-word-requires : tie.Need-component-word-requires
+component-word-requires c κs = search needs
+
+cast-set-word : tie.Need-cast-set-word
+cast-set-word c = search needs
+
+set-word-requires : tie.Need-set-word-requires
+set-word-requires c κs = search needs
+
+cast-set-word-2 : tie.Need-cast-set-word-2
+cast-set-word-2 c = search needs
+
+add-set-word : tie.Need-add-set-word
+add-set-word c = search needs
+
+set-word-requires-2 : tie.Need-set-word-requires-2
+set-word-requires-2 c κs = search needs
+
+cast-set-word-3 : tie.Need-cast-set-word-3
+cast-set-word-3 c = search needs
+
+add-set-word-2 : tie.Need-add-set-word-2
+add-set-word-2 c = search needs
+
+set-word-requires-3 : tie.Need-set-word-requires-3
+set-word-requires-3 c κs = search needs
+
+add-after : tie.Need-add-after
+add-after c = search needs
+
+add-after-2 : tie.Need-add-after-2
+add-after-2 c = search needs
+
+put-requires-3 : tie.Need-put-requires-3
+put-requires-3 c κs = search needs
+
+same-length : tie.Need-same-length
+same-length c = search needs
+
+returns-3 : tie.Need-returns-3
+unfolding putSingle
+returns-3 c = rw (c .put3 .ensures, c .before .before .before .set-word3 .ensures, c .before .before .before .before .before .before .before .set-word2 .ensures, c .before .before .before .before .before .before .before .before .before .before .before .set-word .ensures, c .before .before .before .before .before .before .before .before .before .before .before .before .before .component-word .ensures, le-ltb _ _ (c .before .before .before .before .before .before .before .before .before .before .before .before .before .before .before .if1 .left), le-ltb _ _ (c .before .before .before .before .before .before .before .before .before .before .before .before .before .before .if2 .left))
+
+pub put-single-spec : {M : Type 1} → statement M
+put-single-spec =
+    tie.close
+    (tie.spec
+    put-requires
+    returns
+    put-requires-2
+    returns-2
+    component-word-requires
+    cast-set-word
+    set-word-requires
+    cast-set-word-2
+    add-set-word
+    set-word-requires-2
+    cast-set-word-3
+    add-set-word-2
+    set-word-requires-3
+    add-after
+    add-after-2
+    put-requires-3
+    same-length
+    returns-3)

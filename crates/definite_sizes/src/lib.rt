@@ -1,2 +1,0 @@
-// What a size measures where that is definite.
-pub mod definite;

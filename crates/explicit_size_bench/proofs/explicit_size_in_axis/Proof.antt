@@ -1,0 +1,42 @@
+use mathlib.Core.Path.{_≡_}
+use mathlib.Core.List.{List}
+use lib.Ieee.{Float}
+use Rattle.sizing.specs.declared.Sizing.{Sizing}
+use Rattle.template_rules.specs.Template.{Component, templateOf}
+use Rattle.template_rules.specs.Explicit.{explicitSizeOf}
+use Rattle.template_rules.specs.declared.InnerSize.the-variants.{Definite}
+use Rattle.template_rules.specs.declared.AutoRepeatStrategy.the-variants.{MaxRepetitionsThatDoNotOverflow}
+use Rattle.template_rules.specs.declared.ExplicitSize.{ExplicitSize}
+use Rattle.explicit_size_bench.specs.Numbers.{numbersOf}
+use borrow.Author.Needs.{needs}
+use Rattle.explicit_size_bench.proofs.explicit_size_in_axis.Statement.{statement}
+use Rattle.explicit_size_bench.proofs.explicit_size_in_axis.Tie as tie
+
+-- over plain values: x, g and r are what the calls answered
+answered : (x y : Float) (g h : Sizing) (cs : List Component) (r : ExplicitSize) → x ≡ y → g ≡ h → r ≡ explicitSizeOf (Definite x) MaxRepetitionsThatDoNotOverflow g 0 cs
+    → numbersOf r ≡ numbersOf (explicitSizeOf (Definite y) MaxRepetitionsThatDoNotOverflow h 0 cs)
+answered x y g h cs r e f p = rw (p, e, f)
+
+length-of-requires : tie.Need-length-of-requires
+length-of-requires c κs = search needs
+
+sizing-of-requires : tie.Need-sizing-of-requires
+sizing-of-requires c κs = search needs
+
+compute-explicit-grid-size-in-axis-requires : tie.Need-compute-explicit-grid-size-in-axis-requires
+compute-explicit-grid-size-in-axis-requires c κs = search needs
+
+returns : tie.Need-returns
+returns c =
+    let a = c .before .before .before .before .before .before .args in
+    answered _ _ _ _ (templateOf (a .components .now) (a .minimums .now) (a .maximums .now)) _ (c .before .before .length-of .ensures) (c .before .sizing-of .ensures)
+    (c .compute-explicit-grid-size-in-axis .ensures)
+
+pub explicit-size-in-axis-spec : {M : Type 1} → statement M
+explicit-size-in-axis-spec =
+    tie.close
+    (tie.spec
+    length-of-requires
+    sizing-of-requires
+    compute-explicit-grid-size-in-axis-requires
+    returns)

@@ -1,2 +1,0 @@
--- Laws of the calls on lines.
-pub mod Conversions

@@ -1,3 +1,0 @@
--- What the contracts of the calls on lines cite.
-pub mod Answers
-pub mod Cases

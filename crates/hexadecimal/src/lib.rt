@@ -1,4 +1,0 @@
-// Hexadecimal digits of a sheet.
-pub mod hexadecimal;
-
-pub use hexadecimal::read_bits;

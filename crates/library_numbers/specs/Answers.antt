@@ -1,0 +1,99 @@
+-- The answers of the calls on a panel, as numbers. An axis is a number: 0 the columns, 1 the rows; any other is refused by 4.
+use Prim.Native.Nat.{ℕ, _-_, min}
+use mathlib.Core.Bool.{Bool, cond}
+use lib.Dec.{leb}
+use Rattle.coordinates.specs.Refusals.{name, count}
+use Rattle.name_rules.specs.Css.{Bytes}
+use Rattle.name_entries.specs.declared.NameEntry.{NameEntry}
+use Rattle.name_entries.specs.Names.{isName}
+use Rattle.name_resolver.specs.Placements.{resolvedKindOf, resolvedNumberOf}
+use Rattle.track_rules.specs.Records.{recordsIn}
+use Rattle.panel_tables.specs.declared.Panel.{Panel}
+use Rattle.panel_tables.specs.Axes.{stateIn}
+use Rattle.panel_tables.specs.Placements.{axisNumber, axisOf}
+use Rattle.sheet_rules.specs.Panels.{Tables}
+use Rattle.sheet_rules.specs.Read.{SheetRead}
+use Rattle.panel_rules.specs.declared.PlacementAnswer.{PlacementAnswer}
+use Rattle.panel_rules.specs.declared.AxisSize.{AxisSize}
+use Rattle.panel_rules.specs.Calls.{NameTables, EnteredName, enterName, explicitSize, lineCountIn, axisTracks}
+use Rattle.library_numbers.specs.declared.PanelAnswer.{PanelAnswer}
+use Rattle.library_numbers.specs.declared.SizeAnswer.{SizeAnswer}
+use Rattle.library_numbers.specs.declared.CountAnswer.{CountAnswer}
+use Rattle.library_numbers.specs.declared.NameAnswer.{NameAnswer}
+use Rattle.library_numbers.specs.declared.PlacementNumbers.{PlacementNumbers}
+
+-- whether a number is that of an axis
+abbrev pub isAxis : ℕ → Bool
+isAxis n = leb n 1
+
+-- ---- `palgwern_read_sheet`
+
+-- the answer, and everything lent
+pub record PanelRead : Type 0 where
+  pub answer : PanelAnswer
+  pub tables : Tables
+
+unfoldable pub panelRead : SheetRead → PanelRead
+panelRead s =
+    record { answer = record { number = s .answer .refusal .number; line = s .answer .refusal .line; panel = s .answer .panel }; tables = s .tables }
+
+-- ---- `palgwern_enter_name`
+
+-- the answer, and the words and the stores lent
+pub record PanelEntered : Type 0 where
+  pub answer : PanelAnswer
+  pub tables : NameTables
+
+abbrev pub panelEntered : EnteredName → PanelEntered
+panelEntered e =
+    record { answer = record { number = e .answer .refusal .number; line = e .answer .refusal .line; panel = e .answer .panel }; tables = e .tables }
+
+-- what an entry in no axis is refused by: lowest number first
+abbrev pub noAxisEntry : Bytes → ℕ
+noAxisEntry nm = cond (isName nm) count name
+
+unfoldable pub nameEntered : Panel → NameTables → ℕ → ℕ → Bytes → PanelEntered
+nameEntered p t axis line nm =
+    cond (isAxis axis) (panelEntered (enterName p t (axisOf axis) line nm))
+    (record { answer = record { number = noAxisEntry nm; line = 0; panel = p }; tables = t })
+
+-- ---- `palgwern_explicit_size`, `palgwern_line_count`, `palgwern_record_count`
+
+abbrev pub sizeAnswer : AxisSize → SizeAnswer
+sizeAnswer s = record { number = 0; repetitions = s .repetitions; explicit = s .explicit }
+
+unfoldable pub sizeOf : Panel → ℕ → SizeAnswer
+sizeOf p axis = cond (isAxis axis) (sizeAnswer (explicitSize p (axisOf axis))) (record { number = count; repetitions = 0; explicit = 0 })
+
+-- a count, or a refusal and 0
+abbrev pub counted : ℕ → CountAnswer
+counted n = record { number = 0; count = n }
+
+abbrev pub uncounted : ℕ → CountAnswer
+uncounted n = record { number = n; count = 0 }
+
+unfoldable pub lineCountOf : Panel → ℕ → CountAnswer
+lineCountOf p axis = cond (isAxis axis) (counted (lineCountIn p (axisOf axis))) (uncounted count)
+
+unfoldable pub recordCountOf : Panel → ℕ → CountAnswer
+recordCountOf p axis = cond (isAxis axis) (counted (recordsIn (axisTracks (stateIn p (axisOf axis))))) (uncounted count)
+
+-- ---- `palgwern_resolve_placement`
+
+-- kinds 0 `auto`, 1 `line`, 3 `span`, each with its number
+unfoldable pub placementNumbers : PlacementAnswer → PlacementNumbers
+placementNumbers a =
+    record {
+      number = a .refusal .number;
+      axis = axisNumber (a .axis);
+      startkind = resolvedKindOf (a .line .start);
+      startnumber = resolvedNumberOf (a .line .start);
+      endkind = resolvedKindOf (a .line .end);
+      endnumber = resolvedNumberOf (a .line .end);
+    }
+
+-- ---- `palgwern_line_name`
+
+-- where the name of an entry lies in a store of so many bytes: cut where the store ends
+abbrev pub namePart : ℕ → NameEntry → NameAnswer
+namePart bytes e = record { number = 0; offset = min (e .offset) bytes; length = min (e .length) (bytes - e .offset) }

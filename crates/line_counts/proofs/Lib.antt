@@ -1,2 +1,0 @@
--- Laws of counted lines.
-pub mod Counting

@@ -1,2 +1,0 @@
--- What the contracts of counted lines cite.
-pub mod Counts

@@ -1,0 +1,3 @@
+-- Laws of the calls.
+pub mod Carried
+pub mod Filled

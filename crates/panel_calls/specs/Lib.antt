@@ -1,0 +1,2 @@
+-- What the contracts of the calls cite beside the definitions of the crates below.
+pub mod Carried

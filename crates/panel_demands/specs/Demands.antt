@@ -1,0 +1,171 @@
+-- The three demands, stated on the definitions that the contracts of the calls cite. proofs/Demands.antt proves each of them.
+-- Every call ends on every input: each is a proved function without `requires`, and its contract names its answer for every state, table and store.
+use Prim.Native.Nat.{ℕ, suc, _+_, _*_, _-_, _≤_, _<_}
+use mathlib.Core.Path.{_≡_}
+use mathlib.Core.Logic.{_⊎_}
+use mathlib.Core.Bool.{Bool, true, false}
+use mathlib.Core.List.{List, map, List·Memᴰ}
+use lib.ListN.{length, getD}
+use Rattle.coordinates.specs.declared.axis.Axis.{Axis}
+use Rattle.coordinates.specs.declared.refusal.Refusal.{Refusal}
+use Rattle.coordinates.specs.Refusals.{noRefusal, refusalOf, count, short}
+use Rattle.sizing.specs.Words.{sizingOf}
+use Rattle.template_rules.specs.Template.{Component}
+use Rattle.template_rules.specs.Css.{Automatic, Valid, Repetitions}
+use Rattle.name_rules.specs.Css.{Bytes, Entry, AxisNames, ResolvedEnds, CssEnds}
+use Rattle.name_rules.specs.Conditions.{UsedNamesLie}
+use Rattle.track_rules.specs.declared.GridTrack.{GridTrack}
+use Rattle.track_rules.specs.declared.WrittenTrack.{WrittenTrack}
+use Rattle.track_rules.specs.Tracks.{zeroGridTrack, refusedRecord}
+use Rattle.track_rules.specs.Written.{writtenOut}
+use Rattle.track_rules.specs.Records.{tracksIn, recordsIn, noTrack}
+use Rattle.track_rules.specs.Lines.{Stands}
+use Rattle.track_run.specs.Run.{refusedFill, fillAnswerOf, runAfter}
+use Rattle.axis_tables.specs.declared.AxisState.{AxisState}
+use Rattle.axis_tables.specs.View.{AxisView, sizesOf, componentsOf, axisBytes}
+use Rattle.panel_tables.specs.declared.Panel.{Panel}
+use Rattle.panel_tables.specs.View.{PanelView}
+use Rattle.panel_tables.specs.Axes.{stateIn, viewIn}
+use Rattle.panel_tables.specs.Placements.{placementAt as placeAt}
+use Rattle.sheet_rules.specs.Sheet.{innerOf, strategyOf, sheetOf}
+use Rattle.sheet_rules.specs.Rows.{Row, numberOf, HoldsAt, FirstAt, Nowhere}
+use Rattle.sheet_rules.specs.Contents.{linesOf, PanelSays}
+use Rattle.sheet_rules.specs.Panels.{Tables}
+use Rattle.sheet_rules.specs.Read.{shortStores, refusedSheet, readSheet}
+use Rattle.panel_rules.specs.Calls.{NameTables, NamedWords, bookIn, namesIn, wordsIn, templateIn, sparesIn, axisTracks, shortNames, enterRefusal, EnteredName, enterName, trackRecord}
+use Rattle.panel_rules.specs.Placing.{refusedPlacement, resolvePlacement}
+use Rattle.panel_rules.specs.Runs.{Held, namesOf, areasOf, Call, refusalIn, Accepted, sheetHeld, runOf, sizeOf, placementOf, listsOf, nameOf, recordWith, runWith, fillWith, marksOf}
+use Rattle.panel_rules.specs.Views.{entriesAfter, namesAfter, cssEnd, placementAt, answerAt, PlacedByCss, placementAfter, sizeAfter, listsAfter, nameAfter, recordAfter, tracksAfter}
+use Rattle.panel_rules.specs.Added.{sheetAxis, added, refusalAfter}
+use Rattle.panel_rules.specs.Book.{book, bookNames, bookBytes, tableRefusal, sheetTracks, RegularTemplate, Regular}
+use Rattle.panel_rules.specs.Order.{SamePanel, SameEntries}
+use Rattle.panel_rules.specs.Alone.{Run, DifferInRows, SameColumns}
+
+-- ==== demand 1: "a fault in a panel is answered by its number and place, with all other answer fields zero and every lent buffer untouched"
+
+-- reading a sheet: accepted exactly where no row of the table holds at any line and no store is short; refused by the row that comes first at
+-- the earliest line, or by 10 after all of these. A refused sheet leaves everything lent as it was
+pub data SheetAnswered (s : List ℕ) (t : Tables) : Type 0 where
+  sheetAccepted : Nowhere (HoldsAt s) → shortStores t ≡ false → readSheet s t .answer .refusal ≡ noRefusal → SheetAnswered s t
+  sheetRefused : (k : ℕ) (r : Row) → FirstAt (HoldsAt s) k r → readSheet s t ≡ refusedSheet (record { number = numberOf r; line = k }) t → SheetAnswered s t
+  sheetShort : Nowhere (HoldsAt s) → shortStores t ≡ true → readSheet s t ≡ refusedSheet (refusalOf short) t → SheetAnswered s t
+
+-- entering a name: a refused call gives its number and line 0, the state as it came and everything lent as it was
+pub data EntryAnswered (p : Panel) (t : NameTables) (a : Axis) (line : ℕ) (name : Bytes) : Type 0 where
+  entryAccepted : enterRefusal p t a line name ≡ 0 → enterName p t a line name .answer .refusal ≡ noRefusal → EntryAnswered p t a line name
+  entryRefused : (n : ℕ) → enterRefusal p t a line name ≡ suc n
+      → enterName p t a line name ≡ record { answer = record { refusal = refusalOf (suc n); panel = p }; tables = t } → EntryAnswered p t a line name
+
+-- resolving a placement: 4 where it isn't held, or where the explicit count of its axis is no panel's; then 10 where a store is short
+abbrev pub explicitFor : Panel → NamedWords → ℕ → ℕ
+explicitFor p placements i = stateIn p (placeAt (placements .words) i .axis) .explicit
+
+pub data PlacementAnswered (p : Panel) (t : NameTables) (areas placements : NamedWords) (i : ℕ) : Type 0 where
+  placementAccepted : i < p .placements → explicitFor p placements i ≤ 10000 → shortNames t ≡ false
+      → resolvePlacement p t areas placements i .refusal ≡ noRefusal → PlacementAnswered p t areas placements i
+  placementOutside : (p .placements ≤ i) ⊎ (10000 < explicitFor p placements i)
+      → resolvePlacement p t areas placements i ≡ refusedPlacement count → PlacementAnswered p t areas placements i
+  placementShort : i < p .placements → explicitFor p placements i ≤ 10000 → shortNames t ≡ true
+      → resolvePlacement p t areas placements i ≡ refusedPlacement short → PlacementAnswered p t areas placements i
+
+-- one record: 4 for an index of 2N + 1 or more, then 10 for fewer than N item bytes
+pub data RecordAnswered (s : AxisState) (words items : List ℕ) (i : ℕ) : Type 0 where
+  recordAccepted : i < recordsIn (axisTracks s) → tracksIn (axisTracks s) ≤ length items → trackRecord s words items i .refusal ≡ noRefusal → RecordAnswered s words items i
+  recordOutside : recordsIn (axisTracks s) ≤ i → trackRecord s words items i ≡ refusedRecord count → RecordAnswered s words items i
+  recordShort : i < recordsIn (axisTracks s) → length items < tracksIn (axisTracks s) → trackRecord s words items i ≡ refusedRecord short → RecordAnswered s words items i
+
+-- the lent run: 10 for fewer than 2N + 1 records or N item bytes, and then no record is written
+pub data RunAnswered (s : AxisState) (words items : List ℕ) (run : List GridTrack) : Type 0 where
+  runAccepted : recordsIn (axisTracks s) ≤ length run → tracksIn (axisTracks s) ≤ length items
+      → fillAnswerOf (axisTracks s) (length run) (length items) ≡ record { refusal = noRefusal; count = recordsIn (axisTracks s) } → RunAnswered s words items run
+  runShort : (length run < recordsIn (axisTracks s)) ⊎ (length items < tracksIn (axisTracks s))
+      → fillAnswerOf (axisTracks s) (length run) (length items) ≡ refusedFill
+      → runAfter (axisTracks s) (templateIn s words) (sparesIn s words) items run ≡ run → RunAnswered s words items run
+
+pub record FirstDemand : Type 0 where
+  pub sheets : (s : List ℕ) (t : Tables) → SheetAnswered s t
+  pub entries : (p : Panel) (t : NameTables) (a : Axis) (line : ℕ) (name : Bytes) → EntryAnswered p t a line name
+  pub placements : (p : Panel) (t : NameTables) (areas placements : NamedWords) (i : ℕ) → PlacementAnswered p t areas placements i
+  pub records : (s : AxisState) (words items : List ℕ) (i : ℕ) → RecordAnswered s words items i
+  pub runs : (s : AxisState) (words items : List ℕ) (run : List GridTrack) → RunAnswered s words items run
+
+-- ==== demand 2: the answers after an accepted sheet and any entry calls are those of the definitions that the Rust is compared with, on the
+-- sheet's view and the entries that the table accepts; repeats and placements are CSS's
+
+pub record SecondDemand (s : List ℕ) (t : Tables) (calls : List Call) : Type 0 where
+  -- the view, which the name book of demand 3 is fed too, is what the lines of the sheet say
+  pub view : PanelSays (linesOf s) (sheetOf s .view)
+  -- layer 3 on the sheet's view; no entry call changes it
+  pub sizes : (a : Axis) → sizeOf (runOf s t calls) a ≡ sizeAfter (sheetAxis s a)
+  -- the repetitions of a valid template are CSS's
+  pub repeats : (a : Axis) (c : Component) → Valid (componentsOf (sheetAxis s a .template)) → List·Memᴰ c (componentsOf (sheetAxis s a .template)) → Automatic c
+      → Repetitions (innerOf (sheetAxis s a .line)) (strategyOf (sheetAxis s a .line)) (sizingOf (sheetAxis s a .line .gap)) (componentsOf (sheetAxis s a .template))
+      (sizeOf (runOf s t calls) a .repetitions)
+  -- layer 4
+  pub entries : (a : Axis) → bookIn (runOf s t calls .panel) (namesOf (runOf s t calls .tables)) a ≡ entriesAfter (sheetAxis s a) (added s a calls)
+  -- one more entry is refused by the table alone, with the entries and bytes that its axis has then
+  pub refusals : (c : Call) → refusalIn (runOf s t calls) c ≡ refusalOf (refusalAfter (sheetAxis s (c .axis)) (added s (c .axis) calls) c)
+  pub placements : (i : ℕ) → placementOf (runOf s t calls) i ≡ placementAfter (sheetOf s .view) (λ a. added s a calls) i
+  -- each placement under conditions on its own names only: what CSS counts to
+  pub placed : (i : ℕ) → i < length (sheetOf s .view .placements)
+      → let p = placementAt (sheetOf s .view) i in let x = namesAfter (sheetOf s .view) (p .axis) (added s (p .axis) calls) in
+      UsedNamesLie x (cssEnd (p .start)) → UsedNamesLie x (cssEnd (p .end)) → PlacedByCss x p (placementOf (runOf s t calls) i)
+  -- and nothing else
+  pub only : (i : ℕ) → i < length (sheetOf s .view .placements)
+      → let p = placementAt (sheetOf s .view) i in let x = namesAfter (sheetOf s .view) (p .axis) (added s (p .axis) calls) in
+      UsedNamesLie x (cssEnd (p .start)) → UsedNamesLie x (cssEnd (p .end))
+      → (r : ResolvedEnds) → CssEnds x (cssEnd (p .start)) (cssEnd (p .end)) r → placementOf (runOf s t calls) i ≡ answerAt p r
+  pub lists : (a : Axis) → listsOf (runOf s t calls) a ≡ listsAfter (sheetAxis s a) (added s a calls)
+  pub names : (a : Axis) (line place : ℕ) → nameOf (runOf s t calls) a line place ≡ nameAfter (sheetAxis s a) (added s a calls) line place
+  -- layer 5
+  pub records : (a : Axis) (items : List ℕ) (i : ℕ) → recordWith (runOf s t calls) a items i ≡ recordAfter (sheetAxis s a) items i
+  -- a lent run of records after the call that fills it, and what that call answers
+  pub lent : (a : Axis) (items : List ℕ) (run : List GridTrack) → runWith (runOf s t calls) a items run
+      ≡ runAfter (tracksAfter (sheetAxis s a)) (componentsOf (sheetAxis s a .template)) (map sizesOf (sheetAxis s a .spares)) items run
+  pub filled : (a : Axis) (items : List ℕ) (run : List GridTrack) → fillWith (runOf s t calls) a items run
+      ≡ fillAnswerOf (tracksAfter (sheetAxis s a)) (length run) (length items)
+  -- the sheet's own marks are enough item bytes
+  pub marks : (a : Axis) → tracksIn (tracksAfter (sheetAxis s a)) ≤ length (marksOf (runOf s t calls .tables) a)
+
+-- ==== demand 3
+
+-- an axis whose own template is valid, writes each repeat out and at most 10,000 tracks: the entries held are the book's, an entry is refused
+-- exactly as the book refuses it, and "the track after each template line but the last is the one written there, or collapsed as CSS has it"
+pub record TemplateTheorem (n : ℕ) (s : List ℕ) (t : Tables) (calls : List Call) (a : Axis) : Type 0 where
+  pub entries : bookIn (runOf s t calls .panel) (namesOf (runOf s t calls .tables)) a ≡ book n (sheetOf s .view) a calls
+  pub refusals : (line : ℕ) (name : Bytes) → refusalIn (runOf s t calls) (record { axis = a; line = line; name = name })
+      ≡ refusalOf (tableRefusal (length (book n (sheetOf s .view) a calls)) (bookBytes n (sheetOf s .view) a calls) line name)
+  -- record 2(m + j) - 1, m the negative tracks, is track j as written out, or collapsed exactly where `fit` wrote it and it holds no item
+  pub tracks : (items : List ℕ) → tracksIn (tracksAfter (sheetAxis s a)) ≤ length items
+      → (j : ℕ) → 1 ≤ j → j ≤ sheetTracks n (sheetAxis s a)
+      → (recordWith (runOf s t calls) a items (2 * (sheetAxis s a .negative + j) - 1) .refusal ≡ noRefusal)
+      × Stands (getD (writtenOut (componentsOf (sheetAxis s a .template)) n) (j - 1) noTrack) (getD items (sheetAxis s a .negative + j - 1) 0)
+      (recordWith (runOf s t calls) a items (2 * (sheetAxis s a .negative + j) - 1) .track)
+  -- the same of a lent run that the call fills
+  pub lent : (items : List ℕ) (run : List GridTrack) → tracksIn (tracksAfter (sheetAxis s a)) ≤ length items → recordsIn (tracksAfter (sheetAxis s a)) ≤ length run
+      → (j : ℕ) → 1 ≤ j → j ≤ sheetTracks n (sheetAxis s a)
+      → Stands (getD (writtenOut (componentsOf (sheetAxis s a .template)) n) (j - 1) noTrack) (getD items (sheetAxis s a .negative + j - 1) 0)
+      (getD (runWith (runOf s t calls) a items run) (2 * (sheetAxis s a .negative + j) - 1) zeroGridTrack)
+
+-- the run theorem: each named line and each named span beside a line is the line that CSS counts to over the book and the areas
+pub record RunTheorem (n : Axis → ℕ) (s : List ℕ) (t : Tables) (calls : List Call) : Type 0 where
+  pub placed : (i : ℕ) → i < length (sheetOf s .view .placements)
+      → let p = placementAt (sheetOf s .view) i in
+      PlacedByCss (bookNames (n (p .axis)) (sheetOf s .view) (p .axis) calls) p (placementOf (runOf s t calls) i)
+  -- and CSS counts to nothing else
+  pub only : (i : ℕ) → i < length (sheetOf s .view .placements) → (r : ResolvedEnds)
+      → let p = placementAt (sheetOf s .view) i in
+      CssEnds (bookNames (n (p .axis)) (sheetOf s .view) (p .axis) calls) (cssEnd (p .start)) (cssEnd (p .end)) r → placementOf (runOf s t calls) i ≡ answerAt p r
+
+pub record ThirdDemand : Type 0 where
+  -- for every accepted sheet and every list of entry calls, refused ones included, from any lent contents; an axis under its own template's conditions
+  pub templates : (n : ℕ) (s : List ℕ) (t : Tables) (calls : List Call) (a : Axis) → Accepted s t → RegularTemplate n (sheetAxis s a) → TemplateTheorem n s t calls a
+  pub runs : (n : Axis → ℕ) (s : List ℕ) (t : Tables) (calls : List Call) → Accepted s t → Regular n (sheetOf s .view) calls → RunTheorem n s t calls
+  -- "with the same accepted entries in any order, resolve every placement alike"
+  pub order : (n m : Axis → ℕ) (p q : Run) → Accepted (p .sheet) (p .tables) → Accepted (q .sheet) (q .tables)
+      → Regular n (sheetOf (p .sheet) .view) (p .calls) → Regular m (sheetOf (q .sheet) .view) (q .calls)
+      → SamePanel (sheetOf (p .sheet) .view) (sheetOf (q .sheet) .view)
+      → SameEntries n (sheetOf (p .sheet) .view) (p .calls) m (sheetOf (q .sheet) .view) (q .calls)
+      → (i : ℕ) → placementOf (runOf (p .sheet) (p .tables) (p .calls)) i ≡ placementOf (runOf (q .sheet) (q .tables) (q .calls)) i
+  -- "any two runs that differ in nothing but row names and row template have the same column answers", on every input
+  pub columns : (p q : Run) → DifferInRows p q → SameColumns p q

@@ -1,0 +1,3 @@
+-- What the three demands say, and the marked edges.
+pub mod Demands
+pub mod Marked

@@ -1,2 +1,0 @@
--- Laws of an entry call: what it leaves, and when it is refused.
-pub mod Entered

@@ -1,2 +1,0 @@
--- What the contracts of an entry call cite.
-pub mod Entered

@@ -1,2 +1,0 @@
-// A line and a name entered in an axis of a panel.
-pub mod entering;

@@ -1,0 +1,16 @@
+-- Where the names of a panel's lines lie: the entries that show them.
+use Prim.Native.Nat.{ℕ}
+use mathlib.Core.Bool.{cond}
+use lib.ListN.{getD}
+use Rattle.coordinates.specs.declared.axis.Axis.{Axis}
+use Rattle.name_entries.specs.declared.NameEntry.{NameEntry}
+use Rattle.name_entries.specs.LineEntries.{noEntry, explicitLineEntries}
+use Rattle.panel_tables.specs.declared.Panel.{Panel}
+use Rattle.panel_tables.specs.Axes.{stateIn}
+use Rattle.panel_rules.specs.Calls.{NameTables, wordsIn, storeIn, shortNames, entryWordsIn}
+
+-- the entry of a name of a line; one of no name where that line and place hold none, or a store is short
+unfoldable pub lineEntryIn : Panel → NameTables → Axis → ℕ → ℕ → NameEntry
+lineEntryIn p t a line place =
+    cond (shortNames t) noEntry
+    (getD (explicitLineEntries (stateIn p a .explicit) (entryWordsIn (stateIn p a) (wordsIn t a)) (storeIn t a) line) place noEntry)

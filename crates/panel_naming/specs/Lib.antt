@@ -1,2 +1,0 @@
--- What the contracts of the line names cite.
-pub mod LineEntries

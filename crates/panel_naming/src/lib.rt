@@ -1,2 +1,0 @@
-// The line names of a panel.
-pub mod naming;

@@ -1,2 +1,0 @@
-// What the calls on a panel read of its stores.
-pub mod store;

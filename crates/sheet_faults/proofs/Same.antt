@@ -1,0 +1,166 @@
+-- A line on what is held for a view: it has the view's fault, and where that is none it leaves what is held for the view after it. Assumes nothing.
+use Prim.Native.Nat.{ℕ}
+use mathlib.Core.Path.{_≡_, refl, sym, ap, _∙_}
+use mathlib.Core.List.{List}
+use mathlib.Core.Bool.{Bool, true, false, cond}
+use mathlib.Core.Logic.{_⊎_, inl, inr}
+use native.Mathlib.Omega.{arith}
+use lib.Dec.{eqb, ltb, leb}
+use borrow.Author.Tests.{eq-eqb, ne-eqb, eqb-true, le-leb, lt-leb, leb-true, leb-false}
+use Rattle.coordinates.specs.declared.axis.Axis.{Axis}
+use Rattle.coordinates.specs.declared.axis.Axis.the-variants.{Column, Row}
+use Rattle.sheet_forms.specs.declared.Record.{Record}
+use Rattle.sheet_forms.specs.declared.Record.the-variants.{Fault, Axis as AxisLine, Area, Name, Track, Repeat, End, Spare, Extra, Item, Place}
+use Rattle.sheet_forms.specs.Words.{at}
+use Rattle.sheet_forms.specs.Faults.{rankOf, firstOf}
+use Rattle.sheet_forms.specs.Records.{recordOf, faultOf}
+use Rattle.sheet_forms.proofs.Firsts.{first-left, first-right, first-none, none-or-some}
+use Rattle.axis_tables.specs.View.{Unended, none, inside, AxisView}
+use Rattle.axis_tables.specs.Written.{repeatOf, readingOf}
+use Rattle.panel_tables.specs.View.{PanelView, refused, accepted}
+use Rattle.panel_tables.specs.Axes.{readingIn, viewIn}
+use Rattle.panel_tables.specs.Written.{PanelStepped, panelReadingOf, heldPanel}
+use Rattle.panel_tables.proofs.Fits.{FitsPanel}
+use Rattle.panel_tables.proofs.Back.{has-back}
+use Rattle.sheet_rules.specs.Lines.{recordStep, twiceFault, stageOf, lateFault, recordFault, atStage as viewAtStage, recordOutcome, lineStep}
+use Rattle.sheet_rules.specs.Steps.{heldStep}
+use Rattle.sheet_rules.proofs.Same.{record-same}
+use Rattle.sheet_faults.specs.Lines.{twiceIn, stageIn, lateIn, faultBefore, atStage, recordIn, lineIn}
+
+-- ---- the first of three faults
+
+-- of two, by their places in the order
+first-of : (a b : ℕ) → (a ≡ 0 → ⊥) → (b ≡ 0 → ⊥) → (t : Bool) → leb (rankOf a) (rankOf b) ≡ t → firstOf a b ≡ cond t a b
+unfolding firstOf
+first-of a b h k t e = rw (ne-eqb a 0 h, ne-eqb b 0 k, e)
+
+-- of three, in any grouping
+three : (a b c : ℕ) → (a ≡ 0 → ⊥) → (b ≡ 0 → ⊥) → (c ≡ 0 → ⊥) → firstOf (firstOf a b) c ≡ firstOf a (firstOf b c)
+three a b c h k l = go (leb (rankOf a) (rankOf b)) (leb (rankOf b) (rankOf c)) refl refl
+  where
+    go : (t u : Bool) → leb (rankOf a) (rankOf b) ≡ t → leb (rankOf b) (rankOf c) ≡ u → firstOf (firstOf a b) c ≡ firstOf a (firstOf b c)
+    go true true e f =
+        let le : leb (rankOf a) (rankOf c) ≡ true =
+        le-leb (rankOf a) (rankOf c) (omega (arith, leb-true (rankOf a) (rankOf b) e, leb-true (rankOf b) (rankOf c) f)) in
+        rw (first-of a b h k true e, first-of b c k l true f, first-of a c h l true le) (sym (first-of a b h k true e))
+    go true false e f = rw (first-of a b h k true e, first-of b c k l false f)
+    go false true e f = rw (first-of a b h k false e, first-of b c k l true f) (sym (first-of a b h k false e))
+    go false false e f =
+        let lt : leb (rankOf a) (rankOf c) ≡ false =
+        lt-leb (rankOf a) (rankOf c) (omega (arith, leb-false (rankOf a) (rankOf b) e, leb-false (rankOf b) (rankOf c) f)) in
+        rw (first-of a b h k false e, first-of b c k l false f, first-of a c h l false lt)
+
+-- where 0 is none
+first-joined : (a b c : ℕ) → firstOf (firstOf a b) c ≡ firstOf a (firstOf b c)
+first-joined a b c = go (none-or-some a) (none-or-some b) (none-or-some c)
+  where
+    go : (a ≡ 0) ⊎ (a ≡ 0 → ⊥) → (b ≡ 0) ⊎ (b ≡ 0 → ⊥) → (c ≡ 0) ⊎ (c ≡ 0 → ⊥) → firstOf (firstOf a b) c ≡ firstOf a (firstOf b c)
+    go (inl e) y z = ap (λ (n : ℕ). firstOf n c) (first-left a b e) ∙ sym (first-left a (firstOf b c) e)
+    go (inr h) (inl e) z = ap (λ (n : ℕ). firstOf n c) (first-right a b h e) ∙ ap (firstOf a) (sym (first-left b c e))
+    go (inr h) (inr k) (inl e) = ap (firstOf (firstOf a b)) e ∙ first-none (firstOf a b) ∙ ap (firstOf a) (sym (ap (firstOf b) e ∙ first-none b))
+    go (inr h) (inr k) (inr l) = three a b c h k l
+
+-- ---- the faults that a record has before it is written
+
+-- whether the `axis` record was seen is in the reading
+seen-of : (x : AxisView) → readingOf x .seen ≡ x .line .seen
+seen-of x = go (x .unended)
+  where
+    go : (u : Unended) → repeatOf (x .line .seen) (x .template) u .seen ≡ x .line .seen
+    go none = refl
+    go (inside r) = refl
+
+-- of either axis
+seen-in : (v : PanelView) (a : Axis) → readingIn (panelReadingOf v) a .seen ≡ viewIn v a .line .seen
+seen-in v Column = seen-of (v .columns)
+seen-in v Row = seen-of (v .rows)
+
+-- a record has its place in the kind order
+stage-same : (v : PanelView) (r : Record) → stageIn (v .stage) r ≡ stageOf v r
+stage-same v (Fault n) = refl
+stage-same v (AxisLine a) = refl
+stage-same v (Area a) = refl
+stage-same v (Name a) = refl
+stage-same v (Track a min max) = refl
+stage-same v (Repeat a n) = refl
+stage-same v (End a) = refl
+stage-same v (Spare a min max) = refl
+stage-same v (Extra a n p) = refl
+stage-same v (Item a i) = refl
+stage-same v (Place a s e) = refl
+
+-- late
+late-same : (v : PanelView) (r : Record) → lateIn (v .stage) r ≡ lateFault v r
+late-same v r = ap (λ (n : ℕ). cond (ltb n (v .stage)) 7 0) (stage-same v r)
+
+module _ (v : PanelView) (f : FitsPanel v) (fs : List (List ℕ)) where
+  -- twice, by the areas read back
+  twice-same : (r : Record) → twiceIn (heldPanel v) fs r ≡ twiceFault v fs r
+  unfolding heldPanel
+  twice-same (Fault n) = refl
+  twice-same (AxisLine a) = ap (λ (n : ℕ). cond (eqb n 0) 0 6) (seen-in v (a .axis))
+  twice-same (Area a) = ap (λ (t : Bool). cond t 6 0) (has-back (v .areas) (f .drawn) (f .areas) (at fs 1))
+  twice-same (Name a) = refl
+  twice-same (Track a min max) = refl
+  twice-same (Repeat a n) = refl
+  twice-same (End a) = refl
+  twice-same (Spare a min max) = refl
+  twice-same (Extra a n p) = refl
+  twice-same (Item a i) = refl
+  twice-same (Place a s e) = refl
+
+  -- the faults before
+  before-same : (r : Record) → faultBefore (heldPanel v) fs r ≡ firstOf (faultOf r) (firstOf (twiceFault v fs r) (lateFault v r))
+  unfolding faultBefore heldPanel
+  before-same r = ap (λ (n : ℕ). firstOf (faultOf r) (firstOf n (lateIn (v .stage) r))) (twice-same r) ∙ ap (λ (n : ℕ). firstOf (faultOf r) (firstOf (twiceFault v fs r) n)) (late-same v r)
+
+  -- ---- the line
+
+  -- the record's fault
+  record-fault : (r : Record) → recordIn (heldPanel v) fs r .fault ≡ recordFault v fs r
+  unfolding recordIn recordFault
+  record-fault r =
+      let a : ℕ = faultOf r in
+      let b : ℕ = twiceFault v fs r in
+      let c : ℕ = lateFault v r in
+      let d : ℕ = recordStep v fs r .fault in
+      ap (λ (n : ℕ). firstOf n (heldStep (heldPanel v) fs r .fault)) (before-same r)
+      ∙ ap (λ (s : PanelStepped). firstOf (firstOf a (firstOf b c)) (s .fault)) (record-same v f fs r)
+      ∙ first-joined a (firstOf b c) d
+      ∙ ap (firstOf a) (first-joined b c d)
+
+  -- the fault of the view's outcome
+  outcome-fault : (r : Record) → recordOutcome v fs r .fault ≡ recordFault v fs r
+  outcome-fault r = go (eqb (recordFault v fs r) 0) refl
+    where
+      go : (t : Bool) → eqb (recordFault v fs r) 0 ≡ t
+          → cond t (accepted (viewAtStage (stageOf v r) (recordStep v fs r .panel))) (refused (recordFault v fs r) v) .fault ≡ recordFault v fs r
+      go true e = sym (eqb-true (recordFault v fs r) 0 e)
+      go false e = refl
+
+  -- the kind order is in the reading alone
+  stage-held : (n : ℕ) (w : PanelView) → atStage n (heldPanel w) ≡ heldPanel (viewAtStage n w)
+  unfolding heldPanel
+  stage-held n w = refl
+
+  -- a record without a fault
+  record-held : (r : Record) → recordFault v fs r ≡ 0 → recordIn (heldPanel v) fs r .held ≡ heldPanel (recordOutcome v fs r .panel)
+  unfolding recordIn
+  record-held r e =
+      ap (λ (n : ℕ). atStage n (heldStep (heldPanel v) fs r .held)) (reading-stage ∙ stage-same v r)
+      ∙ ap (λ (s : PanelStepped). atStage (stageOf v r) (s .held)) (record-same v f fs r)
+      ∙ stage-held (stageOf v r) (recordStep v fs r .panel)
+      ∙ ap (λ (t : Bool). heldPanel (cond t (accepted (viewAtStage (stageOf v r) (recordStep v fs r .panel))) (refused (recordFault v fs r) v) .panel)) (sym (eq-eqb (recordFault v fs r) 0 e))
+    where
+      reading-stage : stageIn (heldPanel v .reading .stage) r ≡ stageIn (v .stage) r
+      reading-stage = unfold heldPanel in refl
+
+-- a line has the fault that it has on the view
+pub line-fault : (v : PanelView) → FitsPanel v → (fs : List (List ℕ)) → lineIn (heldPanel v) fs .fault ≡ lineStep v fs .fault
+unfolding lineIn lineStep
+line-fault v f fs = record-fault v f fs (recordOf fs) ∙ sym (outcome-fault v f fs (recordOf fs))
+
+-- and where that is none, what is held then is what is held for the view after it
+pub line-held : (v : PanelView) → FitsPanel v → (fs : List (List ℕ)) → lineStep v fs .fault ≡ 0 → lineIn (heldPanel v) fs .held ≡ heldPanel (lineStep v fs .panel)
+unfolding lineIn lineStep
+line-held v f fs e = record-held v f fs (recordOf fs) (sym (outcome-fault v f fs (recordOf fs)) ∙ e)

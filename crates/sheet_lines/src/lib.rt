@@ -1,0 +1,16 @@
+// One line of a panel sheet by itself: the form that its fields make, or its fault, and where its names lie. Lines of a template,
+// `axis`, `track` and `spare`, `repeat`, and `end`, stand in `templates`, the others in `lines`.
+mod lines;
+mod read;
+pub mod templates;
+
+pub use read::read_record;
+use sheet_forms::Record;
+use text::Place;
+
+// What a line says, and where its names lie in it: the empty place where there is none.
+pub struct LineRecord {
+    pub said: Record,
+    pub first: Place,
+    pub second: Place,
+}

@@ -1,2 +1,0 @@
-// The range of each kind of size.
-pub mod range;

@@ -1,0 +1,17 @@
+use Rattle.track_record.specs.Repeats.{repeatedOf}
+use borrow.Author.Needs.{needs}
+use Rattle.track_record.proofs.component.repeated_of.Statement.{statement}
+use Rattle.track_record.proofs.component.repeated_of.Tie as tie
+
+component-of-requires : tie.Need-component-of-requires
+component-of-requires c κs = search needs
+
+is-fit-requires : tie.Need-is-fit-requires
+is-fit-requires c κs = search needs
+
+returns : tie.Need-returns
+unfolding repeatedOf
+returns c = rw (c .is-fit .ensures, c .before .component-of .ensures)
+
+pub repeated-of-spec : {M : Type 1} → statement M
+repeated-of-spec = tie.close (tie.spec component-of-requires is-fit-requires returns)

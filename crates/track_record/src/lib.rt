@@ -1,0 +1,15 @@
+// The rule for one track record, and what it reads: the tracks that a template writes out, places among them, and what is worked
+// out once for all records of an axis.
+pub mod collapse;
+pub mod component;
+pub mod count;
+pub mod cursor;
+pub mod plan;
+pub mod rule;
+
+// Tracks that repeat: the place of the first in the tables of sizes, how many there are, and whether `fit` writes them.
+pub struct Repeated {
+    pub first: u64,
+    pub length: u64,
+    pub fit: bool,
+}

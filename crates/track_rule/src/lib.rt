@@ -1,3 +1,0 @@
-// The rule for one track record.
-pub mod collapse;
-pub mod rule;
