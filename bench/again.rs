@@ -4,6 +4,6 @@ use super::{Panel, State};
 impl Panel {
     /// Put an earlier state back; the tables hold no more than what it counts.
     pub(crate) fn set_state(&mut self, state: State) {
-        self.state = state;
+        (self.answers.grid, self.room) = (state.grid, state.room);
     }
 }

@@ -19,10 +19,10 @@ static const char *const ends[] = {"auto", "line", "", "span"};
 static palgwern_tables tables;
 static uint64_t records[PALGWERN_LARGEST_RECORDS * PALGWERN_RECORD_WORDS];
 
-static void print_axis(palgwern_panel panel, uint32_t axis) {
-    palgwern_size_answer size = palgwern_explicit_size(panel, axis);
+static void print_axis(palgwern_grid grid, uint32_t axis) {
+    palgwern_size_answer size = palgwern_explicit_size(grid, axis);
     printf("size\t%s\t%" PRIu32 "\t%" PRIu32 "\n", letters[axis], size.repetitions, size.explicit_count);
-    palgwern_count_answer count = palgwern_tables_records(&tables, panel, axis, 0, records, sizeof records / sizeof *records);
+    palgwern_count_answer count = palgwern_tables_records(&tables, grid, axis, 0, records, sizeof records / sizeof *records);
     for (uint64_t i = 0; i < count.count; i++) {
         const uint64_t *r = &records[i * PALGWERN_RECORD_WORDS];
         printf("%" PRIu64 "\t%s\t%s\t%s\t%08" PRIx32 "\t%s\t%08" PRIx32 "\n", i, r[0] & PALGWERN_GUTTER ? "gutter" : "track",
@@ -36,10 +36,10 @@ int main(void) {
         printf("refused\t%" PRIu32 "\t%" PRIu32 "\n", read.number, read.line);
         return 0;
     }
-    print_axis(read.panel, PALGWERN_COLUMNS);
-    print_axis(read.panel, PALGWERN_ROWS);
-    for (uint32_t i = 0; i < read.panel.placements; i++) {
-        palgwern_placement_answer p = palgwern_tables_placement(&tables, read.panel, i);
+    print_axis(read.panel.grid, PALGWERN_COLUMNS);
+    print_axis(read.panel.grid, PALGWERN_ROWS);
+    for (uint32_t i = 0; i < read.panel.grid.placements; i++) {
+        palgwern_placement_answer p = palgwern_tables_placement(&tables, read.panel.grid, i);
         printf("place\t%s\t%s\t%" PRId32 "\t%s\t%" PRId32 "\n", letters[p.axis], ends[p.startkind], p.startnumber, ends[p.endkind],
             p.endnumber);
     }

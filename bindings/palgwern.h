@@ -9,8 +9,8 @@
  *   a pointer with a length has so many elements, and one of length 0 still points somewhere;
  * - no overlap: what a call may write (no `const`) is part of nothing else that is lent to it, and nobody else reads or writes it
  *   meanwhile. There is no other state: calls on different panels can run at the same time;
- * - on the panel: hand each call the panel that the last one gave and the words, bytes and stores that it left. Others are
- *   answered too, but then they describe nothing.
+ * - on the panel: hand each edit the panel that the last one gave, each other call its `grid`, and the words, bytes and stores that
+ *   the edit left. Others are answered too, but then they describe nothing.
  *
  * A call that refuses leaves everything lent as it was.
  */
@@ -100,33 +100,70 @@ enum palgwern_size {
     PALGWERN_FITP = 7
 };
 
-/* An axis of a panel. Not for change: a caller keeps it and hands it back. 72 bytes. */
-typedef struct palgwern_axis {
-    uint32_t definite;    /* 1 where there is an inner size */
-    uint32_t inner;       /* the bits of it */
-    uint32_t rule;        /* 0 max, 1 min */
-    uint64_t gap;         /* a size's word */
+/* A panel by value, in two parts: what answers are read from, and what only an edit reads. Not for change: a caller keeps it and
+ * hands it back, to an edit whole, to any other call its `grid`. */
+
+/* The space of an axis, as its `axis` record says it. */
+typedef struct palgwern_axis_space {
+    uint32_t definite;       /* 1 where there is an inner size */
+    uint32_t inner;          /* the bits of it */
+    uint32_t rule;           /* 0 max, 1 min */
+    uint64_t gap;            /* a size's word */
+} palgwern_axis_space;
+
+typedef struct palgwern_template_counts {
     uint32_t components;
     uint32_t tracks;
-    uint32_t spares;
-    uint32_t names;       /* `name` records */
-    uint32_t used;        /* bytes of the line-name store */
-    uint32_t negative;    /* implicit counts */
-    uint32_t positive;
-    uint32_t entries;     /* name entries */
+} palgwern_template_counts;
+
+typedef struct palgwern_implicit_counts {
+    uint32_t negative;       /* tracks before the grid */
+    uint32_t positive;       /* tracks after it */
+    uint32_t spares;         /* spare sizes */
+} palgwern_implicit_counts;
+
+typedef struct palgwern_axis_size {
     uint32_t repetitions;
     uint32_t explicit_count;
-    uint32_t areas;       /* tracks that areas span */
-} palgwern_axis;
+} palgwern_axis_size;
 
-/* A panel by value. 160 bytes. */
-typedef struct palgwern_panel {
-    palgwern_axis columns;
-    palgwern_axis rows;
+/* What answers on an axis. 56 bytes. */
+typedef struct palgwern_axis_grid {
+    palgwern_axis_space space;
+    palgwern_template_counts template_counts;
+    palgwern_implicit_counts implicit;
+    uint32_t entries;        /* name entries */
+    palgwern_axis_size size;
+} palgwern_axis_grid;
+
+/* What only an edit reads of an axis. 20 bytes. */
+typedef struct palgwern_axis_room {
+    palgwern_template_counts template_counts; /* as it is written */
+    uint32_t names;          /* `name` records */
+    uint32_t used;           /* bytes of the line-name store */
+    uint32_t areas;          /* tracks that areas span */
+} palgwern_axis_room;
+
+/* 120 bytes. */
+typedef struct palgwern_grid {
+    palgwern_axis_grid columns;
+    palgwern_axis_grid rows;
     uint32_t areas;          /* drawn areas */
-    uint32_t areabytes;      /* bytes of their names */
     uint32_t placements;
-    uint32_t placementbytes;
+} palgwern_grid;
+
+/* 48 bytes. */
+typedef struct palgwern_room {
+    palgwern_axis_room columns;
+    palgwern_axis_room rows;
+    uint32_t areabytes;      /* bytes of the names of areas */
+    uint32_t placementbytes; /* bytes of the names of placements */
+} palgwern_room;
+
+/* 168 bytes. */
+typedef struct palgwern_panel {
+    palgwern_grid grid;
+    palgwern_room room;
 } palgwern_panel;
 
 /* Answers: `number` is the refusal's, 0 where there is none; the rest is 0 where there is one, but for the panel of
@@ -158,17 +195,17 @@ palgwern_panel_answer palgwern_enter_name(
     uint32_t axis, uint32_t line, const uint8_t *name, size_t name_bytes);
 
 /* Repetitions of the automatic repeat and the explicit count of an axis. */
-palgwern_size_answer palgwern_explicit_size(palgwern_panel panel, uint32_t axis);
+palgwern_size_answer palgwern_explicit_size(palgwern_grid grid, uint32_t axis);
 
 /* How many lists of line names an axis has: 0, or one for each explicit line. */
-palgwern_count_answer palgwern_line_count(palgwern_panel panel, uint32_t axis);
+palgwern_count_answer palgwern_line_count(palgwern_grid grid, uint32_t axis);
 
 /* How many records an axis has: 2N + 1 for N tracks. */
-palgwern_count_answer palgwern_record_count(palgwern_panel panel, uint32_t axis);
+palgwern_count_answer palgwern_record_count(palgwern_grid grid, uint32_t axis);
 
 /* Placement `index`, from 0, with its names resolved. Refuses by 4 (no such placement), then 10. */
 palgwern_placement_answer palgwern_resolve_placement(
-    palgwern_panel panel, const uint64_t words[PALGWERN_PANEL_WORDS], const uint8_t bytes[PALGWERN_PANEL_BYTES],
+    palgwern_grid grid, const uint64_t words[PALGWERN_PANEL_WORDS], const uint8_t bytes[PALGWERN_PANEL_BYTES],
     const uint8_t *columnstore, size_t columnstore_bytes, const uint8_t *rowstore, size_t rowstore_bytes,
     uint32_t index);
 
@@ -176,14 +213,14 @@ palgwern_placement_answer palgwern_resolve_placement(
  * numbers each in the order of palgwern_placement_answer; answers how many. Numbers past them stay as they are. The same answers as
  * one by one, but the names are grouped once for all. Refuses by 4 (`first` is no placement), then by 10 (a short store). */
 palgwern_count_answer palgwern_resolve_placements(
-    palgwern_panel panel, const uint64_t words[PALGWERN_PANEL_WORDS], const uint8_t bytes[PALGWERN_PANEL_BYTES],
+    palgwern_grid grid, const uint64_t words[PALGWERN_PANEL_WORDS], const uint8_t bytes[PALGWERN_PANEL_BYTES],
     const uint8_t *columnstore, size_t columnstore_bytes, const uint8_t *rowstore, size_t rowstore_bytes,
     uint32_t first, int32_t numbers[PALGWERN_PLACEMENT_RUN]);
 
 /* Where a name of a line (from 1) of an axis lies in the axis's store, by its place from 0. Length 0: that line and place hold
  * none. Offset and length stay within the store. Refuses by 4 (no axis), then by 10 (a short store). */
 palgwern_name_answer palgwern_line_name(
-    palgwern_panel panel, const uint64_t words[PALGWERN_PANEL_WORDS],
+    palgwern_grid grid, const uint64_t words[PALGWERN_PANEL_WORDS],
     const uint8_t *columnstore, size_t columnstore_bytes, const uint8_t *rowstore, size_t rowstore_bytes,
     uint32_t axis, uint32_t line, uint32_t place);
 
@@ -192,7 +229,7 @@ palgwern_name_answer palgwern_line_name(
  * `names`; words past them stay as they are. Offset and length stay within the store. Refuses by 4 (no axis, or an explicit count
  * above 10,000, which no sheet gives), then by 10 (a short store). */
 palgwern_count_answer palgwern_line_names(
-    palgwern_panel panel, const uint64_t words[PALGWERN_PANEL_WORDS],
+    palgwern_grid grid, const uint64_t words[PALGWERN_PANEL_WORDS],
     const uint8_t *columnstore, size_t columnstore_bytes, const uint8_t *rowstore, size_t rowstore_bytes,
     uint32_t axis, uint64_t names[PALGWERN_LINE_NAME_RUN]);
 
@@ -206,7 +243,7 @@ static inline uint32_t palgwern_word_length(uint64_t word) { return word >> 32 &
  * `first` is no record), then by 10 (fewer item bytes than tracks, or words for no record). Time is linear in the axis, so hand
  * over a run for all. */
 palgwern_count_answer palgwern_records(
-    palgwern_panel panel, const uint64_t words[PALGWERN_PANEL_WORDS],
+    palgwern_grid grid, const uint64_t words[PALGWERN_PANEL_WORDS],
     uint32_t axis, const uint8_t *items, size_t items_bytes, uint32_t first, uint64_t *records, size_t records_length);
 
 /* ---- all that is lent, in one struct, and the calls on it */
@@ -229,33 +266,33 @@ static inline palgwern_panel_answer palgwern_tables_enter(palgwern_tables *t, pa
         (const uint8_t *)name, bytes);
 }
 
-static inline palgwern_placement_answer palgwern_tables_placement(const palgwern_tables *t, palgwern_panel panel, uint32_t index) {
-    return palgwern_resolve_placement(panel, t->words, t->bytes, t->columnstore, sizeof t->columnstore, t->rowstore,
+static inline palgwern_placement_answer palgwern_tables_placement(const palgwern_tables *t, palgwern_grid grid, uint32_t index) {
+    return palgwern_resolve_placement(grid, t->words, t->bytes, t->columnstore, sizeof t->columnstore, t->rowstore,
         sizeof t->rowstore, index);
 }
 
-static inline palgwern_count_answer palgwern_tables_placements(const palgwern_tables *t, palgwern_panel panel, uint32_t first,
+static inline palgwern_count_answer palgwern_tables_placements(const palgwern_tables *t, palgwern_grid grid, uint32_t first,
     int32_t numbers[PALGWERN_PLACEMENT_RUN]) {
-    return palgwern_resolve_placements(panel, t->words, t->bytes, t->columnstore, sizeof t->columnstore, t->rowstore,
+    return palgwern_resolve_placements(grid, t->words, t->bytes, t->columnstore, sizeof t->columnstore, t->rowstore,
         sizeof t->rowstore, first, numbers);
 }
 
-static inline palgwern_count_answer palgwern_tables_names(const palgwern_tables *t, palgwern_panel panel, uint32_t axis,
+static inline palgwern_count_answer palgwern_tables_names(const palgwern_tables *t, palgwern_grid grid, uint32_t axis,
     uint64_t names[PALGWERN_LINE_NAME_RUN]) {
-    return palgwern_line_names(panel, t->words, t->columnstore, sizeof t->columnstore, t->rowstore, sizeof t->rowstore, axis, names);
+    return palgwern_line_names(grid, t->words, t->columnstore, sizeof t->columnstore, t->rowstore, sizeof t->rowstore, axis, names);
 }
 
-static inline palgwern_name_answer palgwern_tables_name(const palgwern_tables *t, palgwern_panel panel, uint32_t axis,
+static inline palgwern_name_answer palgwern_tables_name(const palgwern_tables *t, palgwern_grid grid, uint32_t axis,
     uint32_t line, uint32_t place) {
-    return palgwern_line_name(panel, t->words, t->columnstore, sizeof t->columnstore, t->rowstore, sizeof t->rowstore, axis, line,
+    return palgwern_line_name(grid, t->words, t->columnstore, sizeof t->columnstore, t->rowstore, sizeof t->rowstore, axis, line,
         place);
 }
 
 /* with the sheet's item marks */
-static inline palgwern_count_answer palgwern_tables_records(const palgwern_tables *t, palgwern_panel panel, uint32_t axis,
+static inline palgwern_count_answer palgwern_tables_records(const palgwern_tables *t, palgwern_grid grid, uint32_t axis,
     uint32_t first, uint64_t *records, size_t length) {
     const uint8_t *items = t->bytes + (axis == PALGWERN_ROWS ? PALGWERN_ROW_MARKS_START : PALGWERN_COLUMN_MARKS_START);
-    return palgwern_records(panel, t->words, axis, items, PALGWERN_AXIS_MARKS, first, records, length);
+    return palgwern_records(grid, t->words, axis, items, PALGWERN_AXIS_MARKS, first, records, length);
 }
 
 #ifdef __cplusplus

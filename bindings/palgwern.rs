@@ -5,6 +5,7 @@
 //! One thing is left to the program: 512 KiB of stack for `Panel::read`, which every Rust thread has unless it was asked for less.
 #![allow(dead_code)]
 use std::fmt;
+use std::ops::Deref;
 
 /// Lengths of the arrays that are lent, as in `palgwern.h`.
 pub const PANEL_WORDS: usize = 25_600;
@@ -36,37 +37,88 @@ pub const RECORD_WORDS: usize = 3;
 /// The numbers of a resolved placement in a run.
 pub const PLACEMENT_NUMBERS: usize = 6;
 
-/// An axis of a panel as the library has it; `crates/axis_tables/src/lib.rt` says what the fields are.
+/// The space of an axis; `crates/axis_tables/src/lib.rt` says what the fields of an axis are.
 #[repr(C)]
 #[derive(Clone, Copy, Debug, Default, PartialEq, Eq)]
-pub struct AxisState {
+pub struct AxisSpace {
     pub definite: u32,
     pub inner: u32,
     pub rule: u32,
     pub gap: u64,
+}
+
+/// The components of a template, and their tracks.
+#[repr(C)]
+#[derive(Clone, Copy, Debug, Default, PartialEq, Eq)]
+pub struct TemplateCounts {
     pub components: u32,
     pub tracks: u32,
-    pub spares: u32,
-    pub names: u32,
-    pub used: u32,
+}
+
+/// Implicit tracks before the grid, those after it, and spare sizes.
+#[repr(C)]
+#[derive(Clone, Copy, Debug, Default, PartialEq, Eq)]
+pub struct ImplicitCounts {
     pub negative: u32,
     pub positive: u32,
-    pub entries: u32,
+    pub spares: u32,
+}
+
+/// The repetitions of an axis's automatic repeat and its explicit count.
+#[repr(C)]
+#[derive(Clone, Copy, Debug, Default, PartialEq, Eq)]
+pub struct AxisSize {
     pub repetitions: u32,
     pub explicit: u32,
+}
+
+/// What answers on an axis.
+#[repr(C)]
+#[derive(Clone, Copy, Debug, Default, PartialEq, Eq)]
+pub struct AxisGrid {
+    pub space: AxisSpace,
+    pub template: TemplateCounts,
+    pub implicit: ImplicitCounts,
+    pub entries: u32,
+    pub size: AxisSize,
+}
+
+/// What only an edit reads of an axis.
+#[repr(C)]
+#[derive(Clone, Copy, Debug, Default, PartialEq, Eq)]
+pub struct AxisRoom {
+    pub template: TemplateCounts,
+    pub names: u32,
+    pub used: u32,
     pub areas: u32,
+}
+
+/// What answers are read from, beside the tables.
+#[repr(C)]
+#[derive(Clone, Copy, Debug, Default, PartialEq, Eq)]
+pub struct Grid {
+    pub columns: AxisGrid,
+    pub rows: AxisGrid,
+    pub areas: u32,
+    pub placements: u32,
+}
+
+/// What only an edit reads.
+#[repr(C)]
+#[derive(Clone, Copy, Debug, Default, PartialEq, Eq)]
+pub struct Room {
+    pub columns: AxisRoom,
+    pub rows: AxisRoom,
+    pub areabytes: u32,
+    pub placementbytes: u32,
 }
 
 /// A panel as the library has it.
 #[repr(C)]
 #[derive(Clone, Copy, Debug, Default, PartialEq, Eq)]
 pub struct State {
-    pub columns: AxisState,
-    pub rows: AxisState,
-    pub areas: u32,
-    pub areabytes: u32,
-    pub placements: u32,
-    pub placementbytes: u32,
+    pub grid: Grid,
+    pub room: Room,
 }
 
 /// The calls themselves and their answers, as in `palgwern.h`. A program uses `Panel`.
@@ -124,34 +176,35 @@ pub mod raw {
             panel: State, words: *mut [u64; PANEL_WORDS], columnstore: *mut u8, columnstore_bytes: usize, rowstore: *mut u8,
             rowstore_bytes: usize, axis: u32, line: u32, name: *const u8, name_bytes: usize,
         ) -> PanelAnswer;
-        pub fn palgwern_explicit_size(panel: State, axis: u32) -> SizeAnswer;
-        pub fn palgwern_line_count(panel: State, axis: u32) -> CountAnswer;
-        pub fn palgwern_record_count(panel: State, axis: u32) -> CountAnswer;
+        pub fn palgwern_explicit_size(grid: Grid, axis: u32) -> SizeAnswer;
+        pub fn palgwern_line_count(grid: Grid, axis: u32) -> CountAnswer;
+        pub fn palgwern_record_count(grid: Grid, axis: u32) -> CountAnswer;
         pub fn palgwern_resolve_placement(
-            panel: State, words: *const [u64; PANEL_WORDS], bytes: *const [u8; PANEL_BYTES], columnstore: *const u8,
+            grid: Grid, words: *const [u64; PANEL_WORDS], bytes: *const [u8; PANEL_BYTES], columnstore: *const u8,
             columnstore_bytes: usize, rowstore: *const u8, rowstore_bytes: usize, index: u32,
         ) -> PlacementAnswer;
         pub fn palgwern_resolve_placements(
-            panel: State, words: *const [u64; PANEL_WORDS], bytes: *const [u8; PANEL_BYTES], columnstore: *const u8,
+            grid: Grid, words: *const [u64; PANEL_WORDS], bytes: *const [u8; PANEL_BYTES], columnstore: *const u8,
             columnstore_bytes: usize, rowstore: *const u8, rowstore_bytes: usize, first: u32, numbers: *mut [i32; PLACEMENT_RUN],
         ) -> CountAnswer;
         pub fn palgwern_line_name(
-            panel: State, words: *const [u64; PANEL_WORDS], columnstore: *const u8, columnstore_bytes: usize, rowstore: *const u8,
+            grid: Grid, words: *const [u64; PANEL_WORDS], columnstore: *const u8, columnstore_bytes: usize, rowstore: *const u8,
             rowstore_bytes: usize, axis: u32, line: u32, place: u32,
         ) -> NameAnswer;
         pub fn palgwern_line_names(
-            panel: State, words: *const [u64; PANEL_WORDS], columnstore: *const u8, columnstore_bytes: usize, rowstore: *const u8,
+            grid: Grid, words: *const [u64; PANEL_WORDS], columnstore: *const u8, columnstore_bytes: usize, rowstore: *const u8,
             rowstore_bytes: usize, axis: u32, names: *mut [u64; LINE_NAME_RUN],
         ) -> CountAnswer;
         pub fn palgwern_records(
-            panel: State, words: *const [u64; PANEL_WORDS], axis: u32, items: *const u8, items_bytes: usize, first: u32,
+            grid: Grid, words: *const [u64; PANEL_WORDS], axis: u32, items: *const u8, items_bytes: usize, first: u32,
             records: *mut u64, records_length: usize,
         ) -> CountAnswer;
     }
 }
 
-const _: () = assert!(size_of::<AxisState>() == 72 && size_of::<State>() == 160);
-const _: () = assert!(size_of::<raw::PanelAnswer>() == 168 && size_of::<raw::CountAnswer>() == 16);
+const _: () = assert!(size_of::<AxisGrid>() == 56 && size_of::<AxisRoom>() == 20);
+const _: () = assert!(size_of::<Grid>() == 120 && size_of::<Room>() == 48 && size_of::<State>() == 168);
+const _: () = assert!(size_of::<raw::PanelAnswer>() == 176 && size_of::<raw::CountAnswer>() == 16);
 const _: () = assert!(size_of::<raw::SizeAnswer>() == 12 && size_of::<raw::NameAnswer>() == 12 && size_of::<raw::PlacementAnswer>() == 24);
 
 /// A refusal by document 01's word.
@@ -219,13 +272,6 @@ pub struct Placement {
     pub end: End,
 }
 
-/// The repetitions of an axis's automatic repeat and its explicit count.
-#[derive(Clone, Copy, Debug, PartialEq, Eq)]
-pub struct AxisSize {
-    pub repetitions: u32,
-    pub explicit: u32,
-}
-
 /// The minimum or the maximum of a track.
 #[derive(Clone, Copy, Debug, PartialEq)]
 pub enum Size {
@@ -271,14 +317,30 @@ impl Record {
     }
 }
 
-/// A panel, with the buffers that the library keeps it in. Two are equal where every word and byte of them is.
+/// What answers, with the buffers that the library keeps it in: every call but the edits. Two are equal where every word and byte of
+/// them is.
 #[derive(Clone, PartialEq, Eq)]
-pub struct Panel {
-    state: State,
+pub struct Answers {
+    grid: Grid,
     words: Box<[u64; PANEL_WORDS]>,
     bytes: Box<[u8; PANEL_BYTES]>,
     columnstore: Box<[u8; STORE_BYTES]>,
     rowstore: Box<[u8; STORE_BYTES]>,
+}
+
+/// A panel: what answers, and what edits it.
+#[derive(Clone, PartialEq, Eq)]
+pub struct Panel {
+    answers: Answers,
+    room: Room,
+}
+
+impl Deref for Panel {
+    type Target = Answers;
+
+    fn deref(&self) -> &Answers {
+        &self.answers
+    }
 }
 
 /// A zeroed array, made on the heap.
@@ -322,16 +384,17 @@ impl Panel {
 
     /// The panel of the empty sheet.
     pub fn empty() -> Panel {
-        Panel { state: State::default(), words: zeroed(), bytes: zeroed(), columnstore: zeroed(), rowstore: zeroed() }
+        Panel { answers: Answers::empty(), room: Room::default() }
     }
 
     /// Reads another sheet into the same buffers. On a refusal the panel stays.
     pub fn read_again(&mut self, sheet: &[u8]) -> Result<(), Refusal> {
+        let held = &mut self.answers;
         // SAFETY: the arrays are initialized boxes of their own, each of the length that its type says.
         let answer = unsafe {
             raw::palgwern_read_sheet(
-                sheet.as_ptr(), sheet.len(), &mut *self.words, &mut *self.bytes, self.columnstore.as_mut_ptr(), STORE_BYTES,
-                self.rowstore.as_mut_ptr(), STORE_BYTES,
+                sheet.as_ptr(), sheet.len(), &mut *held.words, &mut *held.bytes, held.columnstore.as_mut_ptr(), STORE_BYTES,
+                held.rowstore.as_mut_ptr(), STORE_BYTES,
             )
         };
         self.after(answer)
@@ -339,10 +402,12 @@ impl Panel {
 
     /// Enters a line and a name in an axis. On a refusal the panel stays.
     pub fn enter(&mut self, axis: Axis, line: u32, name: &[u8]) -> Result<(), Refusal> {
+        let state = self.state();
+        let held = &mut self.answers;
         // SAFETY: as above.
         let answer = unsafe {
             raw::palgwern_enter_name(
-                self.state, &mut *self.words, self.columnstore.as_mut_ptr(), STORE_BYTES, self.rowstore.as_mut_ptr(), STORE_BYTES,
+                state, &mut *held.words, held.columnstore.as_mut_ptr(), STORE_BYTES, held.rowstore.as_mut_ptr(), STORE_BYTES,
                 axis as u32, line, name.as_ptr(), name.len(),
             )
         };
@@ -353,28 +418,40 @@ impl Panel {
         if answer.number != 0 {
             return Err(Refusal::of(answer.number, answer.line));
         }
-        self.state = answer.panel;
+        (self.answers.grid, self.room) = (answer.panel.grid, answer.panel.room);
         Ok(())
+    }
+
+    /// The panel as the library has it.
+    pub fn state(&self) -> State {
+        State { grid: self.answers.grid, room: self.room }
+    }
+}
+
+impl Answers {
+    /// Those of the empty sheet.
+    fn empty() -> Answers {
+        Answers { grid: Grid::default(), words: zeroed(), bytes: zeroed(), columnstore: zeroed(), rowstore: zeroed() }
     }
 
     /// The repetitions and the explicit count of an axis.
     pub fn size(&self, axis: Axis) -> AxisSize {
         // SAFETY: numbers only.
-        let answer = unsafe { raw::palgwern_explicit_size(self.state, axis as u32) };
+        let answer = unsafe { raw::palgwern_explicit_size(self.grid, axis as u32) };
         AxisSize { repetitions: answer.repetitions, explicit: answer.explicit }
     }
 
     /// How many placements there are.
     pub fn placements(&self) -> u32 {
-        self.state.placements
+        self.grid.placements
     }
 
     /// Placement `index`, from 0, with its names resolved; `Word::Count` where there is none.
     pub fn placement(&self, index: u32) -> Result<Placement, Refusal> {
-        // SAFETY: as in `read_again`; nothing is written.
+        // SAFETY: as in `Panel::read_again`; nothing is written.
         let answer = unsafe {
             raw::palgwern_resolve_placement(
-                self.state, &*self.words, &*self.bytes, self.columnstore.as_ptr(), STORE_BYTES, self.rowstore.as_ptr(), STORE_BYTES,
+                self.grid, &*self.words, &*self.bytes, self.columnstore.as_ptr(), STORE_BYTES, self.rowstore.as_ptr(), STORE_BYTES,
                 index,
             )
         };
@@ -394,10 +471,10 @@ impl Panel {
 
     /// Writes placements from `first` on, as many as there are, six numbers each; answers how many.
     pub fn write_placements(&self, first: u32, numbers: &mut [i32; PLACEMENT_RUN]) -> Result<usize, Refusal> {
-        // SAFETY: as in `read_again`; `numbers` is borrowed mutably, so it is none of the others.
+        // SAFETY: as in `Panel::read_again`; `numbers` is borrowed mutably, so it is none of the others.
         let answer = unsafe {
             raw::palgwern_resolve_placements(
-                self.state, &*self.words, &*self.bytes, self.columnstore.as_ptr(), STORE_BYTES, self.rowstore.as_ptr(), STORE_BYTES,
+                self.grid, &*self.words, &*self.bytes, self.columnstore.as_ptr(), STORE_BYTES, self.rowstore.as_ptr(), STORE_BYTES,
                 first, numbers,
             )
         };
@@ -407,15 +484,15 @@ impl Panel {
     /// How many lists of line names an axis has: none, or one for each explicit line.
     pub fn lists(&self, axis: Axis) -> u32 {
         // SAFETY: numbers only.
-        unsafe { raw::palgwern_line_count(self.state, axis as u32) }.count as u32
+        unsafe { raw::palgwern_line_count(self.grid, axis as u32) }.count as u32
     }
 
     /// The name of a line, from 1, at a place, from 0.
     pub fn name(&self, axis: Axis, line: u32, place: u32) -> Option<&[u8]> {
-        // SAFETY: as in `read_again`; nothing is written.
+        // SAFETY: as in `Panel::read_again`; nothing is written.
         let part = unsafe {
             raw::palgwern_line_name(
-                self.state, &*self.words, self.columnstore.as_ptr(), STORE_BYTES, self.rowstore.as_ptr(), STORE_BYTES, axis as u32,
+                self.grid, &*self.words, self.columnstore.as_ptr(), STORE_BYTES, self.rowstore.as_ptr(), STORE_BYTES, axis as u32,
                 line, place,
             )
         };
@@ -441,10 +518,10 @@ impl Panel {
 
     /// Writes all line names of an axis, a word each: line, offset times 2^16, length times 2^32; answers how many.
     pub fn write_line_names(&self, axis: Axis, names: &mut [u64; LINE_NAME_RUN]) -> Result<usize, Refusal> {
-        // SAFETY: as in `read_again`; `names` is borrowed mutably, so it is none of the others.
+        // SAFETY: as in `Panel::read_again`; `names` is borrowed mutably, so it is none of the others.
         let answer = unsafe {
             raw::palgwern_line_names(
-                self.state, &*self.words, self.columnstore.as_ptr(), STORE_BYTES, self.rowstore.as_ptr(), STORE_BYTES, axis as u32,
+                self.grid, &*self.words, self.columnstore.as_ptr(), STORE_BYTES, self.rowstore.as_ptr(), STORE_BYTES, axis as u32,
                 names,
             )
         };
@@ -466,7 +543,7 @@ impl Panel {
     /// How many records an axis has.
     pub fn record_count(&self, axis: Axis) -> usize {
         // SAFETY: numbers only.
-        unsafe { raw::palgwern_record_count(self.state, axis as u32) }.count as usize
+        unsafe { raw::palgwern_record_count(self.grid, axis as u32) }.count as usize
     }
 
     /// The records of an axis, with the sheet's items.
@@ -488,17 +565,17 @@ impl Panel {
 
     /// Writes records from `first` on, with any items, as many as there are and fit, three words each; answers how many.
     pub fn write_records(&self, axis: Axis, items: &[u8], first: u32, records: &mut [u64]) -> Result<usize, Refusal> {
-        // SAFETY: as in `read_again`; `records` is borrowed mutably, so it is none of the others.
+        // SAFETY: as in `Panel::read_again`; `records` is borrowed mutably, so it is none of the others.
         let answer = unsafe {
             raw::palgwern_records(
-                self.state, &*self.words, axis as u32, items.as_ptr(), items.len(), first, records.as_mut_ptr(), records.len(),
+                self.grid, &*self.words, axis as u32, items.as_ptr(), items.len(), first, records.as_mut_ptr(), records.len(),
             )
         };
         counted(answer)
     }
 
-    /// The panel as the library has it.
-    pub fn state(&self) -> State {
-        self.state
+    /// What answers, as the library has it.
+    pub fn grid(&self) -> Grid {
+        self.grid
     }
 }

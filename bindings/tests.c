@@ -6,10 +6,12 @@
 #include <string.h>
 #include <sys/mman.h>
 
-_Static_assert(sizeof(palgwern_axis) == 72 && sizeof(palgwern_panel) == 160, "panel");
-_Static_assert(offsetof(palgwern_axis, gap) == 16 && offsetof(palgwern_axis, components) == 24, "axis");
-_Static_assert(offsetof(palgwern_axis, areas) == 64 && offsetof(palgwern_panel, areas) == 144, "areas");
-_Static_assert(sizeof(palgwern_panel_answer) == 168 && offsetof(palgwern_panel_answer, panel) == 8, "panel answer");
+_Static_assert(sizeof(palgwern_axis_grid) == 56 && sizeof(palgwern_axis_room) == 20, "axis");
+_Static_assert(sizeof(palgwern_grid) == 120 && sizeof(palgwern_room) == 48 && sizeof(palgwern_panel) == 168, "panel");
+_Static_assert(offsetof(palgwern_axis_space, gap) == 16 && offsetof(palgwern_axis_grid, template_counts) == 24, "space");
+_Static_assert(offsetof(palgwern_axis_grid, entries) == 44 && offsetof(palgwern_axis_grid, size) == 48, "size");
+_Static_assert(offsetof(palgwern_grid, areas) == 112 && offsetof(palgwern_room, areabytes) == 40, "areas");
+_Static_assert(sizeof(palgwern_panel_answer) == 176 && offsetof(palgwern_panel_answer, panel) == 8, "panel answer");
 _Static_assert(sizeof(palgwern_size_answer) == 12 && sizeof(palgwern_name_answer) == 12, "answers of three numbers");
 _Static_assert(sizeof(palgwern_count_answer) == 16 && offsetof(palgwern_count_answer, count) == 8, "count answer");
 _Static_assert(sizeof(palgwern_placement_answer) == 24, "placement answer");
@@ -30,16 +32,35 @@ static int failed;
 #define TEXT(s) (s), sizeof(s) - 1
 
 /* Whether two panels are the same, whatever lies between their fields. */
-static int same_axis(palgwern_axis a, palgwern_axis b) {
-    return a.definite == b.definite && a.inner == b.inner && a.rule == b.rule && a.gap == b.gap && a.components == b.components &&
-        a.tracks == b.tracks && a.spares == b.spares && a.names == b.names && a.used == b.used && a.negative == b.negative &&
-        a.positive == b.positive && a.entries == b.entries && a.repetitions == b.repetitions &&
-        a.explicit_count == b.explicit_count && a.areas == b.areas;
+static int same_template(palgwern_template_counts a, palgwern_template_counts b) {
+    return a.components == b.components && a.tracks == b.tracks;
+}
+
+static int same_grid(palgwern_axis_grid a, palgwern_axis_grid b) {
+    return a.space.definite == b.space.definite && a.space.inner == b.space.inner && a.space.rule == b.space.rule &&
+        a.space.gap == b.space.gap && same_template(a.template_counts, b.template_counts) &&
+        a.implicit.negative == b.implicit.negative && a.implicit.positive == b.implicit.positive &&
+        a.implicit.spares == b.implicit.spares && a.entries == b.entries && a.size.repetitions == b.size.repetitions &&
+        a.size.explicit_count == b.size.explicit_count;
+}
+
+static int same_room(palgwern_axis_room a, palgwern_axis_room b) {
+    return same_template(a.template_counts, b.template_counts) && a.names == b.names && a.used == b.used && a.areas == b.areas;
 }
 
 static int same(palgwern_panel a, palgwern_panel b) {
-    return same_axis(a.columns, b.columns) && same_axis(a.rows, b.rows) && a.areas == b.areas && a.areabytes == b.areabytes &&
-        a.placements == b.placements && a.placementbytes == b.placementbytes;
+    return same_grid(a.grid.columns, b.grid.columns) && same_grid(a.grid.rows, b.grid.rows) && a.grid.areas == b.grid.areas &&
+        a.grid.placements == b.grid.placements && same_room(a.room.columns, b.room.columns) && same_room(a.room.rows, b.room.rows) &&
+        a.room.areabytes == b.room.areabytes && a.room.placementbytes == b.room.placementbytes;
+}
+
+/* Whether an axis has these numbers in the order of its fields; the template as it is written is the one that counts. */
+static int is_axis(palgwern_axis_grid g, palgwern_axis_room r, const uint64_t n[15]) {
+    return g.space.definite == n[0] && g.space.inner == n[1] && g.space.rule == n[2] && g.space.gap == n[3] &&
+        g.template_counts.components == n[4] && g.template_counts.tracks == n[5] && g.implicit.negative == n[6] &&
+        g.implicit.positive == n[7] && g.implicit.spares == n[8] && g.entries == n[9] && g.size.repetitions == n[10] &&
+        g.size.explicit_count == n[11] && r.template_counts.components == n[4] && r.template_counts.tracks == n[5] &&
+        r.names == n[12] && r.used == n[13] && r.areas == n[14];
 }
 
 /* How many words of a region are not 0. */
@@ -55,14 +76,10 @@ static void layout(void) {
     palgwern_panel_answer read = palgwern_tables_read(&tables, sheet, sheet_bytes);
     CHECK(read.number == 0 && read.line == 0);
     panel = read.panel;
-    palgwern_axis c = panel.columns, r = panel.rows;
-    CHECK(c.definite == 1 && c.inner == 0x44070000 && c.rule == 0 && c.gap == 0x13c23d70aull);
-    CHECK(c.components == 3 && c.tracks == 4 && c.spares == 5 && c.names == 6 && c.used == 13);
-    CHECK(c.negative == 7 && c.positive == 8 && c.entries == 22 && c.repetitions == 9 && c.explicit_count == 20 && c.areas == 10);
-    CHECK(r.definite == 0 && r.inner == 0 && r.rule == 1 && r.gap == 0x40000000);
-    CHECK(r.components == 2 && r.tracks == 3 && r.spares == 4 && r.names == 5 && r.used == 14);
-    CHECK(r.negative == 6 && r.positive == 10 && r.entries == 11 && r.repetitions == 0 && r.explicit_count == 9 && r.areas == 8);
-    CHECK(panel.areas == 3 && panel.areabytes == 11 && panel.placements == 2 && panel.placementbytes == 12);
+    const uint64_t columns[15] = {1, 0x44070000, 0, 0x13c23d70aull, 3, 4, 7, 8, 5, 22, 9, 20, 6, 13, 10};
+    const uint64_t rows[15] = {0, 0, 1, 0x40000000, 2, 3, 6, 10, 4, 11, 0, 9, 5, 14, 8};
+    CHECK(is_axis(panel.grid.columns, panel.room.columns, columns) && is_axis(panel.grid.rows, panel.room.rows, rows));
+    CHECK(panel.grid.areas == 3 && panel.room.areabytes == 11 && panel.grid.placements == 2 && panel.room.placementbytes == 12);
     CHECK(!memcmp(tables.columnstore, "xyyzzzuuuuuwv", 14) && !memcmp(tables.rowstore, "rownamepqssttt", 15));
     CHECK(!memcmp(tables.bytes + PALGWERN_AREA_NAMES_START, "alphabgamma", 12));
     CHECK(!memcmp(tables.bytes + PALGWERN_PLACEMENT_NAMES_START, "uuuuurowname", 13));
@@ -87,17 +104,17 @@ static int is_name(palgwern_name_answer a, uint32_t offset, uint32_t length) {
 
 /* Every kind of answer, with numbers that differ from field to field and from axis to axis. */
 static void answers(void) {
-    CHECK(is_size(palgwern_explicit_size(panel, PALGWERN_COLUMNS), 9, 20) && is_size(palgwern_explicit_size(panel, PALGWERN_ROWS), 0, 9));
-    CHECK(is_count(palgwern_line_count(panel, PALGWERN_COLUMNS), 21) && is_count(palgwern_line_count(panel, PALGWERN_ROWS), 10));
-    CHECK(is_count(palgwern_record_count(panel, PALGWERN_COLUMNS), 71) && is_count(palgwern_record_count(panel, PALGWERN_ROWS), 51));
-    CHECK(is_name(palgwern_tables_name(&tables, panel, PALGWERN_COLUMNS, 3, 0), 6, 5));
-    CHECK(is_name(palgwern_tables_name(&tables, panel, PALGWERN_COLUMNS, 2, 1), 3, 3));
-    CHECK(is_name(palgwern_tables_name(&tables, panel, PALGWERN_COLUMNS, 3, 1), 0, 0));
-    CHECK(is_name(palgwern_tables_name(&tables, panel, PALGWERN_ROWS, 2, 1), 8, 1));
-    palgwern_placement_answer p = palgwern_tables_placement(&tables, panel, 0);
+    CHECK(is_size(palgwern_explicit_size(panel.grid, PALGWERN_COLUMNS), 9, 20) && is_size(palgwern_explicit_size(panel.grid, PALGWERN_ROWS), 0, 9));
+    CHECK(is_count(palgwern_line_count(panel.grid, PALGWERN_COLUMNS), 21) && is_count(palgwern_line_count(panel.grid, PALGWERN_ROWS), 10));
+    CHECK(is_count(palgwern_record_count(panel.grid, PALGWERN_COLUMNS), 71) && is_count(palgwern_record_count(panel.grid, PALGWERN_ROWS), 51));
+    CHECK(is_name(palgwern_tables_name(&tables, panel.grid, PALGWERN_COLUMNS, 3, 0), 6, 5));
+    CHECK(is_name(palgwern_tables_name(&tables, panel.grid, PALGWERN_COLUMNS, 2, 1), 3, 3));
+    CHECK(is_name(palgwern_tables_name(&tables, panel.grid, PALGWERN_COLUMNS, 3, 1), 0, 0));
+    CHECK(is_name(palgwern_tables_name(&tables, panel.grid, PALGWERN_ROWS, 2, 1), 8, 1));
+    palgwern_placement_answer p = palgwern_tables_placement(&tables, panel.grid, 0);
     CHECK(p.number == 0 && p.axis == PALGWERN_COLUMNS && p.startkind == PALGWERN_END_LINE && p.startnumber == 5);
     CHECK(p.endkind == PALGWERN_END_SPAN && p.endnumber == 6);
-    p = palgwern_tables_placement(&tables, panel, 1);
+    p = palgwern_tables_placement(&tables, panel.grid, 1);
     CHECK(p.number == 0 && p.axis == PALGWERN_ROWS && p.startkind == PALGWERN_END_LINE && p.startnumber == -3);
     CHECK(p.endkind == PALGWERN_END_LINE && p.endnumber == 12);
 }
@@ -111,13 +128,13 @@ static int is_record(uint32_t place, uint64_t kind, uint64_t minimum, uint64_t m
 /* Records: of both axes, with the items of each, and a run of them from any on. */
 static void records(void) {
     const uint64_t fraction = (uint64_t)PALGWERN_FR << 32, fit = (uint64_t)PALGWERN_FITL << 32, keyword = (uint64_t)PALGWERN_AUTO << 32;
-    CHECK(is_count(palgwern_tables_records(&tables, panel, PALGWERN_ROWS, 0, all, sizeof all / sizeof *all), 51));
+    CHECK(is_count(palgwern_tables_records(&tables, panel.grid, PALGWERN_ROWS, 0, all, sizeof all / sizeof *all), 51));
     CHECK(is_record(13, 0, keyword, fit | 0x41a00000) && is_record(14, PALGWERN_GUTTER, 0x40000000, 0x40000000));
-    CHECK(is_count(palgwern_tables_records(&tables, panel, PALGWERN_COLUMNS, 0, all, sizeof all / sizeof *all), 71));
+    CHECK(is_count(palgwern_tables_records(&tables, panel.grid, PALGWERN_COLUMNS, 0, all, sizeof all / sizeof *all), 71));
     CHECK(is_record(0, PALGWERN_GUTTER | PALGWERN_COLLAPSED, 0, 0) && is_record(5, 0, 0x41a00000, fraction | 0x3f800000));
     CHECK(is_record(17, 0, 0x41a00000, 0x41a00000) && is_record(19, PALGWERN_COLLAPSED, 0, 0));
     for (uint32_t first = 0; first < 71; first += 10) {
-        palgwern_count_answer run = palgwern_tables_records(&tables, panel, PALGWERN_COLUMNS, first, some, 30);
+        palgwern_count_answer run = palgwern_tables_records(&tables, panel.grid, PALGWERN_COLUMNS, first, some, 30);
         CHECK(is_count(run, first < 70 ? 10 : 1) && !memcmp(some, all + 3 * first, run.count * 24));
     }
 }
@@ -140,19 +157,19 @@ static int filled_from(size_t number, size_t name, size_t record) {
 /* A placement of a run is the one that is asked for alone. */
 static void placements(void) {
     fill_runs();
-    palgwern_count_answer run = palgwern_tables_placements(&tables, panel, 0, numbers);
-    CHECK(is_count(run, panel.placements) && filled_from(6 * run.count, 0, 0));
-    for (uint32_t i = 0; i < panel.placements; i++) {
-        palgwern_placement_answer p = palgwern_tables_placement(&tables, panel, i);
+    palgwern_count_answer run = palgwern_tables_placements(&tables, panel.grid, 0, numbers);
+    CHECK(is_count(run, panel.grid.placements) && filled_from(6 * run.count, 0, 0));
+    for (uint32_t i = 0; i < panel.grid.placements; i++) {
+        palgwern_placement_answer p = palgwern_tables_placement(&tables, panel.grid, i);
         CHECK(!memcmp(&p, numbers + 6 * i, sizeof p));
     }
     fill_runs();
-    CHECK(is_count(palgwern_tables_placements(&tables, panel, 1, numbers), 1) && numbers[1] == PALGWERN_ROWS && filled_from(6, 0, 0));
+    CHECK(is_count(palgwern_tables_placements(&tables, panel.grid, 1, numbers), 1) && numbers[1] == PALGWERN_ROWS && filled_from(6, 0, 0));
 }
 
 /* Of a number of placements that no sheet gives a run answers as many as fit. */
 static void many_placements(void) {
-    palgwern_panel forged = panel;
+    palgwern_grid forged = panel.grid;
     forged.placements = 300;
     CHECK(is_count(palgwern_tables_placements(&tables, forged, 0, numbers), PALGWERN_PLACEMENTS));
     CHECK(is_count(palgwern_tables_placements(&tables, forged, 100, numbers), 200));
@@ -163,12 +180,12 @@ static void many_placements(void) {
 /* The names of a run are those that are asked for one by one. */
 static void line_names(uint32_t axis) {
     fill_runs();
-    palgwern_count_answer run = palgwern_tables_names(&tables, panel, axis, names);
+    palgwern_count_answer run = palgwern_tables_names(&tables, panel.grid, axis, names);
     uint64_t seen = 0;
     CHECK(run.number == 0 && filled_from(0, run.count, 0));
-    for (uint32_t line = 1; line <= palgwern_line_count(panel, axis).count; line++)
+    for (uint32_t line = 1; line <= palgwern_line_count(panel.grid, axis).count; line++)
         for (uint32_t place = 0;; place++) {
-            palgwern_name_answer name = palgwern_tables_name(&tables, panel, axis, line, place);
+            palgwern_name_answer name = palgwern_tables_name(&tables, panel.grid, axis, line, place);
             if (name.length == 0) break;
             CHECK(seen < run.count && palgwern_word_line(names[seen]) == line);
             CHECK(palgwern_word_offset(names[seen]) == name.offset && palgwern_word_length(names[seen]) == name.length);
@@ -240,21 +257,21 @@ static void refused_by_numbers(void) {
     CHECK(entry_refused(palgwern_tables_enter(&tables, panel, 2, 1, TEXT("a")), PALGWERN_COUNT));
     CHECK(entry_refused(palgwern_tables_enter(&tables, panel, PALGWERN_ROWS, 0, TEXT("a")), PALGWERN_COUNT));
     CHECK(entry_refused(palgwern_tables_enter(&tables, panel, PALGWERN_ROWS, PALGWERN_ENTERED_LINE + 1, TEXT("a")), PALGWERN_COUNT));
-    CHECK(size_refused(palgwern_explicit_size(panel, 2), PALGWERN_COUNT));
-    CHECK(count_refused(palgwern_line_count(panel, 2), PALGWERN_COUNT));
-    CHECK(count_refused(palgwern_record_count(panel, 2), PALGWERN_COUNT));
-    CHECK(placement_refused(palgwern_tables_placement(&tables, panel, 2), PALGWERN_COUNT));
-    CHECK(count_refused(palgwern_tables_placements(&tables, panel, 2, numbers), PALGWERN_COUNT));
-    CHECK(name_refused(palgwern_tables_name(&tables, panel, 2, 1, 0), PALGWERN_COUNT));
-    CHECK(count_refused(palgwern_tables_names(&tables, panel, 2, names), PALGWERN_COUNT));
-    CHECK(count_refused(palgwern_tables_records(&tables, panel, 2, 0, some, 30), PALGWERN_COUNT));
-    CHECK(count_refused(palgwern_tables_records(&tables, panel, PALGWERN_COLUMNS, 71, some, 30), PALGWERN_COUNT));
+    CHECK(size_refused(palgwern_explicit_size(panel.grid, 2), PALGWERN_COUNT));
+    CHECK(count_refused(palgwern_line_count(panel.grid, 2), PALGWERN_COUNT));
+    CHECK(count_refused(palgwern_record_count(panel.grid, 2), PALGWERN_COUNT));
+    CHECK(placement_refused(palgwern_tables_placement(&tables, panel.grid, 2), PALGWERN_COUNT));
+    CHECK(count_refused(palgwern_tables_placements(&tables, panel.grid, 2, numbers), PALGWERN_COUNT));
+    CHECK(name_refused(palgwern_tables_name(&tables, panel.grid, 2, 1, 0), PALGWERN_COUNT));
+    CHECK(count_refused(palgwern_tables_names(&tables, panel.grid, 2, names), PALGWERN_COUNT));
+    CHECK(count_refused(palgwern_tables_records(&tables, panel.grid, 2, 0, some, 30), PALGWERN_COUNT));
+    CHECK(count_refused(palgwern_tables_records(&tables, panel.grid, PALGWERN_COLUMNS, 71, some, 30), PALGWERN_COUNT));
 }
 
 /* An explicit count that no sheet gives, of the rows: their placement and their line names are refused. */
 static void refused_by_count(void) {
-    palgwern_panel forged = panel;
-    forged.rows.explicit_count = PALGWERN_TRACKS + 1;
+    palgwern_grid forged = panel.grid;
+    forged.rows.size.explicit_count = PALGWERN_TRACKS + 1;
     CHECK(placement_refused(palgwern_tables_placement(&tables, forged, 1), PALGWERN_COUNT));
     CHECK(count_refused(palgwern_tables_names(&tables, forged, PALGWERN_ROWS, names), PALGWERN_COUNT));
     CHECK(palgwern_tables_placement(&tables, forged, 0).number == 0);
@@ -275,24 +292,24 @@ static void refused_by_stores(size_t column_bytes, size_t row_bytes) {
         const uint8_t *name = (const uint8_t *)"a";
         CHECK(entry_refused(palgwern_enter_name(panel, tables.words, c, column_bytes, r, row_bytes, axis, 1, name, 1), number));
         CHECK(entry_refused(palgwern_enter_name(panel, tables.words, c, column_bytes, r, row_bytes, axis, 1, name, 0), PALGWERN_NAME));
-        CHECK(name_refused(palgwern_line_name(panel, t->words, c, column_bytes, r, row_bytes, axis, 1, 0), number));
-        CHECK(count_refused(palgwern_line_names(panel, t->words, c, column_bytes, r, row_bytes, axis, names), number));
+        CHECK(name_refused(palgwern_line_name(panel.grid, t->words, c, column_bytes, r, row_bytes, axis, 1, 0), number));
+        CHECK(count_refused(palgwern_line_names(panel.grid, t->words, c, column_bytes, r, row_bytes, axis, names), number));
     }
     for (uint32_t index = 0; index < 3; index++) {
         uint32_t number = index < 2 ? PALGWERN_SHORT : PALGWERN_COUNT;
-        CHECK(placement_refused(palgwern_resolve_placement(panel, t->words, t->bytes, c, column_bytes, r, row_bytes, index), number));
-        CHECK(count_refused(palgwern_resolve_placements(panel, t->words, t->bytes, c, column_bytes, r, row_bytes, index, numbers), number));
+        CHECK(placement_refused(palgwern_resolve_placement(panel.grid, t->words, t->bytes, c, column_bytes, r, row_bytes, index), number));
+        CHECK(count_refused(palgwern_resolve_placements(panel.grid, t->words, t->bytes, c, column_bytes, r, row_bytes, index, numbers), number));
     }
 }
 
 /* Fewer item bytes than tracks, or words for no record. */
 static void refused_by_records(void) {
     const uint8_t *items = tables.bytes;
-    CHECK(count_refused(palgwern_tables_records(&tables, panel, PALGWERN_COLUMNS, 70, some, 2), PALGWERN_SHORT));
-    CHECK(count_refused(palgwern_tables_records(&tables, panel, PALGWERN_ROWS, 0, some, 0), PALGWERN_SHORT));
-    CHECK(count_refused(palgwern_records(panel, tables.words, PALGWERN_COLUMNS, items, 34, 0, some, 30), PALGWERN_SHORT));
-    CHECK(count_refused(palgwern_records(panel, tables.words, PALGWERN_ROWS, items, 24, 0, some, 30), PALGWERN_SHORT));
-    CHECK(count_refused(palgwern_records(panel, tables.words, PALGWERN_COLUMNS, items, 0, 71, some, 0), PALGWERN_COUNT));
+    CHECK(count_refused(palgwern_tables_records(&tables, panel.grid, PALGWERN_COLUMNS, 70, some, 2), PALGWERN_SHORT));
+    CHECK(count_refused(palgwern_tables_records(&tables, panel.grid, PALGWERN_ROWS, 0, some, 0), PALGWERN_SHORT));
+    CHECK(count_refused(palgwern_records(panel.grid, tables.words, PALGWERN_COLUMNS, items, 34, 0, some, 30), PALGWERN_SHORT));
+    CHECK(count_refused(palgwern_records(panel.grid, tables.words, PALGWERN_ROWS, items, 24, 0, some, 30), PALGWERN_SHORT));
+    CHECK(count_refused(palgwern_records(panel.grid, tables.words, PALGWERN_COLUMNS, items, 0, 71, some, 0), PALGWERN_COUNT));
 }
 
 static void refusals(void) {
@@ -325,7 +342,7 @@ static void one_entry(uint32_t axis, palgwern_panel expected) {
     palgwern_panel_answer e = palgwern_tables_enter(&tables, panel, axis, 3, TEXT("entered"));
     CHECK(e.number == 0 && e.line == 0 && same(e.panel, expected) && others_stay(axis));
     const uint8_t *store = axis == PALGWERN_ROWS ? tables.rowstore : tables.columnstore;
-    uint32_t used = axis == PALGWERN_ROWS ? panel.rows.used : panel.columns.used;
+    uint32_t used = axis == PALGWERN_ROWS ? panel.room.rows.used : panel.room.columns.used;
     CHECK(!memcmp(store + used, "entered", 8) && memcmp(before.words, tables.words, sizeof tables.words));
     panel = expected;
 }
@@ -333,14 +350,14 @@ static void one_entry(uint32_t axis, palgwern_panel expected) {
 /* Entries on each axis, and then on the rows as many as there can be. */
 static void entries(void) {
     palgwern_panel expected = panel;
-    expected.columns.entries++, expected.columns.used += 7;
+    expected.grid.columns.entries++, expected.room.columns.used += 7;
     one_entry(PALGWERN_COLUMNS, expected);
-    expected.rows.entries++, expected.rows.used += 7;
+    expected.grid.rows.entries++, expected.room.rows.used += 7;
     one_entry(PALGWERN_ROWS, expected);
     before = tables;
-    for (uint32_t i = panel.rows.entries; i < PALGWERN_ENTRIES; i++) {
+    for (uint32_t i = panel.grid.rows.entries; i < PALGWERN_ENTRIES; i++) {
         palgwern_panel_answer e = palgwern_tables_enter(&tables, panel, PALGWERN_ROWS, i + 1, TEXT("a"));
-        CHECK(e.number == 0 && e.panel.rows.entries == i + 1 && e.panel.rows.used == panel.rows.used + 1);
+        CHECK(e.number == 0 && e.panel.grid.rows.entries == i + 1 && e.panel.room.rows.used == panel.room.rows.used + 1);
         panel = e.panel;
     }
     CHECK(others_stay(PALGWERN_ROWS) && !memcmp(tables.rowstore, "rownamepqsstttenteredaa", 23));
@@ -355,14 +372,14 @@ static void *call(void *number) {
     case 0: break;
     case 1: palgwern_tables_read(&tables, sheet, sheet_bytes); break;
     case 2: palgwern_tables_enter(&tables, panel, 1, 1, TEXT("a")); break;
-    case 3: palgwern_explicit_size(panel, 0); break;
-    case 4: palgwern_line_count(panel, 0); break;
-    case 5: palgwern_record_count(panel, 0); break;
-    case 6: palgwern_tables_placement(&tables, panel, 0); palgwern_tables_placement(&tables, panel, 1); break;
-    case 7: palgwern_tables_name(&tables, panel, 0, 3, 0); break;
-    case 8: palgwern_tables_records(&tables, panel, 0, 0, all, sizeof all / sizeof *all); break;
-    case 9: palgwern_tables_placements(&tables, panel, 0, numbers); break;
-    case 10: palgwern_tables_names(&tables, panel, 1, names); break;
+    case 3: palgwern_explicit_size(panel.grid, 0); break;
+    case 4: palgwern_line_count(panel.grid, 0); break;
+    case 5: palgwern_record_count(panel.grid, 0); break;
+    case 6: palgwern_tables_placement(&tables, panel.grid, 0); palgwern_tables_placement(&tables, panel.grid, 1); break;
+    case 7: palgwern_tables_name(&tables, panel.grid, 0, 3, 0); break;
+    case 8: palgwern_tables_records(&tables, panel.grid, 0, 0, all, sizeof all / sizeof *all); break;
+    case 9: palgwern_tables_placements(&tables, panel.grid, 0, numbers); break;
+    case 10: palgwern_tables_names(&tables, panel.grid, 1, names); break;
     }
     return NULL;
 }

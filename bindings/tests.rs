@@ -8,14 +8,14 @@ fn refusal(word: Word, line: u32) -> Option<Refusal> {
     Some(Refusal { word, line })
 }
 
-/// The values of each field in two axes.
-fn pairs(a: AxisState, b: AxisState) -> [(u64, u64); 15] {
+/// The values of each field of an axis; the template as it is written is the one that counts.
+fn values(grid: AxisGrid, room: AxisRoom) -> [u64; 15] {
+    let (space, template, implicit, size) = (grid.space, grid.template, grid.implicit, grid.size);
+    assert_eq!(template, room.template);
     [
-        (a.definite.into(), b.definite.into()), (a.inner.into(), b.inner.into()), (a.rule.into(), b.rule.into()), (a.gap, b.gap),
-        (a.components.into(), b.components.into()), (a.tracks.into(), b.tracks.into()), (a.spares.into(), b.spares.into()),
-        (a.names.into(), b.names.into()), (a.used.into(), b.used.into()), (a.negative.into(), b.negative.into()),
-        (a.positive.into(), b.positive.into()), (a.entries.into(), b.entries.into()), (a.repetitions.into(), b.repetitions.into()),
-        (a.explicit.into(), b.explicit.into()), (a.areas.into(), b.areas.into()),
+        space.definite.into(), space.inner.into(), space.rule.into(), space.gap, template.components.into(), template.tracks.into(),
+        implicit.negative.into(), implicit.positive.into(), implicit.spares.into(), grid.entries.into(), size.repetitions.into(),
+        size.explicit.into(), room.names.into(), room.used.into(), room.areas.into(),
     ]
 }
 
@@ -29,21 +29,17 @@ fn assert_different<T: PartialEq + std::fmt::Debug>(values: &[T]) {
 #[test]
 fn every_field() {
     let panel = Panel::read(LAYOUT).unwrap();
-    let columns = AxisState {
-        definite: 1, inner: 0x4407_0000, rule: 0, gap: 0x1_3c23_d70a, components: 3, tracks: 4, spares: 5, names: 6, used: 13,
-        negative: 7, positive: 8, entries: 22, repetitions: 9, explicit: 20, areas: 10,
-    };
-    let rows = AxisState {
-        definite: 0, inner: 0, rule: 1, gap: 0x4000_0000, components: 2, tracks: 3, spares: 4, names: 5, used: 14,
-        negative: 6, positive: 10, entries: 11, repetitions: 0, explicit: 9, areas: 8,
-    };
-    let state = State { columns, rows, areas: 3, areabytes: 11, placements: 2, placementbytes: 12 };
-    assert_eq!(panel.state(), state);
-    assert_different(&pairs(columns, rows));
-    assert!(pairs(columns, rows).iter().all(|(in_columns, in_rows)| in_columns != in_rows));
-    assert_different(&[state.areas, state.areabytes, state.placements, state.placementbytes]);
-    assert_eq!(std::mem::offset_of!(AxisState, gap), 16);
-    assert_eq!(std::mem::offset_of!(State, areas), 144);
+    let State { grid, room } = panel.state();
+    let (columns, rows) = (values(grid.columns, room.columns), values(grid.rows, room.rows));
+    assert_eq!(columns, [1, 0x4407_0000, 0, 0x1_3c23_d70a, 3, 4, 7, 8, 5, 22, 9, 20, 6, 13, 10]);
+    assert_eq!(rows, [0, 0, 1, 0x4000_0000, 2, 3, 6, 10, 4, 11, 0, 9, 5, 14, 8]);
+    assert_eq!((grid.areas, grid.placements, room.areabytes, room.placementbytes), (3, 2, 11, 12));
+    let pairs: Vec<(u64, u64)> = columns.into_iter().zip(rows).collect();
+    assert_different(&pairs);
+    assert!(pairs.iter().all(|(in_columns, in_rows)| in_columns != in_rows));
+    assert_eq!(panel.grid(), grid);
+    assert_eq!((std::mem::offset_of!(AxisSpace, gap), std::mem::offset_of!(AxisGrid, size)), (16, 48));
+    assert_eq!((std::mem::offset_of!(Grid, areas), std::mem::offset_of!(State, room)), (112, 120));
     assert_eq!(std::mem::offset_of!(raw::PanelAnswer, panel), 8);
     assert_eq!(std::mem::offset_of!(raw::CountAnswer, count), 8);
 }
@@ -124,7 +120,7 @@ fn refusals() {
 fn name_of(panel: &Panel, columnstore: &[u8], rowstore: &[u8], axis: u32) -> raw::NameAnswer {
     let (columns, rows) = ((columnstore.as_ptr(), columnstore.len()), (rowstore.as_ptr(), rowstore.len()));
     // SAFETY: an array of words and two stores, which are only read.
-    unsafe { raw::palgwern_line_name(panel.state(), &[0; PANEL_WORDS], columns.0, columns.1, rows.0, rows.1, axis, 1, 0) }
+    unsafe { raw::palgwern_line_name(panel.grid(), &[0; PANEL_WORDS], columns.0, columns.1, rows.0, rows.1, axis, 1, 0) }
 }
 
 #[test]
@@ -146,7 +142,7 @@ fn short_stores() {
 #[test]
 fn entries() {
     let mut panel = Panel::read(LAYOUT).unwrap();
-    for line in 1..=ENTRIES as u32 - panel.state().rows.entries {
+    for line in 1..=ENTRIES as u32 - panel.grid().rows.entries {
         panel.enter(Axis::Rows, line, b"a").unwrap();
     }
     let before = panel.clone();

@@ -80,6 +80,6 @@ pub fn print_panel(out: &mut Vec<u8>, panel: &Panel) {
     AXES.into_iter().for_each(|axis| print_axis(out, panel, axis));
     panel.resolved().into_iter().enumerate().for_each(|(index, found)| print_placement(out, panel, index, found));
     AXES.into_iter().for_each(|axis| print_names(out, panel, axis));
-    let state = panel.state();
-    writeln!(out, "entries\tc\t{}\nentries\tr\t{}", state.columns.entries, state.rows.entries).unwrap();
+    let grid = panel.grid();
+    writeln!(out, "entries\tc\t{}\nentries\tr\t{}", grid.columns.entries, grid.rows.entries).unwrap();
 }

@@ -1,6 +1,6 @@
 //! The exported calls on lent buffers, each with the fault that is planted in it, mostly none.
 use crate::lent::*;
-use crate::palgwern::{raw, State};
+use crate::palgwern::{raw, Grid, State};
 use crate::planted;
 
 /// The numbers that calls take besides the panel.
@@ -45,31 +45,31 @@ pub fn enter_name(lent: &mut Lent, panel: State, numbers: Numbers) -> raw::Panel
     answer
 }
 
-pub fn explicit_size(panel: State, numbers: Numbers) -> raw::SizeAnswer {
+pub fn explicit_size(grid: Grid, numbers: Numbers) -> raw::SizeAnswer {
     // SAFETY: numbers only.
-    let mut answer = unsafe { raw::palgwern_explicit_size(panel, numbers.axis) };
+    let mut answer = unsafe { raw::palgwern_explicit_size(grid, numbers.axis) };
     planted::in_size(&mut answer);
     answer
 }
 
-pub fn line_count(panel: State, numbers: Numbers) -> raw::CountAnswer {
+pub fn line_count(grid: Grid, numbers: Numbers) -> raw::CountAnswer {
     // SAFETY: numbers only.
-    unsafe { raw::palgwern_line_count(panel, numbers.axis) }
+    unsafe { raw::palgwern_line_count(grid, numbers.axis) }
 }
 
-pub fn record_count(panel: State, numbers: Numbers) -> raw::CountAnswer {
+pub fn record_count(grid: Grid, numbers: Numbers) -> raw::CountAnswer {
     // SAFETY: numbers only.
-    let mut answer = unsafe { raw::palgwern_record_count(panel, numbers.axis) };
+    let mut answer = unsafe { raw::palgwern_record_count(grid, numbers.axis) };
     planted::in_record_count(&mut answer);
     answer
 }
 
-pub fn resolve_placement(lent: &mut Lent, panel: State, numbers: Numbers) -> raw::PlacementAnswer {
+pub fn resolve_placement(lent: &mut Lent, grid: Grid, numbers: Numbers) -> raw::PlacementAnswer {
     let (columnstore, rowstore) = (lent.bytes[COLUMN_STORE].content(), lent.bytes[ROW_STORE].content());
     // SAFETY: as in `read_sheet`; nothing is written.
     let mut answer = unsafe {
         raw::palgwern_resolve_placement(
-            panel, lent.words[PANEL].array(), lent.bytes[PANEL].array(), columnstore.as_ptr(), columnstore.len(), rowstore.as_ptr(),
+            grid, lent.words[PANEL].array(), lent.bytes[PANEL].array(), columnstore.as_ptr(), columnstore.len(), rowstore.as_ptr(),
             rowstore.len(), numbers.place,
         )
     };
@@ -77,12 +77,12 @@ pub fn resolve_placement(lent: &mut Lent, panel: State, numbers: Numbers) -> raw
     answer
 }
 
-pub fn line_name(lent: &Lent, panel: State, numbers: Numbers) -> raw::NameAnswer {
+pub fn line_name(lent: &Lent, grid: Grid, numbers: Numbers) -> raw::NameAnswer {
     let (columnstore, rowstore) = (lent.bytes[COLUMN_STORE].content(), lent.bytes[ROW_STORE].content());
     // SAFETY: as in `read_sheet`; nothing is written.
     let mut answer = unsafe {
         raw::palgwern_line_name(
-            panel, lent.words[PANEL].array(), columnstore.as_ptr(), columnstore.len(), rowstore.as_ptr(), rowstore.len(),
+            grid, lent.words[PANEL].array(), columnstore.as_ptr(), columnstore.len(), rowstore.as_ptr(), rowstore.len(),
             numbers.axis, numbers.line, numbers.place,
         )
     };
@@ -90,13 +90,13 @@ pub fn line_name(lent: &Lent, panel: State, numbers: Numbers) -> raw::NameAnswer
     answer
 }
 
-pub fn records(lent: &mut Lent, panel: State, numbers: Numbers) -> raw::CountAnswer {
+pub fn records(lent: &mut Lent, grid: Grid, numbers: Numbers) -> raw::CountAnswer {
     let [words, records] = &mut lent.words;
     let (items, records) = (lent.bytes[ITEMS].content(), records.content_mut());
     // SAFETY: as in `read_sheet`.
     let mut answer = unsafe {
         raw::palgwern_records(
-            panel, words.array(), numbers.axis, items.as_ptr(), items.len(), numbers.place, records.as_mut_ptr(), records.len(),
+            grid, words.array(), numbers.axis, items.as_ptr(), items.len(), numbers.place, records.as_mut_ptr(), records.len(),
         )
     };
     planted::in_records(lent, &mut answer);

@@ -4,7 +4,7 @@ use crate::calls::Numbers;
 use crate::chance::Chance;
 use crate::forging::{Forged, Sheets, KINDS};
 use crate::lent::{ITEMS, RUN, TEXT};
-use crate::palgwern::State;
+use crate::palgwern::Grid;
 use crate::planted::{self, FAULTS};
 use crate::promises::{self, Promises};
 use crate::runs;
@@ -55,11 +55,11 @@ fn watch() {
 }
 
 /// Numbers that a call can answer, mostly, and others.
-fn numbers(chance: &mut Chance, state: State, call: &str) -> Numbers {
+fn numbers(chance: &mut Chance, grid: Grid, call: &str) -> Numbers {
     let axis = if chance.once_in(8) { chance.count() } else { chance.below(2) as u32 };
     let line = if chance.once_in(3) { chance.count() } else { chance.below(12) as u32 };
     let held = match call {
-        "resolve_placement" | "resolve_placements" => state.placements.clamp(1, 256) as usize,
+        "resolve_placement" | "resolve_placements" => grid.placements.clamp(1, 256) as usize,
         "line_name" => 2,
         _ => 24,
     };
@@ -87,7 +87,7 @@ fn a_sheet(chance: &mut Chance, sheets: &Sheets) -> Vec<u8> {
 
 /// Items and words for records, of lengths around those that are needed.
 fn lend_records(chance: &mut Chance, forged: &mut Forged, numbers: Numbers) {
-    let tracks = promises::tracks(forged.state, numbers).min(70_000) as usize;
+    let tracks = promises::tracks(forged.state.grid, numbers).min(70_000) as usize;
     let items = chance.pick(&[tracks, tracks, tracks, tracks + 1, tracks.saturating_sub(1), 0, 30_000]);
     let most = if chance.once_in(12) { 180_003 } else { 400 };
     let words = chance.pick(&[0, 1, 2, 3, 4, 5, 30, 31, 6 * tracks + 3, 6 * tracks + 2, 6 * tracks + 4]).min(most);
@@ -112,14 +112,14 @@ fn make(call: &str, forged: &Forged, numbers: Numbers) -> (u32, Promises) {
     match call {
         "read_sheet" => promises::read_sheet(lent),
         "enter_name" => promises::enter_name(lent, *state, numbers),
-        "explicit_size" => promises::explicit_size(*state, numbers),
-        "line_count" => promises::line_count(*state, numbers),
-        "record_count" => promises::record_count(*state, numbers),
-        "resolve_placement" => promises::resolve_placement(lent, *state, numbers),
-        "line_name" => promises::line_name(lent, *state, numbers),
-        "resolve_placements" => runs::resolve_placements(lent, *state, numbers),
-        "line_names" => runs::line_names(lent, *state, numbers),
-        _ => promises::records(lent, *state, numbers),
+        "explicit_size" => promises::explicit_size(state.grid, numbers),
+        "line_count" => promises::line_count(state.grid, numbers),
+        "record_count" => promises::record_count(state.grid, numbers),
+        "resolve_placement" => promises::resolve_placement(lent, state.grid, numbers),
+        "line_name" => promises::line_name(lent, state.grid, numbers),
+        "resolve_placements" => runs::resolve_placements(lent, state.grid, numbers),
+        "line_names" => runs::line_names(lent, state.grid, numbers),
+        _ => promises::records(lent, state.grid, numbers),
     }
 }
 
@@ -148,7 +148,7 @@ fn forge(totals: &mut Totals, sheets: &Sheets, seed: u64, number: u64) {
     let mut forged = forging(&mut chance, sheets);
     totals.count(format!("panel: {kind}"));
     for call in CALLS {
-        let numbers = numbers(&mut chance, forged.state, call);
+        let numbers = numbers(&mut chance, forged.state.grid, call);
         lend(call, &mut chance, sheets, &mut forged, numbers);
         totals.add(&format!("panel {number} ({kind})"), call, numbers, make(call, &forged, numbers));
         CALLS_MADE.fetch_add(1, Ordering::Relaxed);

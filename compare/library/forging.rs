@@ -3,7 +3,7 @@ use crate::blocks::Call;
 use crate::calls::{enter_name, read_sheet, Numbers};
 use crate::chance::Chance;
 use crate::lent::{Lent, BYTE_REGIONS, COLUMN_STORE, PANEL, ROW_STORE, STORE_BYTES, TEXT, WORD_REGIONS};
-use crate::palgwern::{AxisState, State};
+use crate::palgwern::{AxisGrid, AxisRoom, Grid, ImplicitCounts, Room, State, TemplateCounts};
 
 /// Sheets of the recorded lists, accepted ones with their entry calls, and refused ones.
 pub struct Sheets {
@@ -27,17 +27,28 @@ pub const KINDS: [(&str, fn(&mut Chance, &Sheets) -> Forged); 7] = [
     ("good, with stores of other lengths", short),
 ];
 
-fn axis_counts(axis: &mut AxisState) -> [&mut u32; 14] {
-    let AxisState { definite, inner, rule, gap: _, components, tracks, spares, names, used, .. } = axis;
-    let AxisState { negative, positive, entries, repetitions, explicit, areas, .. } = axis;
-    [definite, inner, rule, components, tracks, spares, names, used, negative, positive, entries, repetitions, explicit, areas]
+fn grid_counts(axis: &mut AxisGrid) -> [&mut u32; 11] {
+    let AxisGrid { space, template, implicit, entries, size } = axis;
+    let TemplateCounts { components, tracks } = template;
+    let ImplicitCounts { negative, positive, spares } = implicit;
+    let (definite, inner, rule) = (&mut space.definite, &mut space.inner, &mut space.rule);
+    let (repetitions, explicit) = (&mut size.repetitions, &mut size.explicit);
+    [definite, inner, rule, components, tracks, negative, positive, spares, entries, repetitions, explicit]
+}
+
+fn room_counts(axis: &mut AxisRoom) -> [&mut u32; 5] {
+    let AxisRoom { template, names, used, areas } = axis;
+    [&mut template.components, &mut template.tracks, names, used, areas]
 }
 
 /// Every number of a state but the gaps.
 fn counts_of(state: &mut State) -> Vec<&mut u32> {
-    let State { columns, rows, areas, areabytes, placements, placementbytes } = state;
-    let axes = axis_counts(columns).into_iter().chain(axis_counts(rows));
-    axes.chain([areas, areabytes, placements, placementbytes]).collect()
+    let State { grid, room } = state;
+    let Grid { columns, rows, areas, placements } = grid;
+    let answers = grid_counts(columns).into_iter().chain(grid_counts(rows)).chain([areas, placements]);
+    let Room { columns, rows, areabytes, placementbytes } = room;
+    let edits = room_counts(columns).into_iter().chain(room_counts(rows)).chain([areabytes, placementbytes]);
+    answers.chain(edits).collect()
 }
 
 /// A state of such numbers.
@@ -49,7 +60,7 @@ fn state_of(mut value: impl FnMut() -> u32) -> State {
 
 fn random(chance: &mut Chance, _: &Sheets) -> Forged {
     let mut state = state_of(|| chance.next() as u32);
-    (state.columns.gap, state.rows.gap) = (chance.next(), chance.next());
+    (state.grid.columns.space.gap, state.grid.rows.space.gap) = (chance.next(), chance.next());
     let mut lent = Lent::filled(0);
     lent.words.iter_mut().for_each(|buffer| buffer.content_mut().iter_mut().for_each(|word| *word = chance.next()));
     lent.bytes.iter_mut().for_each(|buffer| buffer.content_mut().iter_mut().for_each(|byte| *byte = chance.next() as u8));
@@ -58,7 +69,7 @@ fn random(chance: &mut Chance, _: &Sheets) -> Forged {
 
 fn edges(chance: &mut Chance, _: &Sheets) -> Forged {
     let mut state = state_of(|| chance.count());
-    (state.columns.gap, state.rows.gap) = (chance.word(), chance.word());
+    (state.grid.columns.space.gap, state.grid.rows.space.gap) = (chance.word(), chance.word());
     let mut lent = Lent::filled(chance.pick(b"ax-"));
     lent.words.iter_mut().for_each(|buffer| buffer.content_mut().iter_mut().for_each(|word| *word = chance.word()));
     Forged { state, lent }
@@ -66,7 +77,7 @@ fn edges(chance: &mut Chance, _: &Sheets) -> Forged {
 
 fn ones(_: &mut Chance, _: &Sheets) -> Forged {
     let mut state = state_of(|| u32::MAX);
-    (state.columns.gap, state.rows.gap) = (u64::MAX, u64::MAX);
+    (state.grid.columns.space.gap, state.grid.rows.space.gap) = (u64::MAX, u64::MAX);
     Forged { state, lent: Lent::filled(0xff) }
 }
 
@@ -144,7 +155,7 @@ fn damaged(chance: &mut Chance, sheets: &Sheets) -> Forged {
         }
     }
     if chance.once_in(10) {
-        forged.state.columns.gap = chance.word();
+        forged.state.grid.columns.space.gap = chance.word();
     }
     forged
 }
@@ -152,13 +163,14 @@ fn damaged(chance: &mut Chance, sheets: &Sheets) -> Forged {
 fn exchanged(chance: &mut Chance, sheets: &Sheets) -> Forged {
     let state = good(chance, sheets).state;
     let other = good(chance, sheets);
-    let columns = if chance.once_in(2) { state.columns } else { other.state.rows };
-    Forged { state: State { columns, ..state }, lent: other.lent }
+    let columns = if chance.once_in(2) { state.grid.columns } else { other.state.grid.rows };
+    let room = if chance.once_in(2) { state.room } else { other.state.room };
+    Forged { state: State { grid: Grid { columns, ..state.grid }, room }, lent: other.lent }
 }
 
 fn short(chance: &mut Chance, sheets: &Sheets) -> Forged {
     let mut forged = good(chance, sheets);
-    for (store, axis) in [(COLUMN_STORE, forged.state.columns), (ROW_STORE, forged.state.rows)] {
+    for (store, axis) in [(COLUMN_STORE, forged.state.room.columns), (ROW_STORE, forged.state.room.rows)] {
         let used = axis.used as usize;
         let length = chance.pick(&[0, 1, used / 2, used.saturating_sub(1), used, STORE_BYTES - 1, STORE_BYTES, STORE_BYTES + 9]);
         forged.lent.bytes[store].resize(length, b'x');

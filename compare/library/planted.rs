@@ -55,9 +55,9 @@ pub fn in_sheet(lent: &mut Lent, held: u64, answer: &mut raw::PanelAnswer) {
     let accepted = answer.number == 0;
     match planted() {
         1 if !accepted => lent.words[PANEL].content_mut()[9_000] ^= 1,
-        2 if accepted && held == u64::MAX => answer.panel.areas += 1,
+        2 if accepted && held == u64::MAX => answer.panel.grid.areas += 1,
         3 if accepted => lent.words[PANEL].write_past(7),
-        4 if answer.number == 10 => answer.panel.areabytes = 1,
+        4 if answer.number == 10 => answer.panel.room.areabytes = 1,
         5 if accepted && lent.bytes[ROW_STORE].content().len() > STORE_BYTES => lent.bytes[ROW_STORE].write_past(1),
         23 if accepted => lent.bytes[PANEL].write_past(7),
         _ => (),
@@ -68,7 +68,7 @@ pub fn in_entry(lent: &mut Lent, numbers: Numbers, answer: &mut raw::PanelAnswer
     let accepted = answer.number == 0;
     let words = lent.words[PANEL].content_mut();
     match planted() {
-        6 if answer.number == 8 => answer.panel.columns.used ^= 1,
+        6 if answer.number == 8 => answer.panel.room.columns.used ^= 1,
         7 if accepted && numbers.axis == 1 => words[COLUMNS.end - 1] ^= 4,
         8 if accepted => lent.bytes[TEXT].content_mut()[0] ^= 1,
         24 if accepted && numbers.axis == 0 => words[ROWS.start] ^= 1,

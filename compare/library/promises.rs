@@ -1,7 +1,7 @@
 //! What `palgwern.h` promises of each call on every input.
 use crate::calls::{self, Numbers};
 use crate::lent::*;
-use crate::palgwern::{raw, State};
+use crate::palgwern::{raw, Grid, State};
 
 /// Each promise with whether it was kept.
 pub type Promises = Vec<(&'static str, bool)>;
@@ -78,7 +78,9 @@ pub fn enter_name(lent: &Lent, panel: State, numbers: Numbers) -> (u32, Promises
     let (region, store) = if rows { (ROWS, ROW_STORE) } else { (COLUMNS, COLUMN_STORE) };
     let left = after.is_but_for(lent, &[(PANEL, region)], &[(store, lent.bytes[store].whole())]);
     promises.push(("an entry leaves the other axis, the areas, the placements and the bytes", left));
-    let other = if rows { answer.panel.columns == panel.columns } else { answer.panel.rows == panel.rows };
+    let columns = |state: State| (state.grid.columns, state.room.columns);
+    let rows_of = |state: State| (state.grid.rows, state.room.rows);
+    let other = if rows { columns(answer.panel) == columns(panel) } else { rows_of(answer.panel) == rows_of(panel) };
     promises.push(("an entry leaves the other axis's state", other));
     (answer.number, promises)
 }
@@ -91,18 +93,18 @@ fn of_numbers(number: u32, numbers: Numbers, zeros: bool, alike: bool) -> (u32, 
     (number, promises)
 }
 
-pub fn explicit_size(panel: State, numbers: Numbers) -> (u32, Promises) {
-    let (answer, again) = (calls::explicit_size(panel, numbers), calls::explicit_size(panel, numbers));
+pub fn explicit_size(grid: Grid, numbers: Numbers) -> (u32, Promises) {
+    let (answer, again) = (calls::explicit_size(grid, numbers), calls::explicit_size(grid, numbers));
     of_numbers(answer.number, numbers, (answer.repetitions, answer.explicit) == (0, 0), answer == again)
 }
 
-pub fn line_count(panel: State, numbers: Numbers) -> (u32, Promises) {
-    let (answer, again) = (calls::line_count(panel, numbers), calls::line_count(panel, numbers));
+pub fn line_count(grid: Grid, numbers: Numbers) -> (u32, Promises) {
+    let (answer, again) = (calls::line_count(grid, numbers), calls::line_count(grid, numbers));
     of_numbers(answer.number, numbers, answer.count == 0, answer == again)
 }
 
-pub fn record_count(panel: State, numbers: Numbers) -> (u32, Promises) {
-    let (answer, again) = (calls::record_count(panel, numbers), calls::record_count(panel, numbers));
+pub fn record_count(grid: Grid, numbers: Numbers) -> (u32, Promises) {
+    let (answer, again) = (calls::record_count(grid, numbers), calls::record_count(grid, numbers));
     let (number, mut promises) = of_numbers(answer.number, numbers, answer.count == 0, answer == again);
     promises.push(("the number of records is odd", number != 0 || answer.count % 2 == 1));
     (number, promises)
@@ -118,21 +120,21 @@ fn is_end(kind: u32, number: i32) -> bool {
     }
 }
 
-pub fn resolve_placement(lent: &Lent, panel: State, numbers: Numbers) -> (u32, Promises) {
-    let Twice { answer, after, mut promises } = twice(lent, |lent| calls::resolve_placement(lent, panel, numbers));
+pub fn resolve_placement(lent: &Lent, grid: Grid, numbers: Numbers) -> (u32, Promises) {
+    let Twice { answer, after, mut promises } = twice(lent, |lent| calls::resolve_placement(lent, grid, numbers));
     let raw::PlacementAnswer { number, axis, startkind, startnumber, endkind, endnumber } = answer;
     let zeros = (axis, startkind, startnumber, endkind, endnumber) == (0, 0, 0, 0, 0);
     promises.extend(of_refusal(number, &[4, 10], zeros, true));
     promises.push(("a placement is only read", after.has_contents_of(lent)));
-    promises.push(("a placement that isn't there is refused by 4", numbers.place < panel.placements || number == 4));
+    promises.push(("a placement that isn't there is refused by 4", numbers.place < grid.placements || number == 4));
     promises.push(("a placement with a short store is refused", !lent.is_short() || number != 0));
     promises.push(("an axis is 0 or 1", axis <= 1));
     promises.push(("an end has a kind and its number", is_end(startkind, startnumber) && is_end(endkind, endnumber)));
     (number, promises)
 }
 
-pub fn line_name(lent: &Lent, panel: State, numbers: Numbers) -> (u32, Promises) {
-    let Twice { answer, after, mut promises } = twice(lent, |lent| calls::line_name(lent, panel, numbers));
+pub fn line_name(lent: &Lent, grid: Grid, numbers: Numbers) -> (u32, Promises) {
+    let Twice { answer, after, mut promises } = twice(lent, |lent| calls::line_name(lent, grid, numbers));
     let store = if numbers.axis == 0 { COLUMN_STORE } else { ROW_STORE };
     let end = u64::from(answer.offset) + u64::from(answer.length);
     let expected = if numbers.axis > 1 { 4 } else if lent.is_short() { 10 } else { 0 };
@@ -149,22 +151,22 @@ fn are_records(words: &[u64]) -> bool {
 }
 
 /// Whether a run that starts one record further holds the same records.
-fn is_same_further_on(lent: &Lent, panel: State, numbers: Numbers, written: &[u64]) -> bool {
+fn is_same_further_on(lent: &Lent, grid: Grid, numbers: Numbers, written: &[u64]) -> bool {
     let mut other = lent.clone();
     let further = Numbers { place: numbers.place + 1, ..numbers };
-    let answer = calls::records(&mut other, panel, further);
+    let answer = calls::records(&mut other, grid, further);
     let both = written.len() / 3 - 1;
     answer.count as usize >= both && other.words[RUN].content()[..3 * both] == written[3..]
 }
 
-pub fn records(lent: &Lent, panel: State, numbers: Numbers) -> (u32, Promises) {
-    let Twice { answer, after, mut promises } = twice(lent, |lent| calls::records(lent, panel, numbers));
+pub fn records(lent: &Lent, grid: Grid, numbers: Numbers) -> (u32, Promises) {
+    let Twice { answer, after, mut promises } = twice(lent, |lent| calls::records(lent, grid, numbers));
     let (lent_words, written) = (lent.words[RUN].content(), after.words[RUN].content());
-    let there = calls::record_count(panel, numbers).count.saturating_sub(u64::from(numbers.place));
+    let there = calls::record_count(grid, numbers).count.saturating_sub(u64::from(numbers.place));
     let fit = lent_words.len() as u64 / 3;
     let end = (3 * answer.count.min(fit)) as usize;
     let accepted = answer.number == 0;
-    let few_items = (lent.bytes[ITEMS].content().len() as u64) < tracks(panel, numbers);
+    let few_items = (lent.bytes[ITEMS].content().len() as u64) < tracks(grid, numbers);
     promises.extend(of_refusal(answer.number, &[4, 10], answer.count == 0, after.has_contents_of(lent)));
     promises.push(("only the words lent are written", after.is_but_for(lent, &[(RUN, lent.words[RUN].whole())], &[])));
     promises.push(("as many records are written as there are and fit", !accepted || answer.count == there.min(fit)));
@@ -173,11 +175,11 @@ pub fn records(lent: &Lent, panel: State, numbers: Numbers) -> (u32, Promises) {
     promises.push(("a record that isn't there is refused by 4", there != 0 || answer.number == 4));
     promises.push(("words for no record are refused", fit != 0 || !accepted));
     promises.push(("fewer item bytes than tracks are refused", !few_items || !accepted));
-    promises.push(("a record is the same in every run", end < 6 || is_same_further_on(lent, panel, numbers, &written[..end])));
+    promises.push(("a record is the same in every run", end < 6 || is_same_further_on(lent, grid, numbers, &written[..end])));
     (answer.number, promises)
 }
 
 /// The tracks of an axis, by its record count.
-pub fn tracks(panel: State, numbers: Numbers) -> u64 {
-    calls::record_count(panel, numbers).count / 2
+pub fn tracks(grid: Grid, numbers: Numbers) -> u64 {
+    calls::record_count(grid, numbers).count / 2
 }

@@ -192,7 +192,7 @@ module _ (v : AxisView) (f : Fits v) (es : List ℕ) where
 
   -- the template that the components and tracks hold
   pub template-back :
-      templateOf (take (stateOf v .components) (drop 0 (wordsWith v es))) (take (stateOf v .tracks) (drop 64 (wordsWith v es))) (take (stateOf v .tracks) (drop 2112 (wordsWith v es)))
+      templateOf (take (stateOf v .room .template .components) (drop 0 (wordsWith v es))) (take (stateOf v .room .template .tracks) (drop 64 (wordsWith v es))) (take (stateOf v .room .template .tracks) (drop 2112 (wordsWith v es)))
       ≡ componentsOf (v .template)
   template-back =
       rw (components-back, minimums-back, maximums-back)
@@ -206,7 +206,7 @@ module _ (v : AxisView) (f : Fits v) (es : List ℕ) where
           (omega (arith, ap length (More.repeat-tracks is r), length-append (tracksOf is) (tracksIn (r .pieces)))) (More.repeat-tracks is r)
 
   -- the names, in a store that begins with their bytes
-  pub names-back : (rest : List ℕ) → map (nameRecordIn (axisBytes v ++ rest)) (take (stateOf v .names) (drop 4288 (wordsWith v es))) ≡ axisNames v
+  pub names-back : (rest : List ℕ) → map (nameRecordIn (axisBytes v ++ rest)) (take (stateOf v .room .names) (drop 4288 (wordsWith v es))) ≡ axisNames v
   names-back rest =
       rw name-words-back
       (run-back recordWord nameOf (nameRecordIn (axisBytes v ++ rest)) GoodName (axisBytes v ++ rest) (name-back (axisBytes v ++ rest)) (axisNames v) 0 rest
@@ -216,8 +216,8 @@ module _ (v : AxisView) (f : Fits v) (es : List ℕ) where
       go is none i s h k = good-from 0 is i (omega arith) k
       go is (inside r) i s h k = good-from 0 (is ++ (repeat r ∷ [])) (small-more is (repeat r) i (s, tt)) (omega (arith, More.repeat-components is r)) k
 
-  pub names-held : map (nameRecordIn (namesStore v)) (take (stateOf v .names) (drop 4288 (wordsWith v es))) ≡ axisNames v
+  pub names-held : map (nameRecordIn (namesStore v)) (take (stateOf v .room .names) (drop 4288 (wordsWith v es))) ≡ axisNames v
   unfolding namesStore
   names-held =
-      ap (λ (s : List ℕ). map (nameRecordIn s) (take (stateOf v .names) (drop 4288 (wordsWith v es)))) (pad-is 32768 (axisBytes v) (f .bytes))
+      ap (λ (s : List ℕ). map (nameRecordIn s) (take (stateOf v .room .names) (drop 4288 (wordsWith v es)))) (pad-is 32768 (axisBytes v) (f .bytes))
       ∙ names-back _

@@ -5,6 +5,11 @@ use mathlib.Core.Bool.{cond}
 use lib.Dec.{eqb, ltb}
 use lib.ListN.{length, set}
 use lib.Seq.{sets}
+use Rattle.axis_tables.specs.declared.AxisSpace.{AxisSpace}
+use Rattle.axis_tables.specs.declared.TemplateCounts.{TemplateCounts}
+use Rattle.axis_tables.specs.declared.ImplicitCounts.{ImplicitCounts}
+use Rattle.axis_tables.specs.declared.AxisGrid.{AxisGrid}
+use Rattle.axis_tables.specs.declared.AxisRoom.{AxisRoom}
 use Rattle.axis_tables.specs.declared.AxisState.{AxisState}
 use Rattle.axis_tables.specs.declared.AxisReading.{AxisReading}
 use Rattle.axis_tables.specs.declared.AxisPut.{AxisPut}
@@ -41,148 +46,58 @@ entries = 8384
 
 -- ---- the state
 
-abbrev pub zeroState : AxisState
-zeroState =
+abbrev pub zeroTemplate : TemplateCounts
+zeroTemplate = record { components = 0; tracks = 0 }
+
+abbrev pub zeroAxisGrid : AxisGrid
+zeroAxisGrid =
     record {
-      definite = 0;
-      inner = 0;
-      rule = 0;
-      gap = 0;
-      components = 0;
-      tracks = 0;
-      spares = 0;
-      names = 0;
-      used = 0;
-      negative = 0;
-      positive = 0;
+      space = record { definite = 0; inner = 0; rule = 0; gap = 0 };
+      template = zeroTemplate;
+      implicit = record { negative = 0; positive = 0; spares = 0 };
       entries = 0;
-      repetitions = 0;
-      explicit = 0;
-      areas = 0;
+      size = record { repetitions = 0; explicit = 0 };
     }
+
+abbrev pub zeroAxisRoom : AxisRoom
+zeroAxisRoom = record { template = zeroTemplate; names = 0; used = 0; areas = 0 }
+
+abbrev pub zeroState : AxisState
+zeroState = record { grid = zeroAxisGrid; room = zeroAxisRoom }
 
 abbrev pub zeroReading : AxisReading
 zeroReading = record { seen = 0; kind = 0; number = 0; first = 0; length = 0 }
 
+-- with one part of it anew
+abbrev pub withRoom : AxisState → AxisRoom → AxisState
+withRoom s room = record { grid = s .grid; room = room }
+
+abbrev pub withGrid : AxisState → AxisGrid → AxisState
+withGrid s grid = record { grid = grid; room = s .room }
+
 abbrev pub withTemplate : AxisState → ℕ → ℕ → AxisState
 withTemplate s components tracks =
-    record {
-      definite = s .definite;
-      inner = s .inner;
-      rule = s .rule;
-      gap = s .gap;
-      components = components;
-      tracks = tracks;
-      spares = s .spares;
-      names = s .names;
-      used = s .used;
-      negative = s .negative;
-      positive = s .positive;
-      entries = s .entries;
-      repetitions = s .repetitions;
-      explicit = s .explicit;
-      areas = s .areas;
-    }
+    withRoom s (record { template = record { components = components; tracks = tracks }; names = s .room .names; used = s .room .used; areas = s .room .areas })
 
 abbrev pub withNames : AxisState → ℕ → ℕ → AxisState
-withNames s names used =
-    record {
-      definite = s .definite;
-      inner = s .inner;
-      rule = s .rule;
-      gap = s .gap;
-      components = s .components;
-      tracks = s .tracks;
-      spares = s .spares;
-      names = names;
-      used = used;
-      negative = s .negative;
-      positive = s .positive;
-      entries = s .entries;
-      repetitions = s .repetitions;
-      explicit = s .explicit;
-      areas = s .areas;
-    }
+withNames s names used = withRoom s (record { template = s .room .template; names = names; used = used; areas = s .room .areas })
+
+abbrev pub withAreas : AxisRoom → ℕ → AxisRoom
+withAreas r areas = record { template = r .template; names = r .names; used = r .used; areas = areas }
+
+abbrev pub withSpace : AxisState → AxisSpace → AxisState
+withSpace s space =
+    withGrid s (record { space = space; template = s .grid .template; implicit = s .grid .implicit; entries = s .grid .entries; size = s .grid .size })
+
+abbrev pub withImplicit : AxisState → ImplicitCounts → AxisState
+withImplicit s implicit =
+    withGrid s (record { space = s .grid .space; template = s .grid .template; implicit = implicit; entries = s .grid .entries; size = s .grid .size })
 
 abbrev pub withSpares : AxisState → ℕ → AxisState
-withSpares s spares =
-    record {
-      definite = s .definite;
-      inner = s .inner;
-      rule = s .rule;
-      gap = s .gap;
-      components = s .components;
-      tracks = s .tracks;
-      spares = spares;
-      names = s .names;
-      used = s .used;
-      negative = s .negative;
-      positive = s .positive;
-      entries = s .entries;
-      repetitions = s .repetitions;
-      explicit = s .explicit;
-      areas = s .areas;
-    }
+withSpares s spares = withImplicit s (record { negative = s .grid .implicit .negative; positive = s .grid .implicit .positive; spares = spares })
 
 abbrev pub withExtra : AxisState → ℕ → ℕ → AxisState
-withExtra s negative positive =
-    record {
-      definite = s .definite;
-      inner = s .inner;
-      rule = s .rule;
-      gap = s .gap;
-      components = s .components;
-      tracks = s .tracks;
-      spares = s .spares;
-      names = s .names;
-      used = s .used;
-      negative = negative;
-      positive = positive;
-      entries = s .entries;
-      repetitions = s .repetitions;
-      explicit = s .explicit;
-      areas = s .areas;
-    }
-
-abbrev pub withAxis : AxisState → ℕ → ℕ → ℕ → ℕ → AxisState
-withAxis s definite inner rule gap =
-    record {
-      definite = definite;
-      inner = inner;
-      rule = rule;
-      gap = gap;
-      components = s .components;
-      tracks = s .tracks;
-      spares = s .spares;
-      names = s .names;
-      used = s .used;
-      negative = s .negative;
-      positive = s .positive;
-      entries = s .entries;
-      repetitions = s .repetitions;
-      explicit = s .explicit;
-      areas = s .areas;
-    }
-
-abbrev pub withAreas : AxisState → ℕ → AxisState
-withAreas s areas =
-    record {
-      definite = s .definite;
-      inner = s .inner;
-      rule = s .rule;
-      gap = s .gap;
-      components = s .components;
-      tracks = s .tracks;
-      spares = s .spares;
-      names = s .names;
-      used = s .used;
-      negative = s .negative;
-      positive = s .positive;
-      entries = s .entries;
-      repetitions = s .repetitions;
-      explicit = s .explicit;
-      areas = areas;
-    }
+withExtra s negative positive = withImplicit s (record { negative = negative; positive = positive; spares = s .grid .implicit .spares })
 
 -- the open repeat; its kind is 0 where there is none
 abbrev pub withRepeat : AxisReading → ℕ → ℕ → ℕ → ℕ → AxisReading
@@ -215,20 +130,20 @@ refusedWords fault s r w = record { answer = put fault s r; words = w }
 -- a track outside a repeat is a component; the second limit is never met on an axis that was read
 unfoldable pub putSingle : AxisState → AxisReading → List ℕ → ℕ → ℕ → InWords
 putSingle s r w min max =
-    cond (ltb 63 (s .components)) (refusedWords 8 s r w)
-    (cond (ltb 2047 (s .tracks)) (refusedWords 8 s r w)
+    cond (ltb 63 (s .room .template .components)) (refusedWords 8 s r w)
+    (cond (ltb 2047 (s .room .template .tracks)) (refusedWords 8 s r w)
     (record {
-      answer = put 0 (withTemplate s (s .components + 1) (s .tracks + 1)) r;
-      words = set (set (set w (s .components) (componentWord 0 0 (s .tracks) 1)) (minimums + s .tracks) min) (maximums + s .tracks) max;
+      answer = put 0 (withTemplate s (s .room .template .components + 1) (s .room .template .tracks + 1)) r;
+      words = set (set (set w (s .room .template .components) (componentWord 0 0 (s .room .template .tracks) 1)) (minimums + s .room .template .tracks) min) (maximums + s .room .template .tracks) max;
     }))
 
 unfoldable pub putRepeated : AxisState → AxisReading → List ℕ → ℕ → ℕ → InWords
 putRepeated s r w min max =
     cond (ltb 31 (r .length)) (refusedWords 8 s r w)
-    (cond (ltb 2047 (s .tracks)) (refusedWords 8 s r w)
+    (cond (ltb 2047 (s .room .template .tracks)) (refusedWords 8 s r w)
     (record {
-      answer = put 0 (withTemplate s (s .components) (s .tracks + 1)) (withRepeat r (r .kind) (r .number) (r .first) (r .length + 1));
-      words = set (set w (minimums + s .tracks) min) (maximums + s .tracks) max;
+      answer = put 0 (withTemplate s (s .room .template .components) (s .room .template .tracks + 1)) (withRepeat r (r .kind) (r .number) (r .first) (r .length + 1));
+      words = set (set w (minimums + s .room .template .tracks) min) (maximums + s .room .template .tracks) max;
     }))
 
 unfoldable pub putTrack : AxisState → AxisReading → List ℕ → ℕ → ℕ → InWords
@@ -238,17 +153,17 @@ unfoldable pub openRepeat : AxisState → AxisReading → ℕ → ℕ → AxisPu
 openRepeat s r kind number =
     cond (eqb (r .kind) 0)
     (cond (ltb 65535 number) (put 4 s r)
-    (cond (ltb 63 (s .components)) (put 8 s r)
-    (put 0 s (withRepeat r (repeatKind kind) number (s .tracks) 0))))
+    (cond (ltb 63 (s .room .template .components)) (put 8 s r)
+    (put 0 s (withRepeat r (repeatKind kind) number (s .room .template .tracks) 0))))
     (put 1 s r)
 
 unfoldable pub closeRepeat : AxisState → AxisReading → List ℕ → InWords
 closeRepeat s r w =
     cond (eqb (r .kind) 0) (refusedWords 1 s r w)
-    (cond (ltb 63 (s .components)) (refusedWords 8 s r w)
+    (cond (ltb 63 (s .room .template .components)) (refusedWords 8 s r w)
     (record {
-      answer = put 0 (withTemplate s (s .components + 1) (s .tracks)) (withRepeat r 0 0 0 0);
-      words = set w (s .components) (componentWord (r .number) (r .kind) (r .first) (r .length));
+      answer = put 0 (withTemplate s (s .room .template .components + 1) (s .room .template .tracks)) (withRepeat r 0 0 0 0);
+      words = set w (s .room .template .components) (componentWord (r .number) (r .kind) (r .first) (r .length));
     }))
 
 -- where a name stands: outside a repeat, or after so many of its tracks
@@ -257,19 +172,19 @@ placeIn r = cond (eqb (r .kind) 0) 0 (r .length + 1)
 
 unfoldable pub putName : AxisState → AxisReading → List ℕ → List ℕ → List ℕ → InNames
 putName s r w b n =
-    cond (noRoom 4096 32768 (s .names) (s .used) (length n)) (record { answer = put 8 s r; words = w; bytes = b })
+    cond (noRoom 4096 32768 (s .room .names) (s .room .used) (length n)) (record { answer = put 8 s r; words = w; bytes = b })
     (record {
-      answer = put 0 (withNames s (s .names + 1) (s .used + length n)) r;
-      words = set w (names + s .names) (nameWord (s .components) (placeIn r) (s .used) (length n));
-      bytes = sets b (s .used) n;
+      answer = put 0 (withNames s (s .room .names + 1) (s .room .used + length n)) r;
+      words = set w (names + s .room .names) (nameWord (s .room .template .components) (placeIn r) (s .room .used) (length n));
+      bytes = sets b (s .room .used) n;
     })
 
 unfoldable pub putSpare : AxisState → AxisReading → List ℕ → ℕ → ℕ → InWords
 putSpare s r w min max =
-    cond (ltb 63 (s .spares)) (refusedWords 8 s r w)
+    cond (ltb 63 (s .grid .implicit .spares)) (refusedWords 8 s r w)
     (record {
-      answer = put 0 (withSpares s (s .spares + 1)) r;
-      words = set (set w (spareMinimums + s .spares) min) (spareMaximums + s .spares) max;
+      answer = put 0 (withSpares s (s .grid .implicit .spares + 1)) r;
+      words = set (set w (spareMinimums + s .grid .implicit .spares) min) (spareMaximums + s .grid .implicit .spares) max;
     })
 
 unfoldable pub putItem : AxisState → AxisReading → List ℕ → ℕ → InMarks
@@ -279,4 +194,4 @@ abbrev pub putExtra : AxisState → AxisReading → ℕ → ℕ → AxisPut
 putExtra s r negative positive = put 0 (withExtra s negative positive) r
 
 abbrev pub putAxis : AxisState → AxisReading → ℕ → ℕ → ℕ → ℕ → AxisPut
-putAxis s r definite inner rule gap = put 0 (withAxis s definite inner rule gap) (withSeen r 1)
+putAxis s r definite inner rule gap = put 0 (withSpace s (record { definite = definite; inner = inner; rule = rule; gap = gap })) (withSeen r 1)

@@ -2,13 +2,15 @@
 use Prim.Native.Nat.{ℕ, _+_}
 use mathlib.Core.List.{List, [], _∷_, map}
 use lib.ListN.{length}
+use Rattle.axis_tables.specs.declared.AxisGrid.{AxisGrid}
+use Rattle.axis_tables.specs.declared.AxisRoom.{AxisRoom}
 use Rattle.axis_tables.specs.declared.AxisState.{AxisState}
 use Rattle.axis_tables.specs.declared.AxisReading.{AxisReading}
 use Rattle.axis_tables.specs.declared.AxisPut.{AxisPut}
 use Rattle.axis_tables.specs.Lay.{pad, Region, region, lay}
 use Rattle.axis_tables.specs.Runs.{wordsFrom}
 use Rattle.axis_tables.specs.View.{Sizes, Piece, name, track, Repeat, Item, single, repeat, Unended, none, inside, AxisView, AxisOutcome, written, piecesOf, tracksIn, tracksOf, componentsOf, NameRecord, nameOf, axisNames, axisBytes}
-use Rattle.axis_tables.specs.Store.{componentWord, nameWord, put, InWords, InMarks, InNames}
+use Rattle.axis_tables.specs.Store.{componentWord, nameWord, zeroTemplate, put, InWords, InMarks, InNames}
 
 -- the words of the components of items whose first track is number n
 abbrev pub componentsFrom : ℕ → List Item → List ℕ
@@ -51,25 +53,29 @@ axisWords v = wordsWith v []
 unfoldable pub namesStore : AxisView → List ℕ
 namesStore v = pad 32768 (axisBytes v)
 
-abbrev pub stateOf : AxisView → AxisState
-stateOf v =
+-- what answers on an axis whose sheet is not yet ended: its template counts from there on
+abbrev pub gridOf : AxisView → AxisGrid
+gridOf v =
     record {
-      definite = v .line .definite;
-      inner = v .line .inner;
-      rule = v .line .rule;
-      gap = v .line .gap;
-      components = length (componentsOf (v .template));
-      tracks = length (axisTracks v);
-      spares = length (v .spares);
+      space = record { definite = v .line .definite; inner = v .line .inner; rule = v .line .rule; gap = v .line .gap };
+      template = zeroTemplate;
+      implicit = record { negative = v .negative; positive = v .positive; spares = length (v .spares) };
+      entries = 0;
+      size = record { repetitions = 0; explicit = 0 };
+    }
+
+-- what edits it
+abbrev pub roomOf : AxisView → AxisRoom
+roomOf v =
+    record {
+      template = record { components = length (componentsOf (v .template)); tracks = length (axisTracks v) };
       names = length (axisNames v);
       used = length (axisBytes v);
-      negative = v .negative;
-      positive = v .positive;
-      entries = 0;
-      repetitions = 0;
-      explicit = 0;
       areas = v .areas;
     }
+
+abbrev pub stateOf : AxisView → AxisState
+stateOf v = record { grid = gridOf v; room = roomOf v }
 
 abbrev pub repeatOf : ℕ → List Item → Unended → AxisReading
 repeatOf seen is none = record { seen = seen; kind = 0; number = 0; first = 0; length = 0 }

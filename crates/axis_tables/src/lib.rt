@@ -4,25 +4,63 @@ pub mod name;
 pub mod state;
 pub mod write;
 
-// An axis of a panel: its `axis` record (whether it has an inner size, the bits of that, rule 0 `max` or 1 `min`, the gap's word),
-// what the tables hold of it, its implicit counts, its explicit size, and the tracks that areas span.
+// The space of an axis, as its `axis` record says it: whether it has an inner size, the bits of that, rule 0 `max` or 1 `min`, the
+// gap's word.
 #[repr(C)]
-pub struct AxisState {
+pub struct AxisSpace {
     pub definite: u32,
     pub inner: u32,
     pub rule: u32,
     pub gap: u64,
+}
+
+// The components of a template, and their tracks.
+#[repr(C)]
+pub struct TemplateCounts {
     pub components: u32,
     pub tracks: u32,
-    pub spares: u32,
-    pub names: u32,
-    pub used: u32,
+}
+
+// The implicit tracks before the grid, those after it, and the spare sizes that such tracks take.
+#[repr(C)]
+pub struct ImplicitCounts {
     pub negative: u32,
     pub positive: u32,
-    pub entries: u32,
+    pub spares: u32,
+}
+
+// The explicit size of an axis.
+#[repr(C)]
+pub struct AxisSize {
     pub repetitions: u32,
     pub explicit: u32,
+}
+
+// What answers are read from on an axis, beside the tables: its space, the counts of its template and of its implicit tracks, how many
+// name entries there are, and its explicit size.
+#[repr(C)]
+pub struct AxisGrid {
+    pub space: AxisSpace,
+    pub template: TemplateCounts,
+    pub implicit: ImplicitCounts,
+    pub entries: u32,
+    pub size: AxisSize,
+}
+
+// What only an edit reads of an axis: the template as it is written, how many `name` records there are, the bytes of the line-name
+// store that are used, and the tracks that areas span.
+#[repr(C)]
+pub struct AxisRoom {
+    pub template: TemplateCounts,
+    pub names: u32,
+    pub used: u32,
     pub areas: u32,
+}
+
+// An axis of a panel: what answers, and what edits.
+pub struct AxisState {
+    pub grid: AxisGrid,
+    pub room: AxisRoom,
 }
 
 // What only reading needs: whether the `axis` record was seen, and the repeat that is open: kind 0 is none, 1 counted, 2 `fill`,

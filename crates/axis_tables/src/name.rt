@@ -107,16 +107,23 @@ pub fn put_name(
     ensures { λ r. ⌜ record { answer = r; words = now (words .exit); bytes = now (bytes .exit) } ≡ putName state reading (now (words .entry)) (now (bytes .entry)) (now (name .entry)) ⌝ }
 {
     let length = name.len();
-    let names = state.names;
-    let used = state.used;
+    let names = state.room.names;
+    let used = state.room.used;
     if no_room(4096, 32768, names, used, length) {
         return put(8, state, reading);
     }
-    let word = name_word(state.components, place_in(reading), used, length as u64);
+    let word = name_word(
+        state.room.template.components,
+        place_in(reading),
+        used,
+        length as u64,
+    );
     set_word(words, NAMES + names as usize, word);
     copy_what_fits(bytes, used as usize, name);
+    let next = names + 1;
+    let end = used + length as u32;
     let mut after = state;
-    after.names = names + 1;
-    after.used = used + length as u32;
+    after.room.names = next;
+    after.room.used = end;
     put(0, after, reading)
 }

@@ -19,10 +19,10 @@ pub fn put_axis(
     ensures { λ r. ⌜ r ≡ putAxis state reading definite inner rule gap ⌝ }
 {
     let mut after = state;
-    after.definite = definite;
-    after.inner = inner;
-    after.rule = rule;
-    after.gap = gap;
+    after.grid.space.definite = definite;
+    after.grid.space.inner = inner;
+    after.grid.space.rule = rule;
+    after.grid.space.gap = gap;
     let mut then = reading;
     then.seen = 1;
     put(0, after, then)
@@ -33,8 +33,8 @@ pub fn put_extra(state: AxisState, reading: AxisReading, negative: u32, positive
     ensures { λ r. ⌜ r ≡ putExtra state reading negative positive ⌝ }
 {
     let mut after = state;
-    after.negative = negative;
-    after.positive = positive;
+    after.grid.implicit.negative = negative;
+    after.grid.implicit.positive = positive;
     put(0, after, reading)
 }
 

@@ -19,13 +19,14 @@ pub fn put_spare(
 ) -> AxisPut
     ensures { λ r. ⌜ record { answer = r; words = now (words .exit) } ≡ putSpare state reading (now (words .entry)) min max ⌝ }
 {
-    let spares = state.spares;
+    let spares = state.grid.implicit.spares;
     if 63 < spares {
         return put(8, state, reading);
     }
     set_word(words, SPARE_MINIMUMS + spares as usize, min);
     set_word(words, SPARE_MAXIMUMS + spares as usize, max);
+    let next = spares + 1;
     let mut after = state;
-    after.spares = spares + 1;
+    after.grid.implicit.spares = next;
     put(0, after, reading)
 }

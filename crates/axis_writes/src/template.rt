@@ -21,8 +21,8 @@ fn put_single(
 ) -> AxisPut
     ensures { λ r. ⌜ record { answer = r; words = now (words .exit) } ≡ putSingle state reading (now (words .entry)) min max ⌝ }
 {
-    let components = state.components;
-    let tracks = state.tracks;
+    let components = state.room.template.components;
+    let tracks = state.room.template.tracks;
     if 63 < components {
         return put(8, state, reading);
     }
@@ -33,9 +33,11 @@ fn put_single(
     set_word(words, components as usize, word);
     set_word(words, MINIMUMS + tracks as usize, min);
     set_word(words, MAXIMUMS + tracks as usize, max);
+    let nextcomponent = components + 1;
+    let nexttrack = tracks + 1;
     let mut after = state;
-    after.components = components + 1;
-    after.tracks = tracks + 1;
+    after.room.template.components = nextcomponent;
+    after.room.template.tracks = nexttrack;
     put(0, after, reading)
 }
 
@@ -49,7 +51,7 @@ fn put_repeated(
 ) -> AxisPut
     ensures { λ r. ⌜ record { answer = r; words = now (words .exit) } ≡ putRepeated state reading (now (words .entry)) min max ⌝ }
 {
-    let tracks = state.tracks;
+    let tracks = state.room.template.tracks;
     let length = reading.length;
     if 31 < length {
         return put(8, state, reading);
@@ -59,8 +61,9 @@ fn put_repeated(
     }
     set_word(words, MINIMUMS + tracks as usize, min);
     set_word(words, MAXIMUMS + tracks as usize, max);
+    let next = tracks + 1;
     let mut after = state;
-    after.tracks = tracks + 1;
+    after.room.template.tracks = next;
     let mut then = reading;
     then.length = length + 1;
     put(0, after, then)
@@ -103,14 +106,14 @@ pub fn open_repeat(state: AxisState, reading: AxisReading, kind: u32, number: u3
     if 65535 < number {
         return put(4, state, reading);
     }
-    if 63 < state.components {
+    if 63 < state.room.template.components {
         return put(8, state, reading);
     }
     let opened = AxisReading {
         seen: reading.seen,
         kind: repeat_kind(kind),
         number,
-        first: state.tracks,
+        first: state.room.template.tracks,
         length: 0,
     };
     put(0, state, opened)
@@ -123,14 +126,15 @@ pub fn close_repeat(state: AxisState, reading: AxisReading, words: &mut [u64]) -
     if reading.kind == 0 {
         return put(1, state, reading);
     }
-    let components = state.components;
+    let components = state.room.template.components;
     if 63 < components {
         return put(8, state, reading);
     }
     let word = component_word(reading.number, reading.kind, reading.first, reading.length);
     set_word(words, components as usize, word);
+    let next = components + 1;
     let mut after = state;
-    after.components = components + 1;
+    after.room.template.components = next;
     let closed = AxisReading {
         seen: reading.seen,
         kind: 0,

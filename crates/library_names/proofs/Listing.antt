@@ -11,7 +11,7 @@ use Rattle.coordinates.specs.Refusals.{count, short}
 use Rattle.name_lists.specs.Lists.{lists, Written}
 use Rattle.name_lists.proofs.Counting.{few-lists}
 use Rattle.coordinates.specs.declared.axis.Axis.{Axis}
-use Rattle.axis_tables.specs.declared.AxisState.{AxisState}
+use Rattle.axis_tables.specs.declared.AxisGrid.{AxisGrid}
 use Rattle.axis_tables.specs.Runs.{partOf}
 use Rattle.panel_tables.specs.Regions.{axisWordsIn, firstWord}
 use Rattle.panel_rules.specs.Calls.{entryWordsIn}
@@ -47,36 +47,36 @@ unfolding axisWordsIn
 axis-long a words = let e = length-take 12480 (drop (firstWord a) words) in omega (arith, e)
 
 -- and so its entries are 4,096 at most
-few-entries : (s : AxisState) (words : List ℕ) → length words ≤ 12480 → length (entryWordsIn s words) ≤ 4096
+few-entries : (s : AxisGrid) (words : List ℕ) → length words ≤ 12480 → length (entryWordsIn s words) ≤ 4096
 few-entries s words e =
     let a = length-take (s .entries) (drop 8384 words) in
     let b = length-drop 8384 words in
     omega (arith, a, b)
 
 -- the lists of an axis fit in what is lent
-pub lists-fit : (a : Axis) (s : AxisState) (words store : List ℕ) → length (lists (s .explicit) (entryWordsIn s (axisWordsIn a words)) store) ≤ 4096
+pub lists-fit : (a : Axis) (s : AxisGrid) (words store : List ℕ) → length (lists (s .size .explicit) (entryWordsIn s (axisWordsIn a words)) store) ≤ 4096
 lists-fit a s words store =
     let few = few-entries s (axisWordsIn a words) (axis-long a words) in
-    let all = few-lists (entryWordsIn s (axisWordsIn a words)) store (s .explicit) in
+    let all = few-lists (entryWordsIn s (axisWordsIn a words)) store (s .size .explicit) in
     omega (arith, few, all)
 
-module _ (s : AxisState) (words store : List ℕ) (bytes : ℕ) (lent entries : List ℕ) (known : entries ≡ entryWordsIn s words)
-    (number : ℕ) (told : number ≡ listsRefusal (s .explicit) bytes) where
+module _ (s : AxisGrid) (words store : List ℕ) (bytes : ℕ) (lent entries : List ℕ) (known : entries ≡ entryWordsIn s words)
+    (number : ℕ) (told : number ≡ listsRefusal (s .size .explicit) bytes) where
   -- what a run that is not refused may ask for
-  pub lists-asked : number ≡ 0 → length words ≤ 12480 → length lent ≡ 4096 → (s .explicit ≤ 10000) × ((length entries ≤ 4096) × (length entries ≤ length lent))
+  pub lists-asked : number ≡ 0 → length words ≤ 12480 → length lent ≡ 4096 → (s .size .explicit ≤ 10000) × ((length entries ≤ 4096) × (length entries ≤ length lent))
   lists-asked z n m =
       let k : length entries ≤ 4096 = rw known (few-entries s words n) in
-      (unrefused (s .explicit) bytes (sym told ∙ z), (k, rw m k))
+      (unrefused (s .size .explicit) bytes (sym told ∙ z), (k, rw m k))
 
   pub lists-refused : (answer : CountAnswer) → (number ≡ 0 → ⊥) → answer ≡ uncounted number → record { answer = answer; words = lent } ≡ writtenLists s words store bytes lent
   unfolding writtenLists
   lists-refused answer out a = rw (← told, ne-eqb number 0 out, a)
 
-  pub lists-written : (n : ℕ) (answer : CountAnswer) (after : List ℕ) → number ≡ 0 → Written lent 0 (lists (s .explicit) entries store) after n → answer ≡ counted n →
+  pub lists-written : (n : ℕ) (answer : CountAnswer) (after : List ℕ) → number ≡ 0 → Written lent 0 (lists (s .size .explicit) entries store) after n → answer ≡ counted n →
       record { answer = answer; words = after } ≡ writtenLists s words store bytes lent
   unfolding writtenLists
   lists-written n answer after z w a =
-      let v : Written lent 0 (lists (s .explicit) (entryWordsIn s words) store) after n =
-      subst (λ (l : List ℕ). Written lent 0 (lists (s .explicit) l store) after n) known w in
-      let k : n ≡ length (lists (s .explicit) (entryWordsIn s words) store) = omega (arith, v .counted) in
-      rw (eq-eqb (listsRefusal (s .explicit) bytes) 0 (sym told ∙ z), a, v .words, k)
+      let v : Written lent 0 (lists (s .size .explicit) (entryWordsIn s words) store) after n =
+      subst (λ (l : List ℕ). Written lent 0 (lists (s .size .explicit) l store) after n) known w in
+      let k : n ≡ length (lists (s .size .explicit) (entryWordsIn s words) store) = omega (arith, v .counted) in
+      rw (eq-eqb (listsRefusal (s .size .explicit) bytes) 0 (sym told ∙ z), a, v .words, k)

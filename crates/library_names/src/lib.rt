@@ -1,11 +1,11 @@
 // All line names of an axis, written as numbers in one run.
 ghost use mathlib.Core.Path.{_≡_};
-ghost use Rattle.panel_tables.specs.Axes.{stateIn};
+ghost use Rattle.panel_tables.specs.Axes.{gridIn};
 ghost use Rattle.panel_tables.specs.Regions.{axisWordsIn};
 ghost use Rattle.panel_rules.specs.Calls.{NameTables, nameTablesIn, shorterStore, storeIn, wordsIn};
 ghost use Rattle.library_numbers.specs.Records.{WrittenRun};
 ghost use Rattle.library_names.specs.Lists.{listsRefusal, writtenLists};
-use axis_tables::AxisState;
+use axis_tables::AxisGrid;
 use axis_tables::layout::AXIS_BYTES;
 use coordinates::Axis;
 use coordinates::refusal::COUNT;
@@ -15,7 +15,7 @@ use library_numbers::numbers::counted;
 use library_numbers::numbers::uncounted;
 use panel_names::store::entries_of;
 use panel_names::store::smaller;
-use panel_tables::Panel;
+use panel_tables::Grid;
 use panel_tables::region::PANEL_WORDS;
 use panel_tables::region::axis_words;
 
@@ -37,38 +37,38 @@ fn lists_refusal(explicit: u32, bytes: usize) -> u32
 
 // Writes the lists of one axis.
 fn write_on(
-    state: AxisState,
+    grid: AxisGrid,
     words: &[u64; PANEL_WORDS],
     axis: Axis,
     store: &[u8],
     bytes: usize,
     out: &mut [u64; LINE_NAME_RUN],
 ) -> CountAnswer
-    ensures { λ r. ⌜ record { answer = r; words = now (out .exit) } ≡ writtenLists state (axisWordsIn axis (now (words .entry))) (now (store .entry)) bytes (now (out .entry)) ⌝ }
+    ensures { λ r. ⌜ record { answer = r; words = now (out .exit) } ≡ writtenLists grid (axisWordsIn axis (now (words .entry))) (now (store .entry)) bytes (now (out .entry)) ⌝ }
 {
-    let entries = entries_of(state, axis_words(words, axis));
-    let number = lists_refusal(state.explicit, bytes);
+    let entries = entries_of(grid, axis_words(words, axis));
+    let number = lists_refusal(grid.size.explicit, bytes);
     if number != 0 {
         return uncounted(number);
     }
-    let count = name_lists::detailed_line_names(entries, store, state.explicit, out);
+    let count = name_lists::detailed_line_names(entries, store, grid.size.explicit, out);
     counted(count as u64)
 }
 
 // Writes the lists of an axis of a panel. 4: an explicit count above 10,000; 10: a store below 32,768 bytes.
 pub fn write_lists(
-    panel: Panel,
+    grid: Grid,
     words: &[u64; PANEL_WORDS],
     columnstore: &[u8],
     rowstore: &[u8],
     axis: Axis,
     out: &mut [u64; LINE_NAME_RUN],
 ) -> CountAnswer
-    ensures { λ r. ⌜ record { answer = r; words = now (out .exit) } ≡ writtenLists (stateIn panel axis) (wordsIn (nameTablesIn (now (words .entry)) (now (columnstore .entry)) (now (rowstore .entry))) axis) (storeIn (nameTablesIn (now (words .entry)) (now (columnstore .entry)) (now (rowstore .entry))) axis) (shorterStore (nameTablesIn (now (words .entry)) (now (columnstore .entry)) (now (rowstore .entry)))) (now (out .entry)) ⌝ }
+    ensures { λ r. ⌜ record { answer = r; words = now (out .exit) } ≡ writtenLists (gridIn grid axis) (wordsIn (nameTablesIn (now (words .entry)) (now (columnstore .entry)) (now (rowstore .entry))) axis) (storeIn (nameTablesIn (now (words .entry)) (now (columnstore .entry)) (now (rowstore .entry))) axis) (shorterStore (nameTablesIn (now (words .entry)) (now (columnstore .entry)) (now (rowstore .entry)))) (now (out .entry)) ⌝ }
 {
     let bytes = smaller(columnstore.len(), rowstore.len());
     match axis {
-        Axis::Column => write_on(panel.columns, words, Axis::Column, columnstore, bytes, out),
-        Axis::Row => write_on(panel.rows, words, Axis::Row, rowstore, bytes, out),
+        Axis::Column => write_on(grid.columns, words, Axis::Column, columnstore, bytes, out),
+        Axis::Row => write_on(grid.rows, words, Axis::Row, rowstore, bytes, out),
     }
 }

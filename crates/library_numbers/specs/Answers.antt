@@ -8,13 +8,14 @@ use Rattle.name_entries.specs.declared.NameEntry.{NameEntry}
 use Rattle.name_entries.specs.Names.{isName}
 use Rattle.name_resolver.specs.Placements.{resolvedKindOf, resolvedNumberOf}
 use Rattle.track_rules.specs.Records.{recordsIn}
+use Rattle.panel_tables.specs.declared.Grid.{Grid}
 use Rattle.panel_tables.specs.declared.Panel.{Panel}
-use Rattle.panel_tables.specs.Axes.{stateIn}
+use Rattle.panel_tables.specs.Axes.{gridIn}
 use Rattle.panel_tables.specs.Placements.{axisNumber, axisOf}
 use Rattle.sheet_rules.specs.Panels.{Tables}
 use Rattle.sheet_rules.specs.Read.{SheetRead}
 use Rattle.panel_rules.specs.declared.PlacementAnswer.{PlacementAnswer}
-use Rattle.panel_rules.specs.declared.AxisSize.{AxisSize}
+use Rattle.axis_tables.specs.declared.AxisSize.{AxisSize}
 use Rattle.panel_rules.specs.Calls.{NameTables, EnteredName, enterName, explicitSize, lineCountIn, axisTracks}
 use Rattle.library_numbers.specs.declared.PanelAnswer.{PanelAnswer}
 use Rattle.library_numbers.specs.declared.SizeAnswer.{SizeAnswer}
@@ -62,8 +63,8 @@ nameEntered p t axis line nm =
 abbrev pub sizeAnswer : AxisSize → SizeAnswer
 sizeAnswer s = record { number = 0; repetitions = s .repetitions; explicit = s .explicit }
 
-unfoldable pub sizeOf : Panel → ℕ → SizeAnswer
-sizeOf p axis = cond (isAxis axis) (sizeAnswer (explicitSize p (axisOf axis))) (record { number = count; repetitions = 0; explicit = 0 })
+unfoldable pub sizeOf : Grid → ℕ → SizeAnswer
+sizeOf g axis = cond (isAxis axis) (sizeAnswer (explicitSize g (axisOf axis))) (record { number = count; repetitions = 0; explicit = 0 })
 
 -- a count, or a refusal and 0
 abbrev pub counted : ℕ → CountAnswer
@@ -72,11 +73,11 @@ counted n = record { number = 0; count = n }
 abbrev pub uncounted : ℕ → CountAnswer
 uncounted n = record { number = n; count = 0 }
 
-unfoldable pub lineCountOf : Panel → ℕ → CountAnswer
-lineCountOf p axis = cond (isAxis axis) (counted (lineCountIn p (axisOf axis))) (uncounted count)
+unfoldable pub lineCountOf : Grid → ℕ → CountAnswer
+lineCountOf g axis = cond (isAxis axis) (counted (lineCountIn g (axisOf axis))) (uncounted count)
 
-unfoldable pub recordCountOf : Panel → ℕ → CountAnswer
-recordCountOf p axis = cond (isAxis axis) (counted (recordsIn (axisTracks (stateIn p (axisOf axis))))) (uncounted count)
+unfoldable pub recordCountOf : Grid → ℕ → CountAnswer
+recordCountOf g axis = cond (isAxis axis) (counted (recordsIn (axisTracks (gridIn g (axisOf axis))))) (uncounted count)
 
 -- ---- `palgwern_resolve_placement`
 

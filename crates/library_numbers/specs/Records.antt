@@ -12,9 +12,9 @@ use Rattle.track_rules.specs.declared.GridTrack.{GridTrack}
 use Rattle.track_rules.specs.declared.GridTrackKind.{GridTrackKind}
 use Rattle.track_rules.specs.declared.GridTrackKind.the-variants.{Track, Gutter}
 use Rattle.track_rules.specs.Records.{tracksIn, recordsIn}
-use Rattle.axis_tables.specs.declared.AxisState.{AxisState}
-use Rattle.panel_tables.specs.declared.Panel.{Panel}
-use Rattle.panel_tables.specs.Axes.{stateIn}
+use Rattle.axis_tables.specs.declared.AxisGrid.{AxisGrid}
+use Rattle.panel_tables.specs.declared.Grid.{Grid}
+use Rattle.panel_tables.specs.Axes.{gridIn}
 use Rattle.panel_tables.specs.Regions.{axisWordsIn}
 use Rattle.panel_tables.specs.Placements.{axisOf}
 use Rattle.panel_rules.specs.Calls.{axisTracks, trackRecord}
@@ -42,36 +42,36 @@ recordWords r = kindWord r ∷ sizeWord (r .size .min) ∷ sizeWord (r .size .ma
 -- ---- a run
 
 -- so many records from one on
-unfoldable pub runWords : AxisState → List ℕ → List ℕ → ℕ → ℕ → List ℕ
-runWords s words items first zero = []
-runWords s words items first (suc n) = recordWords (trackRecord s words items first .track) ++ runWords s words items (first + 1) n
+unfoldable pub runWords : AxisGrid → List ℕ → List ℕ → ℕ → ℕ → List ℕ
+runWords g words items first zero = []
+runWords g words items first (suc n) = recordWords (trackRecord g words items first .track) ++ runWords g words items (first + 1) n
 
 -- 4 for a first record of 2N + 1 or more; then 10 for fewer than N item bytes, or words for no record
-unfoldable pub runRefusal : AxisState → ℕ → ℕ → ℕ → ℕ
-runRefusal s items lent first =
-    cond (leb (recordsIn (axisTracks s)) first) count
-    (cond (ltb items (tracksIn (axisTracks s)) || ltb lent 3) short 0)
+unfoldable pub runRefusal : AxisGrid → ℕ → ℕ → ℕ → ℕ
+runRefusal g items lent first =
+    cond (leb (recordsIn (axisTracks g)) first) count
+    (cond (ltb items (tracksIn (axisTracks g)) || ltb lent 3) short 0)
 
 -- how many records are written: as many as there are, and as fit
-unfoldable pub runCount : AxisState → ℕ → ℕ → ℕ
-runCount s lent first = min (lent / 3) (recordsIn (axisTracks s) - first)
+unfoldable pub runCount : AxisGrid → ℕ → ℕ → ℕ
+runCount g lent first = min (lent / 3) (recordsIn (axisTracks g) - first)
 
 -- the answer, and what the lent words hold
 pub record WrittenRun : Type 0 where
   pub answer : CountAnswer
   pub words : List ℕ
 
-unfoldable pub writtenRun : AxisState → List ℕ → List ℕ → ℕ → List ℕ → WrittenRun
-writtenRun s words items first lent =
-    cond (eqb (runRefusal s (length items) (length lent) first) 0)
+unfoldable pub writtenRun : AxisGrid → List ℕ → List ℕ → ℕ → List ℕ → WrittenRun
+writtenRun g words items first lent =
+    cond (eqb (runRefusal g (length items) (length lent) first) 0)
     (record {
-      answer = counted (runCount s (length lent) first);
-      words = sets lent 0 (runWords s words items first (runCount s (length lent) first));
+      answer = counted (runCount g (length lent) first);
+      words = sets lent 0 (runWords g words items first (runCount g (length lent) first));
     })
-    (record { answer = uncounted (runRefusal s (length items) (length lent) first); words = lent })
+    (record { answer = uncounted (runRefusal g (length items) (length lent) first); words = lent })
 
 -- of an axis by its number
-unfoldable pub recordsWritten : Panel → List ℕ → ℕ → List ℕ → ℕ → List ℕ → WrittenRun
-recordsWritten p words axis items first lent =
-    cond (isAxis axis) (writtenRun (stateIn p (axisOf axis)) (axisWordsIn (axisOf axis) words) items first lent)
+unfoldable pub recordsWritten : Grid → List ℕ → ℕ → List ℕ → ℕ → List ℕ → WrittenRun
+recordsWritten g words axis items first lent =
+    cond (isAxis axis) (writtenRun (gridIn g (axisOf axis)) (axisWordsIn (axisOf axis) words) items first lent)
     (record { answer = uncounted count; words = lent })

@@ -19,7 +19,7 @@ use Rattle.track_rules.specs.Records.{negativeOf, itemAt, spareAt}
 use Rattle.track_rules.specs.Steps.{wordTotals, writtenCount, cursorOf, cursorAt, writtenAt}
 use Rattle.track_rules.proofs.Words.{totals-words, spares-length, spares-none, spares-get}
 use Rattle.track_rules.proofs.AllTracks.{countIn, track-negative, track-explicit, track-past}
-use Rattle.axis_tables.specs.declared.AxisState.{AxisState}
+use Rattle.axis_tables.specs.declared.AxisGrid.{AxisGrid}
 use Rattle.axis_tables.specs.Runs.{partOf}
 use Rattle.panel_rules.specs.Calls.{axisTracks, templateIn, sparesIn}
 use Rattle.library_records.specs.declared.Gutters.{Gutters}
@@ -128,19 +128,19 @@ module _ (a : AxisTracks) (p : Plan) (ws mi ma smi sma items : List ℕ) where
       (λ j k. pair-after a p ws mi ma sp items (track + before + written) last j ew el (taken-past written (negativeOf a + p .written) (track + before) (count - before) j et k))))
 
 -- those of an axis's state
-pub pairs-written : (s : AxisState) (p : Plan) (words items : List ℕ) (a : AxisTracks) (smi sma : List ℕ) (g : Gutters) (before written middle last track count place : ℕ) (lent once twice thrice : List ℕ) →
-    a ≡ axisTracks s → smi ≡ partOf words 4160 (s .spares) → sma ≡ partOf words 4224 (s .spares) → g ≡ guttersOf (axisTracks s) p →
-    p .written ≡ writtenCount (axisTracks s) (wordTotals (s .repetitions) (partOf words 0 (s .components))) →
+pub pairs-written : (s : AxisGrid) (p : Plan) (words items : List ℕ) (a : AxisTracks) (smi sma : List ℕ) (g : Gutters) (before written middle last track count place : ℕ) (lent once twice thrice : List ℕ) →
+    a ≡ axisTracks s → smi ≡ partOf words 4160 (s .implicit .spares) → sma ≡ partOf words 4224 (s .implicit .spares) → g ≡ guttersOf (axisTracks s) p →
+    p .written ≡ writtenCount (axisTracks s) (wordTotals (s .size .repetitions) (partOf words 0 (s .template .components))) →
     before ≡ min (negativeOf a - track) count → written ≡ min (negativeOf a + p .written - (track + before)) (count - before) →
     middle ≡ track + before - negativeOf a → last ≡ track + before + written - (negativeOf a + p .written) →
     once ≡ sets lent place (joined (sparePair (sparesOf smi sma) items (length smi - negativeOf a % length smi + track) track g) track before) →
-    twice ≡ sets once (place + 6 * before) (joined (templatePair (wordTotals (s .repetitions) (partOf words 0 (s .components))) (templateIn s words) items middle (track + before) g) (track + before) written) →
+    twice ≡ sets once (place + 6 * before) (joined (templatePair (wordTotals (s .size .repetitions) (partOf words 0 (s .template .components))) (templateIn s words) items middle (track + before) g) (track + before) written) →
     thrice ≡ sets twice (place + 6 * (before + written)) (joined (sparePair (sparesOf smi sma) items last (track + before + written) g) (track + before + written) (count - before - written)) →
     thrice ≡ sets lent place (joined (axisPair (axisTracks s) p (templateIn s words) (sparesIn s words) items) track count)
 pairs-written s p words items a smi sma g before written middle last track count place lent once twice thrice ea ei em eg ew eb et ef el x y z =
-    let low = partOf words 4160 (s .spares) in
-    let high = partOf words 4224 (s .spares) in
-    axis-runs (axisTracks s) p (partOf words 0 (s .components)) (partOf words 64 (s .tracks)) (partOf words 2112 (s .tracks)) low high items g before written middle last track count place lent once twice thrice eg ew
+    let low = partOf words 4160 (s .implicit .spares) in
+    let high = partOf words 4224 (s .implicit .spares) in
+    axis-runs (axisTracks s) p (partOf words 0 (s .template .components)) (partOf words 64 (s .template .tracks)) (partOf words 2112 (s .template .tracks)) low high items g before written middle last track count place lent once twice thrice eg ew
     (eb ∙ ap (λ (n : AxisTracks). min (negativeOf n - track) count) ea)
     (et ∙ ap (λ (n : AxisTracks). min (negativeOf n + p .written - (track + before)) (count - before)) ea)
     (ef ∙ ap (λ (n : AxisTracks). track + before - negativeOf n) ea)

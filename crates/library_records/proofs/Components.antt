@@ -12,7 +12,7 @@ use Rattle.template_rules.specs.Template.{componentOf, trackAt, templateOf}
 use Rattle.track_rules.specs.declared.WrittenTrack.{WrittenTrack}
 use Rattle.track_rules.specs.Records.{itemAt}
 use Rattle.track_rules.specs.Steps.{wordTotal, wordTotals, sumOf, cursor, cursorOf, writtenAt}
-use Rattle.axis_tables.specs.declared.AxisState.{AxisState}
+use Rattle.axis_tables.specs.declared.AxisGrid.{AxisGrid}
 use Rattle.axis_tables.specs.Runs.{partOf}
 use Rattle.panel_rules.specs.Calls.{templateIn}
 use Rattle.track_record.specs.Repeats.{repeatedOf}
@@ -148,10 +148,10 @@ module _ (r : ℕ) (ws mi ma : List ℕ) where
 pub part-few : (words : List ℕ) (o n : ℕ) → length (partOf words o n) ≤ n
 part-few words o n = omega (arith, length-take n (drop o words))
 
-module _ (s : AxisState) (words ws mi ma : List ℕ) (e : ws ≡ partOf words 0 (s .components)) (f : mi ≡ partOf words 64 (s .tracks)) (h : ma ≡ partOf words 2112 (s .tracks)) where
+module _ (s : AxisGrid) (words ws mi ma : List ℕ) (e : ws ≡ partOf words 0 (s .template .components)) (f : mi ≡ partOf words 64 (s .template .tracks)) (h : ma ≡ partOf words 2112 (s .template .tracks)) where
   pub in-parts : (items : List ℕ) (offset t n : ℕ) (g : Gutters) →
-      joined (templatePair (totals (s .repetitions) ws) (templateOf ws mi ma) items offset t g) t n
-      ≡ joined (templatePair (wordTotals (s .repetitions) (partOf words 0 (s .components))) (templateIn s words) items offset t g) t n
+      joined (templatePair (totals (s .size .repetitions) ws) (templateOf ws mi ma) items offset t g) t n
+      ≡ joined (templatePair (wordTotals (s .size .repetitions) (partOf words 0 (s .template .components))) (templateIn s words) items offset t g) t n
   in-parts items offset t n g =
-      ap₂ (λ (x y : List ℕ). joined (templatePair (totals (s .repetitions) x) (templateOf x y ma) items offset t g) t n) e f
-      ∙ ap (λ (y : List ℕ). joined (templatePair (totals (s .repetitions) (partOf words 0 (s .components))) (templateOf (partOf words 0 (s .components)) (partOf words 64 (s .tracks)) y) items offset t g) t n) h
+      ap₂ (λ (x y : List ℕ). joined (templatePair (totals (s .size .repetitions) x) (templateOf x y ma) items offset t g) t n) e f
+      ∙ ap (λ (y : List ℕ). joined (templatePair (totals (s .size .repetitions) (partOf words 0 (s .template .components))) (templateOf (partOf words 0 (s .template .components)) (partOf words 64 (s .template .tracks)) y) items offset t g) t n) h

@@ -32,7 +32,7 @@ use Rattle.track_rules.proofs.Lists.{lt-or-ge}
 use Rattle.track_rules.proofs.Words.{totals-words}
 use Rattle.track_rules.proofs.RecordList.{plan-written, record-first, record-later, record-of}
 use Rattle.track_run.proofs.Filling.{state-record}
-use Rattle.axis_tables.specs.declared.AxisState.{AxisState}
+use Rattle.axis_tables.specs.declared.AxisGrid.{AxisGrid}
 use Rattle.axis_tables.specs.Runs.{partOf}
 use Rattle.track_run.specs.Steps.{stateRecord}
 use Rattle.panel_rules.specs.Calls.{axisTracks, templateIn, sparesIn}
@@ -43,7 +43,7 @@ use Rattle.library_numbers.specs.Records.{kindNumber, sizeWord, recordWords, ru
 
 -- ---- which records there are and fit
 
-module _ (s : AxisState) (tracks : ℕ) (known : tracks ≡ tracksIn (axisTracks s)) where
+module _ (s : AxisGrid) (tracks : ℕ) (known : tracks ≡ tracksIn (axisTracks s)) where
   pub all-records : 2 * tracks + 1 ≡ recordsIn (axisTracks s)
   all-records = ap (λ (n : ℕ). 2 * n + 1) known
 
@@ -77,7 +77,7 @@ module _ (s : AxisState) (tracks : ℕ) (known : tracks ≡ tracksIn (axisTracks
       smaller-first a b n e h = omega arith
 
 -- there are at most 60,001 records
-pub few-records : (s : AxisState) → recordsIn (axisTracks s) ≤ 60001
+pub few-records : (s : AxisGrid) → recordsIn (axisTracks s) ≤ 60001
 few-records s = omega arith
 
 -- ---- how many records are at the ends of a run, and what lies between
@@ -222,8 +222,8 @@ kind-fits Track n e = omega (arith, e)
 kind-fits Gutter n e = omega (arith, e)
 
 -- a record of an axis's state, by what is carried to it
-pub record-written : (s : AxisState) (words items : List ℕ) (p : Plan) (index : ℕ) (a : AxisTracks) (ws : List ℕ) (u : Cursor) (r : GridTrack) (k low high : ℕ) (lent after : List ℕ) (place : ℕ) →
-    p ≡ planOf (axisTracks s) (templateIn s words) (itemAt items) → a ≡ axisTracks s → ws ≡ partOf words 0 (s .components) → u ≡ cursorAt a (wordTotals (a .repetitions) ws) ((index - 1) / 2) →
+pub record-written : (s : AxisGrid) (words items : List ℕ) (p : Plan) (index : ℕ) (a : AxisTracks) (ws : List ℕ) (u : Cursor) (r : GridTrack) (k low high : ℕ) (lent after : List ℕ) (place : ℕ) →
+    p ≡ planOf (axisTracks s) (templateIn s words) (itemAt items) → a ≡ axisTracks s → ws ≡ partOf words 0 (s .template .components) → u ≡ cursorAt a (wordTotals (a .repetitions) ws) ((index - 1) / 2) →
     r ≡ stateRecord (templateIn s words) (sparesIn s words) (itemAt items) (record { axis = a; plan = p; cursor = u }) index →
     k ≡ kindNumber (r .kind) → low ≡ sizeWord (r .size .min) → high ≡ sizeWord (r .size .max) →
     after ≡ sets lent place (recordNumbers k (r .collapsed) low high) → after ≡ sets lent place (recordAt s words items index)
@@ -231,14 +231,14 @@ unfolding stateRecord
 record-written s words items p index a ws u r k low high lent after place ep ea ew eu er ek el eh e =
     let cs = templateIn s words in
     let sp = sparesIn s words in
-    let cursor : u ≡ cursorAt (axisTracks s) (wordTotals (s .repetitions) (partOf words 0 (s .components))) ((index - 1) / 2) =
+    let cursor : u ≡ cursorAt (axisTracks s) (wordTotals (s .size .repetitions) (partOf words 0 (s .template .components))) ((index - 1) / 2) =
     eu ∙ ap₂ (λ (x : AxisTracks) (l : List ℕ). cursorAt x (wordTotals (x .repetitions) l) ((index - 1) / 2)) ea ew in
     let made : r ≡ recordWith (axisTracks s) p cs sp (itemAt items) u index = er ∙ ap (λ (x : AxisTracks). recordWith x p cs sp (itemAt items) u index) ea in
     let same : recordNumbers k (r .collapsed) low high ≡ numbersOf r =
     ap₂ (λ (x y : ℕ). recordNumbers x (r .collapsed) y high) ek el ∙ ap (recordNumbers (kindNumber (r .kind)) (r .collapsed) (sizeWord (r .size .min))) eh in
     e ∙ ap (sets lent place)
     (same ∙ edge-words (axisTracks s) p cs sp (itemAt items) u r index made
-    ∙ ap recordWords (edge-record (axisTracks s) (partOf words 0 (s .components)) (partOf words 64 (s .tracks)) (partOf words 2112 (s .tracks)) sp items p u r index ep cursor made))
+    ∙ ap recordWords (edge-record (axisTracks s) (partOf words 0 (s .template .components)) (partOf words 64 (s .template .tracks)) (partOf words 2112 (s .template .tracks)) sp items p u r index ep cursor made))
 
 -- the one record of an edge
 pub edge-one : (f : ℕ → List ℕ) (lent after : List ℕ) (place first count : ℕ) → count ≤ 1 → (count ≡ 0 → ⊥) → after ≡ sets lent place (f first) → after ≡ sets lent place (joined f first count)
@@ -247,7 +247,7 @@ edge-one f lent after place first count h some e =
     e ∙ ap (sets lent place) (sym (joined-one f first) ∙ ap (joined f first) one)
 
 -- the records of an axis's state
-pub run-words : (s : AxisState) (words items : List ℕ) (first n : ℕ) → first + n ≤ recordsIn (axisTracks s) → tracksIn (axisTracks s) ≤ length items →
+pub run-words : (s : AxisGrid) (words items : List ℕ) (first n : ℕ) → first + n ≤ recordsIn (axisTracks s) → tracksIn (axisTracks s) ≤ length items →
     joined (wordsAt (axisTracks s) (templateIn s words) (sparesIn s words) items) first n ≡ runWords s words items first n
 unfolding joined runWords
 run-words s words items first zero h k = refl

@@ -10,7 +10,7 @@ use lib.ListN.{length}
 use lib.Seq.{sets}
 use Rattle.coordinates.specs.Refusals.{count, short}
 use Rattle.track_rules.specs.Records.{tracksIn, recordsIn}
-use Rattle.axis_tables.specs.declared.AxisState.{AxisState}
+use Rattle.axis_tables.specs.declared.AxisGrid.{AxisGrid}
 use Rattle.panel_rules.specs.Calls.{axisTracks}
 use Rattle.library_numbers.specs.declared.CountAnswer.{CountAnswer}
 use Rattle.library_numbers.specs.Answers.{counted, uncounted}
@@ -21,7 +21,7 @@ neither true y e = e
 neither false y e = refl
 
 -- one that is not refused starts at a record that there is, and has the item bytes
-pub unrefused : (s : AxisState) (items lent first : ℕ) → runRefusal s items lent first ≡ 0 → (first < recordsIn (axisTracks s)) × (tracksIn (axisTracks s) ≤ items)
+pub unrefused : (s : AxisGrid) (items lent first : ℕ) → runRefusal s items lent first ≡ 0 → (first < recordsIn (axisTracks s)) × (tracksIn (axisTracks s) ≤ items)
 unfolding runRefusal
 unrefused s items lent first = go (leb (recordsIn (axisTracks s)) first) (ltb items (tracksIn (axisTracks s)) || ltb lent 3) refl refl
   where
@@ -33,12 +33,12 @@ unrefused s items lent first = go (leb (recordsIn (axisTracks s)) first) (ltb it
         (leb-false (recordsIn (axisTracks s)) first e, ltb-false items (tracksIn (axisTracks s)) (neither (ltb items (tracksIn (axisTracks s))) (ltb lent 3) f))
 
 -- the records that it writes are there, and fit
-pub count-fits : (s : AxisState) (lent first n : ℕ) → first ≤ recordsIn (axisTracks s) → n ≡ runCount s lent first →
+pub count-fits : (s : AxisGrid) (lent first n : ℕ) → first ≤ recordsIn (axisTracks s) → n ≡ runCount s lent first →
     (first + n ≤ recordsIn (axisTracks s)) × (3 * n ≤ lent)
 unfolding runCount
 count-fits s lent first n h e = (omega (arith, h, e), omega (arith, e))
 
-module _ (s : AxisState) (words items : List ℕ) (first : ℕ) (lent : List ℕ) where
+module _ (s : AxisGrid) (words items : List ℕ) (first : ℕ) (lent : List ℕ) where
   pub run-refused : (number : ℕ) (answer : CountAnswer) → number ≡ runRefusal s (length items) (length lent) first → (number ≡ 0 → ⊥) → answer ≡ uncounted number →
       record { answer = answer; words = lent } ≡ writtenRun s words items first lent
   unfolding writtenRun

@@ -12,7 +12,7 @@ use Rattle.track_rules.specs.declared.AxisTracks.{AxisTracks}
 use Rattle.track_rules.specs.declared.Plan.{Plan}
 use Rattle.track_rules.specs.Records.{itemAt, spareAt}
 use Rattle.track_rules.specs.Steps.{cursorOf, writtenAt, trackAt, recordOf}
-use Rattle.axis_tables.specs.declared.AxisState.{AxisState}
+use Rattle.axis_tables.specs.declared.AxisGrid.{AxisGrid}
 use Rattle.panel_rules.specs.Calls.{axisTracks, templateIn, sparesIn}
 use Rattle.library_numbers.specs.Records.{recordWords}
 use Rattle.library_records.specs.declared.Gutters.{Gutters}
@@ -62,5 +62,5 @@ abbrev pub axisPair : AxisTracks → Plan → List Component → List MinMax →
 axisPair a p cs sp items u = pairWords (guttersOf a p) (itemAt items) u (trackAt a cs sp u .size) (trackAt a cs sp u .fit)
 
 -- the words of record i of an axis
-abbrev pub recordAt : AxisState → List ℕ → List ℕ → ℕ → List ℕ
-recordAt s words items i = recordWords (recordOf (axisTracks s) (templateIn s words) (sparesIn s words) (itemAt items) i)
+abbrev pub recordAt : AxisGrid → List ℕ → List ℕ → ℕ → List ℕ
+recordAt g words items i = recordWords (recordOf (axisTracks g) (templateIn g words) (sparesIn g words) (itemAt items) i)

@@ -13,7 +13,7 @@ use crate::implicit::write_negative;
 use crate::implicit::write_spares;
 use crate::size::word_of;
 use crate::template::write_template;
-use axis_tables::AxisState;
+use axis_tables::AxisGrid;
 use panel_calls::axis_track::axis_tracks;
 use panel_calls::part::spare_maximums_of;
 use panel_calls::part::spare_minimums_of;
@@ -22,36 +22,36 @@ use track_record::count::past_end;
 use track_rules::Plan;
 
 // What the gutters of an axis share.
-fn gutters_of(state: AxisState, plan: Plan) -> Gutters
-    ensures { λ r. ⌜ r ≡ guttersOf (axisTracks state) plan ⌝ }
+fn gutters_of(grid: AxisGrid, plan: Plan) -> Gutters
+    ensures { λ r. ⌜ r ≡ guttersOf (axisTracks grid) plan ⌝ }
 {
     Gutters {
-        gap: word_of(sizing::word::sizing_of(state.gap)),
+        gap: word_of(sizing::word::sizing_of(grid.space.gap)),
         opened: plan.opened,
     }
 }
 
 // Writes a stretch of the tracks of an axis, with the gutters after them.
 pub(crate) fn write_pairs(
-    state: AxisState,
+    grid: AxisGrid,
     tables: &[u64],
     items: &[u8],
     plan: Plan,
     tracks: Stretch,
     words: &mut [u64],
 )
-    requires { ⌜ plan .written ≡ writtenCount (axisTracks state) (wordTotals (state .repetitions) (partOf (now tables) 0 (state .components))) ⌝ }
+    requires { ⌜ plan .written ≡ writtenCount (axisTracks grid) (wordTotals (grid .size .repetitions) (partOf (now tables) 0 (grid .template .components))) ⌝ }
     requires { ⌜ tracks .first + tracks .count < 4294967296 ⌝ }
     requires { ⌜ tracks .place + 6 * tracks .count ≤ length (now words) ⌝ }
-    ensures { λ _. ⌜ now (words .exit) ≡ sets (now (words .entry)) (tracks .place) (joined (axisPair (axisTracks state) plan (templateIn state (now (tables .entry))) (sparesIn state (now (tables .entry))) (now (items .entry))) (tracks .first) (tracks .count)) ⌝ }
+    ensures { λ _. ⌜ now (words .exit) ≡ sets (now (words .entry)) (tracks .place) (joined (axisPair (axisTracks grid) plan (templateIn grid (now (tables .entry))) (sparesIn grid (now (tables .entry))) (now (items .entry))) (tracks .first) (tracks .count)) ⌝ }
 {
-    let axis = axis_tracks(state);
+    let axis = axis_tracks(grid);
     let counts = axis.counts;
     let negative = counts.negative_implicit as u64;
     let end = negative + plan.written as u64;
-    let gutters = gutters_of(state, plan);
-    let minimums = spare_minimums_of(state, tables);
-    let maximums = spare_maximums_of(state, tables);
+    let gutters = gutters_of(grid, plan);
+    let minimums = spare_minimums_of(grid, tables);
+    let maximums = spare_maximums_of(grid, tables);
     let before = before_end(negative, tracks.first as u64, tracks.count);
     let early = Stretch {
         first: tracks.first,
@@ -67,7 +67,7 @@ pub(crate) fn write_pairs(
         place: tracks.place + 6 * before,
     };
     let offset = past_end(negative, first as u64);
-    write_template(state, tables, items, offset, gutters, middle, words);
+    write_template(grid, tables, items, offset, gutters, middle, words);
     let next = first + written;
     let late = Stretch {
         first: next,

@@ -11,7 +11,7 @@ use crate::Stretch;
 use crate::axis::write_pairs;
 use crate::pair::GUTTER;
 use crate::pair::put_record;
-use axis_tables::AxisState;
+use axis_tables::AxisGrid;
 use library_numbers::numbers::kind_number;
 use library_numbers::numbers::size_word;
 use panel_calls::axis_track::axis_tracks;
@@ -24,7 +24,7 @@ use track_rules::TrackWalk;
 
 // Writes record `index` at a place.
 fn write_record(
-    state: AxisState,
+    grid: AxisGrid,
     tables: &[u64],
     items: &[u8],
     plan: Plan,
@@ -32,14 +32,14 @@ fn write_record(
     words: &mut [u64],
     place: usize,
 )
-    requires { ⌜ plan ≡ planOf (axisTracks state) (templateIn state (now tables)) (itemAt (now items)) ⌝ }
+    requires { ⌜ plan ≡ planOf (axisTracks grid) (templateIn grid (now tables)) (itemAt (now items)) ⌝ }
     requires { ⌜ place + 3 ≤ length (now words) ⌝ }
-    ensures { λ _. ⌜ now (words .exit) ≡ sets (now (words .entry)) place (recordAt state (now (tables .entry)) (now (items .entry)) index) ⌝ }
+    ensures { λ _. ⌜ now (words .exit) ≡ sets (now (words .entry)) place (recordAt grid (now (tables .entry)) (now (items .entry)) index) ⌝ }
 {
-    let axis = axis_tracks(state);
-    let cursor = cursor_at(components_of(state, tables), axis, index as u64);
+    let axis = axis_tracks(grid);
+    let cursor = cursor_at(components_of(grid, tables), axis, index as u64);
     let at = TrackWalk { axis, plan, cursor };
-    let track = carried_on(state, tables, items, at, index);
+    let track = carried_on(grid, tables, items, at, index);
     let kind = track.kind;
     let size = track.size;
     let minimum = size.min;
@@ -56,17 +56,17 @@ fn write_record(
 
 // Writes at most one record. The first gutter is always collapsed.
 fn write_edge(
-    state: AxisState,
+    grid: AxisGrid,
     tables: &[u64],
     items: &[u8],
     plan: Plan,
     records: Stretch,
     words: &mut [u64],
 )
-    requires { ⌜ plan ≡ planOf (axisTracks state) (templateIn state (now tables)) (itemAt (now items)) ⌝ }
+    requires { ⌜ plan ≡ planOf (axisTracks grid) (templateIn grid (now tables)) (itemAt (now items)) ⌝ }
     requires { ⌜ records .count ≤ 1 ⌝ }
     requires { ⌜ records .place + 3 * records .count ≤ length (now words) ⌝ }
-    ensures { λ _. ⌜ now (words .exit) ≡ sets (now (words .entry)) (records .place) (joined (recordAt state (now (tables .entry)) (now (items .entry))) (records .first) (records .count)) ⌝ }
+    ensures { λ _. ⌜ now (words .exit) ≡ sets (now (words .entry)) (records .place) (joined (recordAt grid (now (tables .entry)) (now (items .entry))) (records .first) (records .count)) ⌝ }
 {
     if records.count == 0 {
         return;
@@ -76,7 +76,7 @@ fn write_edge(
         return;
     }
     write_record(
-        state,
+        grid,
         tables,
         items,
         plan,
@@ -101,7 +101,7 @@ fn head_count(first: usize, count: usize) -> usize
 
 // Writes `count` records of an axis from `first` on.
 pub(crate) fn write_axis(
-    state: AxisState,
+    grid: AxisGrid,
     tables: &[u64],
     items: &[u8],
     first: usize,
@@ -110,28 +110,28 @@ pub(crate) fn write_axis(
 )
     requires { ⌜ first + count < 4294967296 ⌝ }
     requires { ⌜ 3 * count ≤ length (now words) ⌝ }
-    ensures { λ _. ⌜ now (words .exit) ≡ sets (now (words .entry)) 0 (joined (recordAt state (now (tables .entry)) (now (items .entry))) first count) ⌝ }
+    ensures { λ _. ⌜ now (words .exit) ≡ sets (now (words .entry)) 0 (joined (recordAt grid (now (tables .entry)) (now (items .entry))) first count) ⌝ }
 {
-    let plan = plan_on(state, tables, items);
+    let plan = plan_on(grid, tables, items);
     let head = head_count(first, count);
     let start = Stretch {
         first,
         count: head,
         place: 0,
     };
-    write_edge(state, tables, items, plan, start, words);
+    write_edge(grid, tables, items, plan, start, words);
     let pairs = (count - head) / 2;
     let middle = Stretch {
         first: (first + head) / 2,
         count: pairs,
         place: 3 * head,
     };
-    write_pairs(state, tables, items, plan, middle, words);
+    write_pairs(grid, tables, items, plan, middle, words);
     let done = head + 2 * pairs;
     let rest = Stretch {
         first: first + done,
         count: count - done,
         place: 3 * done,
     };
-    write_edge(state, tables, items, plan, rest, words);
+    write_edge(grid, tables, items, plan, rest, words);
 }

@@ -4,11 +4,11 @@ ghost use Prim.Native.Nat.{_+_, _*_, _≤_};
 ghost use lib.ListN.{length};
 ghost use lib.Seq.{sets};
 ghost use Rattle.track_rules.specs.Records.{tracksIn, recordsIn};
-ghost use Rattle.panel_tables.specs.Axes.{stateIn};
+ghost use Rattle.panel_tables.specs.Axes.{gridIn};
 ghost use Rattle.panel_tables.specs.Regions.{axisWordsIn};
 ghost use Rattle.panel_rules.specs.Calls.{axisTracks};
 ghost use Rattle.library_numbers.specs.Records.{runWords, runRefusal, runCount, WrittenRun, writtenRun};
-use axis_tables::AxisState;
+use axis_tables::AxisGrid;
 use coordinates::Axis;
 use coordinates::refusal::COUNT;
 use coordinates::refusal::SHORT;
@@ -16,8 +16,8 @@ use library_numbers::CountAnswer;
 use library_numbers::numbers::counted;
 use library_numbers::numbers::uncounted;
 use panel_calls::axis_track::axis_tracks;
-use panel_tables::Panel;
-use panel_tables::axis::state_in;
+use panel_tables::Grid;
+use panel_tables::axis::grid_in;
 use panel_tables::region::PANEL_WORDS;
 use panel_tables::region::axis_words;
 use track_record::Repeated;
@@ -64,26 +64,26 @@ pub(crate) struct TemplatePart {
 
 // Writes so many records from one on.
 fn write_records(
-    state: AxisState,
+    grid: AxisGrid,
     tables: &[u64],
     items: &[u8],
     first: usize,
     count: usize,
     words: &mut [u64],
 )
-    requires { ⌜ first + count ≤ recordsIn (axisTracks state) ⌝ }
-    requires { ⌜ tracksIn (axisTracks state) ≤ length (now items) ⌝ }
+    requires { ⌜ first + count ≤ recordsIn (axisTracks grid) ⌝ }
+    requires { ⌜ tracksIn (axisTracks grid) ≤ length (now items) ⌝ }
     requires { ⌜ 3 * count ≤ length (now words) ⌝ }
-    ensures { λ _. ⌜ now (words .exit) ≡ sets (now (words .entry)) 0 (runWords state (now (tables .entry)) (now (items .entry)) first count) ⌝ }
+    ensures { λ _. ⌜ now (words .exit) ≡ sets (now (words .entry)) 0 (runWords grid (now (tables .entry)) (now (items .entry)) first count) ⌝ }
 {
-    write_axis(state, tables, items, first, count, words);
+    write_axis(grid, tables, items, first, count, words);
 }
 
 // What a run is refused by.
-fn run_refusal(state: AxisState, items: usize, lent: usize, first: u32) -> u32
-    ensures { λ r. ⌜ r ≡ runRefusal state items lent first ⌝ }
+fn run_refusal(grid: AxisGrid, items: usize, lent: usize, first: u32) -> u32
+    ensures { λ r. ⌜ r ≡ runRefusal grid items lent first ⌝ }
 {
-    let tracks = track_count(axis_tracks(state));
+    let tracks = track_count(axis_tracks(grid));
     if 2 * tracks + 1 <= first {
         return COUNT;
     }
@@ -94,11 +94,11 @@ fn run_refusal(state: AxisState, items: usize, lent: usize, first: u32) -> u32
 }
 
 // How many records are written from one that there is.
-fn run_count(state: AxisState, lent: usize, first: u32) -> usize
-    requires { ⌜ first ≤ recordsIn (axisTracks state) ⌝ }
-    ensures { λ r. ⌜ r ≡ runCount state lent first ⌝ }
+fn run_count(grid: AxisGrid, lent: usize, first: u32) -> usize
+    requires { ⌜ first ≤ recordsIn (axisTracks grid) ⌝ }
+    ensures { λ r. ⌜ r ≡ runCount grid lent first ⌝ }
 {
-    let left = (2 * track_count(axis_tracks(state)) + 1 - first) as usize;
+    let left = (2 * track_count(axis_tracks(grid)) + 1 - first) as usize;
     if left < lent / 3 {
         return left;
     }
@@ -107,34 +107,34 @@ fn run_count(state: AxisState, lent: usize, first: u32) -> usize
 
 // Writes the records of one axis from `first` on.
 fn write_on(
-    state: AxisState,
+    grid: AxisGrid,
     tables: &[u64],
     items: &[u8],
     first: u32,
     words: &mut [u64],
 ) -> CountAnswer
-    ensures { λ r. ⌜ record { answer = r; words = now (words .exit) } ≡ writtenRun state (now (tables .entry)) (now (items .entry)) first (now (words .entry)) ⌝ }
+    ensures { λ r. ⌜ record { answer = r; words = now (words .exit) } ≡ writtenRun grid (now (tables .entry)) (now (items .entry)) first (now (words .entry)) ⌝ }
 {
-    let number = run_refusal(state, items.len(), words.len(), first);
+    let number = run_refusal(grid, items.len(), words.len(), first);
     if number != 0 {
         return uncounted(number);
     }
-    let count = run_count(state, words.len(), first);
-    write_records(state, tables, items, first as usize, count, words);
+    let count = run_count(grid, words.len(), first);
+    write_records(grid, tables, items, first as usize, count, words);
     counted(count as u64)
 }
 
 // Writes the records of an axis of a panel from `first` on, as many as there are and as fit.
 pub fn write_run(
-    panel: Panel,
+    grid: Grid,
     words: &[u64; PANEL_WORDS],
     axis: Axis,
     items: &[u8],
     first: u32,
     records: &mut [u64],
 ) -> CountAnswer
-    ensures { λ r. ⌜ record { answer = r; words = now (records .exit) } ≡ writtenRun (stateIn panel axis) (axisWordsIn axis (now (words .entry))) (now (items .entry)) first (now (records .entry)) ⌝ }
+    ensures { λ r. ⌜ record { answer = r; words = now (records .exit) } ≡ writtenRun (gridIn grid axis) (axisWordsIn axis (now (words .entry))) (now (items .entry)) first (now (records .entry)) ⌝ }
 {
-    let state = state_in(panel, axis);
-    write_on(state, axis_words(words, axis), items, first, records)
+    let own = grid_in(grid, axis);
+    write_on(own, axis_words(words, axis), items, first, records)
 }

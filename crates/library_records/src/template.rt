@@ -11,7 +11,7 @@ use crate::Gutters;
 use crate::Stretch;
 use crate::part::write_part;
 use crate::taken::part_at;
-use axis_tables::AxisState;
+use axis_tables::AxisGrid;
 use panel_calls::part::components_of;
 use panel_calls::part::maximums_of;
 use panel_calls::part::minimums_of;
@@ -19,7 +19,7 @@ use track_rules::Cursor;
 
 // Writes a stretch of tracks with the gutters after them: those of the template from its track `offset` on.
 pub(crate) fn write_template(
-    state: AxisState,
+    grid: AxisGrid,
     tables: &[u64],
     items: &[u8],
     offset: u64,
@@ -27,14 +27,14 @@ pub(crate) fn write_template(
     tracks: Stretch,
     words: &mut [u64],
 )
-    requires { ⌜ (0 < tracks .count → offset + tracks .count ≤ sumOf (wordTotals (state .repetitions) (partOf (now tables) 0 (state .components)))) ⌝ }
+    requires { ⌜ (0 < tracks .count → offset + tracks .count ≤ sumOf (wordTotals (grid .size .repetitions) (partOf (now tables) 0 (grid .template .components)))) ⌝ }
     requires { ⌜ tracks .first + tracks .count < 4294967296 ⌝ }
     requires { ⌜ tracks .place + 6 * tracks .count ≤ length (now words) ⌝ }
-    ensures { λ _. ⌜ now (words .exit) ≡ sets (now (words .entry)) (tracks .place) (joined (templatePair (wordTotals (state .repetitions) (partOf (now (tables .entry)) 0 (state .components))) (templateIn state (now (tables .entry))) (now (items .entry)) offset (tracks .first) gutters) (tracks .first) (tracks .count)) ⌝ }
+    ensures { λ _. ⌜ now (words .exit) ≡ sets (now (words .entry)) (tracks .place) (joined (templatePair (wordTotals (grid .size .repetitions) (partOf (now (tables .entry)) 0 (grid .template .components))) (templateIn grid (now (tables .entry))) (now (items .entry)) offset (tracks .first) gutters) (tracks .first) (tracks .count)) ⌝ }
 {
-    let components = components_of(state, tables);
-    let minimums = minimums_of(state, tables);
-    let maximums = maximums_of(state, tables);
+    let components = components_of(grid, tables);
+    let minimums = minimums_of(grid, tables);
+    let maximums = maximums_of(grid, tables);
     let mut component: usize = 0;
     let mut at = offset;
     let mut done: usize = 0;
@@ -44,7 +44,7 @@ pub(crate) fn write_template(
             offset: at,
         };
         let left = tracks.count - done;
-        let part = part_at(components, state.repetitions, cursor, left);
+        let part = part_at(components, grid.size.repetitions, cursor, left);
         let repeated = part.repeated;
         let after = part.after;
         let stretch = Stretch {

@@ -15,8 +15,8 @@ use Rattle.name_entries.proofs.Showing.{entry-name}
 use Rattle.name_lists.specs.Lists.{partWord, lineWords, lists, onLine}
 use Rattle.name_lists.proofs.Words.{Small, small-entry}
 use Rattle.name_lists.proofs.Listed.{part-back, lists-line}
-use Rattle.panel_tables.specs.declared.Panel.{Panel}
-use Rattle.panel_tables.specs.Axes.{stateIn}
+use Rattle.panel_tables.specs.declared.Grid.{Grid}
+use Rattle.panel_tables.specs.Axes.{gridIn}
 use Rattle.panel_rules.specs.Calls.{NameTables, wordsIn, storeIn, shortNames, entryWordsIn, lineNameIn}
 use Rattle.palgwern.proofs.Parts.{cut-part}
 
@@ -55,8 +55,8 @@ listed-name explicit words store line place h g =
     ∙ (rw (le-leb 1 line h, le-leb line (explicit + 1) g) at e))
 
 -- the same of an axis of a panel
-pub lists-agree : (p : Panel) (t : NameTables) (a : Axis) (line place : ℕ) → shortNames t ≡ false → 1 ≤ line → line ≤ stateIn p a .explicit + 1 →
-    nameIn (storeIn t a) (entryOf (getD (onLine line (lists (stateIn p a .explicit) (entryWordsIn (stateIn p a) (wordsIn t a)) (storeIn t a))) place 0))
+pub lists-agree : (p : Grid) (t : NameTables) (a : Axis) (line place : ℕ) → shortNames t ≡ false → 1 ≤ line → line ≤ gridIn p a .size .explicit + 1 →
+    nameIn (storeIn t a) (entryOf (getD (onLine line (lists (gridIn p a .size .explicit) (entryWordsIn (gridIn p a) (wordsIn t a)) (storeIn t a))) place 0))
     ≡ lineNameIn p t a line place
 unfolding lineNameIn
-lists-agree p t a line place s h g = rw s (listed-name (stateIn p a .explicit) (entryWordsIn (stateIn p a) (wordsIn t a)) (storeIn t a) line place h g)
+lists-agree p t a line place s h g = rw s (listed-name (gridIn p a .size .explicit) (entryWordsIn (gridIn p a) (wordsIn t a)) (storeIn t a) line place h g)

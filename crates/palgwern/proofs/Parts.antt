@@ -13,7 +13,7 @@ use Rattle.coordinates.specs.declared.axis.Axis.the-variants.{Column, Row}
 use Rattle.name_entries.specs.LineNames.{ofAxis}
 use Rattle.name_entries.specs.declared.NameEntry.{NameEntry}
 use Rattle.axis_tables.specs.Runs.{partOf}
-use Rattle.panel_tables.specs.declared.Panel.{Panel}
+use Rattle.panel_tables.specs.declared.Grid.{Grid}
 use Rattle.panel_tables.specs.Placements.{axisOf}
 use Rattle.panel_rules.specs.Calls.{NameTables, storeIn, shorterStore, lineNameIn}
 use Rattle.panel_names.specs.LineEntries.{lineEntryIn}
@@ -56,7 +56,7 @@ axis-length Row columns rows = refl
 
 -- ---- what the call shows
 
-module _ (p : Panel) (t : NameTables) (axis line place : ℕ) where
+module _ (p : Grid) (t : NameTables) (axis line place : ℕ) where
   -- the part of the entry's name
   pub shows-name : (bytes : ℕ) (e : NameEntry) (r : NameAnswer) → axis ≤ 1 → 32768 ≤ shorterStore t → bytes ≡ length (storeIn t (axisOf axis)) →
       e ≡ lineEntryIn p t (axisOf axis) line place → r ≡ namePart bytes e → ShowsName p t axis line place r

@@ -6,7 +6,7 @@ use mathlib.Core.List.{[]}
 use lib.ListN.{length}
 use Rattle.coordinates.specs.Refusals.{count, short}
 use Rattle.axis_tables.specs.Runs.{partOf}
-use Rattle.panel_tables.specs.declared.Panel.{Panel}
+use Rattle.panel_tables.specs.declared.Grid.{Grid}
 use Rattle.panel_tables.specs.Placements.{axisOf}
 use Rattle.panel_rules.specs.Calls.{NameTables, storeIn, shortNames, lineNameIn}
 use Rattle.panel_names.specs.LineEntries.{lineEntryIn}
@@ -17,14 +17,14 @@ abbrev pub refusedName : ℕ → NameAnswer
 refusedName n = record { number = n; offset = 0; length = 0 }
 
 -- 4 for a number that is no axis, then 10 where either store is short
-unfoldable pub namePartOf : Panel → NameTables → ℕ → ℕ → ℕ → NameAnswer
-namePartOf p t axis line place =
+unfoldable pub namePartOf : Grid → NameTables → ℕ → ℕ → ℕ → NameAnswer
+namePartOf g t axis line place =
     cond (isAxis axis)
-    (cond (shortNames t) (refusedName short) (namePart (length (storeIn t (axisOf axis))) (lineEntryIn p t (axisOf axis) line place)))
+    (cond (shortNames t) (refusedName short) (namePart (length (storeIn t (axisOf axis))) (lineEntryIn g t (axisOf axis) line place)))
     (refusedName count)
 
 -- the part that an answer names lies in the store of the axis, and is the name of that line and place
-pub record ShowsName (p : Panel) (t : NameTables) (axis line place : ℕ) (r : NameAnswer) : Type 0 where
-  pub answer : r ≡ namePartOf p t axis line place
+pub record ShowsName (g : Grid) (t : NameTables) (axis line place : ℕ) (r : NameAnswer) : Type 0 where
+  pub answer : r ≡ namePartOf g t axis line place
   pub inside : r .offset + r .length ≤ length (storeIn t (axisOf axis))
-  pub part : partOf (storeIn t (axisOf axis)) (r .offset) (r .length) ≡ cond (isAxis axis) (lineNameIn p t (axisOf axis) line place) []
+  pub part : partOf (storeIn t (axisOf axis)) (r .offset) (r .length) ≡ cond (isAxis axis) (lineNameIn g t (axisOf axis) line place) []

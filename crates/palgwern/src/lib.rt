@@ -25,6 +25,7 @@ use library_numbers::numbers;
 use library_numbers::part;
 use panel_names::store::smaller;
 use panel_resolving::run::PLACEMENT_RUN;
+use panel_tables::Grid;
 use panel_tables::Panel;
 use panel_tables::region::PANEL_BYTES;
 use panel_tables::region::PANEL_WORDS;
@@ -95,8 +96,8 @@ pub extern "C" fn palgwern_enter_name(
 
 // The explicit size of an axis.
 #[no_mangle]
-pub extern "C" fn palgwern_explicit_size(panel: Panel, axis: u32) -> SizeAnswer
-    ensures { λ r. ⌜ r ≡ sizeOf panel axis ⌝ }
+pub extern "C" fn palgwern_explicit_size(grid: Grid, axis: u32) -> SizeAnswer
+    ensures { λ r. ⌜ r ≡ sizeOf grid axis ⌝ }
 {
     if ROWS < axis {
         return SizeAnswer {
@@ -105,7 +106,7 @@ pub extern "C" fn palgwern_explicit_size(panel: Panel, axis: u32) -> SizeAnswer
             explicit: 0,
         };
     }
-    let size = panel_calls::size::explicit_size(panel, axis_of(axis));
+    let size = panel_calls::size::explicit_size(grid, axis_of(axis));
     SizeAnswer {
         number: 0,
         repetitions: size.repetitions,
@@ -115,40 +116,40 @@ pub extern "C" fn palgwern_explicit_size(panel: Panel, axis: u32) -> SizeAnswer
 
 // How many lists of line names an axis has.
 #[no_mangle]
-pub extern "C" fn palgwern_line_count(panel: Panel, axis: u32) -> CountAnswer
-    ensures { λ r. ⌜ r ≡ lineCountOf panel axis ⌝ }
+pub extern "C" fn palgwern_line_count(grid: Grid, axis: u32) -> CountAnswer
+    ensures { λ r. ⌜ r ≡ lineCountOf grid axis ⌝ }
 {
     if ROWS < axis {
         return numbers::uncounted(COUNT);
     }
-    numbers::counted(panel_calls::size::line_count(panel, axis_of(axis)))
+    numbers::counted(panel_calls::size::line_count(grid, axis_of(axis)))
 }
 
 // How many records an axis has.
 #[no_mangle]
-pub extern "C" fn palgwern_record_count(panel: Panel, axis: u32) -> CountAnswer
-    ensures { λ r. ⌜ r ≡ recordCountOf panel axis ⌝ }
+pub extern "C" fn palgwern_record_count(grid: Grid, axis: u32) -> CountAnswer
+    ensures { λ r. ⌜ r ≡ recordCountOf grid axis ⌝ }
 {
     if ROWS < axis {
         return numbers::uncounted(COUNT);
     }
-    numbers::counted(panel_calls::track::record_count(panel, axis_of(axis)) as u64)
+    numbers::counted(panel_calls::track::record_count(grid, axis_of(axis)) as u64)
 }
 
 // Placement `index` with its names resolved.
 #[no_mangle]
 pub extern "C" fn palgwern_resolve_placement(
-    panel: Panel,
+    grid: Grid,
     words: &[u64; PANEL_WORDS],
     bytes: &[u8; PANEL_BYTES],
     columnstore: &[u8],
     rowstore: &[u8],
     index: u32,
 ) -> PlacementNumbers
-    ensures { λ r. ⌜ r ≡ placementNumbers (resolvePlacement panel (nameTablesIn (now (words .entry)) (now (columnstore .entry)) (now (rowstore .entry))) (areaTableIn (now (words .entry)) (now (bytes .entry))) (placementTableIn (now (words .entry)) (now (bytes .entry))) index) ⌝ }
+    ensures { λ r. ⌜ r ≡ placementNumbers (resolvePlacement grid (nameTablesIn (now (words .entry)) (now (columnstore .entry)) (now (rowstore .entry))) (areaTableIn (now (words .entry)) (now (bytes .entry))) (placementTableIn (now (words .entry)) (now (bytes .entry))) index) ⌝ }
 {
     let answer = panel_resolving::placing::resolve_placement(
-        panel,
+        grid,
         words,
         bytes,
         columnstore,
@@ -161,7 +162,7 @@ pub extern "C" fn palgwern_resolve_placement(
 // Placements from `first` on with their names resolved, as many as there are and fit: six numbers each, those of PlacementNumbers.
 #[no_mangle]
 pub extern "C" fn palgwern_resolve_placements(
-    panel: Panel,
+    grid: Grid,
     words: &[u64; PANEL_WORDS],
     bytes: &[u8; PANEL_BYTES],
     columnstore: &[u8],
@@ -169,10 +170,10 @@ pub extern "C" fn palgwern_resolve_placements(
     first: u32,
     numbers: &mut [i32; PLACEMENT_RUN],
 ) -> CountAnswer
-    ensures { λ r. ⌜ record { answer = r; numbers = now (numbers .exit) } ≡ placementsWritten panel (nameTablesIn (now (words .entry)) (now (columnstore .entry)) (now (rowstore .entry))) (areaTableIn (now (words .entry)) (now (bytes .entry))) (placementTableIn (now (words .entry)) (now (bytes .entry))) first (now (numbers .entry)) ⌝ }
+    ensures { λ r. ⌜ record { answer = r; numbers = now (numbers .exit) } ≡ placementsWritten grid (nameTablesIn (now (words .entry)) (now (columnstore .entry)) (now (rowstore .entry))) (areaTableIn (now (words .entry)) (now (bytes .entry))) (placementTableIn (now (words .entry)) (now (bytes .entry))) first (now (numbers .entry)) ⌝ }
 {
     panel_resolving::run::write_placements(
-        panel,
+        grid,
         words,
         bytes,
         columnstore,
@@ -185,7 +186,7 @@ pub extern "C" fn palgwern_resolve_placements(
 // Where a name of a line of an axis lies in the axis's store, by its place from 0.
 #[no_mangle]
 pub extern "C" fn palgwern_line_name(
-    panel: Panel,
+    grid: Grid,
     words: &[u64; PANEL_WORDS],
     columnstore: &[u8],
     rowstore: &[u8],
@@ -193,7 +194,7 @@ pub extern "C" fn palgwern_line_name(
     line: u32,
     place: u32,
 ) -> NameAnswer
-    ensures { λ r. ⌜ ShowsName panel (nameTablesIn (now (words .entry)) (now (columnstore .entry)) (now (rowstore .entry))) axis line place r ⌝ }
+    ensures { λ r. ⌜ ShowsName grid (nameTablesIn (now (words .entry)) (now (columnstore .entry)) (now (rowstore .entry))) axis line place r ⌝ }
 {
     if ROWS < axis {
         return NameAnswer {
@@ -210,7 +211,7 @@ pub extern "C" fn palgwern_line_name(
         };
     }
     let entry = panel_names::naming::line_entry(
-        panel,
+        grid,
         words,
         columnstore,
         rowstore,
@@ -226,35 +227,35 @@ pub extern "C" fn palgwern_line_name(
 // axis's store times 2^16 and its length times 2^32.
 #[no_mangle]
 pub extern "C" fn palgwern_line_names(
-    panel: Panel,
+    grid: Grid,
     words: &[u64; PANEL_WORDS],
     columnstore: &[u8],
     rowstore: &[u8],
     axis: u32,
     names: &mut [u64; LINE_NAME_RUN],
 ) -> CountAnswer
-    ensures { λ r. ⌜ record { answer = r; words = now (names .exit) } ≡ listsWritten panel (nameTablesIn (now (words .entry)) (now (columnstore .entry)) (now (rowstore .entry))) axis (now (names .entry)) ⌝ }
+    ensures { λ r. ⌜ record { answer = r; words = now (names .exit) } ≡ listsWritten grid (nameTablesIn (now (words .entry)) (now (columnstore .entry)) (now (rowstore .entry))) axis (now (names .entry)) ⌝ }
 {
     if ROWS < axis {
         return numbers::uncounted(COUNT);
     }
-    library_names::write_lists(panel, words, columnstore, rowstore, axis_of(axis), names)
+    library_names::write_lists(grid, words, columnstore, rowstore, axis_of(axis), names)
 }
 
 // Records of an axis from `first` on, as many as there are and fit: three words each, kind, minimum and maximum.
 #[no_mangle]
 pub extern "C" fn palgwern_records(
-    panel: Panel,
+    grid: Grid,
     words: &[u64; PANEL_WORDS],
     axis: u32,
     items: &[u8],
     first: u32,
     records: &mut [u64],
 ) -> CountAnswer
-    ensures { λ r. ⌜ record { answer = r; words = now (records .exit) } ≡ recordsWritten panel (now (words .entry)) axis (now (items .entry)) first (now (records .entry)) ⌝ }
+    ensures { λ r. ⌜ record { answer = r; words = now (records .exit) } ≡ recordsWritten grid (now (words .entry)) axis (now (items .entry)) first (now (records .entry)) ⌝ }
 {
     if ROWS < axis {
         return numbers::uncounted(COUNT);
     }
-    library_records::write_run(panel, words, axis_of(axis), items, first, records)
+    library_records::write_run(grid, words, axis_of(axis), items, first, records)
 }

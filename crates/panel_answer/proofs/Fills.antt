@@ -10,11 +10,10 @@ use lib.Seq.{sets, sets-eq, length-sets, drop-drop, take-all}
 use Rattle.name_template.proofs.Placing.{sets-append}
 use Rattle.sheet_rules.specs.Read.{SheetRead}
 use Rattle.coordinates.specs.declared.axis.Axis.the-variants.{Column, Row}
-use Rattle.panel_rules.specs.Runs.{Held}
 use Rattle.panel_text.specs.Written.{WritesLine}
 use Rattle.panel_answer.specs.declared.AnswerLine.{AnswerLine}
 use Rattle.panel_answer.specs.declared.AnswerLine.the-variants.{Refused, Size, Record, Place, End}
-use Rattle.panel_answer.specs.Answer.{answerLines, textOf, linesOf}
+use Rattle.panel_answer.specs.Answer.{GridHeld, answerLines, textOf, linesOf}
 use Rattle.panel_answer.specs.Walk.{isEnd, firstLine, lineText, lineAfter}
 use Rattle.panel_answer.specs.declared.Filled.{Filled}
 use Rattle.panel_answer.specs.Text.{linesFrom, textFrom, WritesUpTo, FillsText}
@@ -53,7 +52,7 @@ not-false true e = refl
 not-false false e = sym e
 
 -- a line is left before the end
-pub some-left : (h : Held) (at : AnswerLine) → isEnd at ≡ false → 1 ≤ linesFrom h at
+pub some-left : (h : GridHeld) (at : AnswerLine) → isEnd at ≡ false → 1 ≤ linesFrom h at
 some-left h (Refused r) e = omega arith
 some-left h (Size Column) e = omega arith
 some-left h (Size Row) e = omega arith
@@ -70,17 +69,17 @@ at-end (Place i) e = absurd (true-false (sym e))
 at-end End e = refl
 
 -- the text of what a sheet was read as
-pub begun-text : (r : SheetRead) → textFrom (record { panel = r .answer .panel; tables = r .tables }) (firstLine (r .answer)) ≡ textOf (linesOf r)
+pub begun-text : (r : SheetRead) → textFrom (record { grid = r .answer .panel .grid; tables = r .tables }) (firstLine (r .answer)) ≡ textOf (linesOf r)
 begun-text r = go (eqb (r .answer .refusal .number) 0)
   where
-    go : (t : Bool) → textFrom (record { panel = r .answer .panel; tables = r .tables }) (cond t (Size Column) (Refused (r .answer .refusal)))
-        ≡ textOf (cond t (answerLines (record { panel = r .answer .panel; tables = r .tables })) (refusedLine (r .answer .refusal) ∷ []))
-    go true = text-whole (record { panel = r .answer .panel; tables = r .tables })
+    go : (t : Bool) → textFrom (record { grid = r .answer .panel .grid; tables = r .tables }) (cond t (Size Column) (Refused (r .answer .refusal)))
+        ≡ textOf (cond t (answerLines (record { grid = r .answer .panel .grid; tables = r .tables })) (refusedLine (r .answer .refusal) ∷ []))
+    go true = text-whole (record { grid = r .answer .panel .grid; tables = r .tables })
     go false =
-        text-next (record { panel = r .answer .panel; tables = r .tables }) (Refused (r .answer .refusal)) (omega arith)
-        ∙ ap (λ (z : List ℕ). refusedLine (r .answer .refusal) ++ z) (text-end (record { panel = r .answer .panel; tables = r .tables }))
+        text-next (record { grid = r .answer .panel .grid; tables = r .tables }) (Refused (r .answer .refusal)) (omega arith)
+        ∙ ap (λ (z : List ℕ). refusedLine (r .answer .refusal) ++ z) (text-end (record { grid = r .answer .panel .grid; tables = r .tables }))
 
-module _ (out₀ : List ℕ) (h : Held) (at : AnswerLine) where
+module _ (out₀ : List ℕ) (h : GridHeld) (at : AnswerLine) where
   pub none-written : WritesUpTo out₀ h at at out₀ 0
   none-written = record { part = []; bytes = refl; counted = refl; fits = omega arith; whole = refl }
 
@@ -113,7 +112,7 @@ module _ (out₀ : List ℕ) (h : Held) (at : AnswerLine) where
   same-room next out count w = (ap length (w .bytes) ∙ length-sets out₀ 0 (w .part), omega (arith, w .counted, w .fits))
 
 -- each part leaves less to write
-pub shorter : {before after : List ℕ} {h : Held} {at : AnswerLine} {filled : Filled} → FillsText before h at after filled → isEnd at ≡ false → 128 ≤ length before
+pub shorter : {before after : List ℕ} {h : GridHeld} {at : AnswerLine} {filled : Filled} → FillsText before h at after filled → isEnd at ≡ false → 128 ≤ length before
     → length (textFrom h (filled .next)) < length (textFrom h at)
 shorter {before} {after} {h} {at} {filled} f e room =
     let w = f .written in
@@ -121,5 +120,5 @@ shorter {before} {after} {h} {at} {filled} f e room =
     omega (arith, l, w .counted, f .some room e)
 
 -- and the bytes are as many as they were
-pub same-bytes : {before after : List ℕ} {h : Held} {at : AnswerLine} {filled : Filled} → FillsText before h at after filled → length after ≡ length before
+pub same-bytes : {before after : List ℕ} {h : GridHeld} {at : AnswerLine} {filled : Filled} → FillsText before h at after filled → length after ≡ length before
 same-bytes {before} {after} {h} {at} {filled} f = same-room before h at (filled .next) after (filled .count) (f .written) .0

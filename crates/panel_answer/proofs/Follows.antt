@@ -17,21 +17,21 @@ use Rattle.track_rules.specs.Tracks.{zeroGridTrack}
 use Rattle.track_rules.specs.Records.{listed, recordsIn}
 use Rattle.track_rules.proofs.Lists.{length-listed, get-listed}
 use Rattle.track_rules.proofs.RecordList.{records-length}
-use Rattle.axis_tables.specs.declared.AxisState.{AxisState}
-use Rattle.panel_tables.specs.Axes.{stateIn}
+use Rattle.axis_tables.specs.declared.AxisGrid.{AxisGrid}
+use Rattle.panel_tables.specs.Axes.{gridIn}
 use Rattle.panel_rules.specs.Calls.{wordsIn, templateIn, sparesIn, axisTracks}
-use Rattle.panel_rules.specs.Runs.{Held, namesOf, marksOf}
+use Rattle.panel_rules.specs.Runs.{namesOf, marksOf}
 use Rattle.panel_calls.specs.Carried.{carriedTo}
 use Rattle.panel_calls.proofs.Carried.{carried-on, carried-record}
 use Rattle.panel_text.specs.Lines.{recordLine}
 use Rattle.panel_answer.specs.declared.AnswerLine.{AnswerLine}
 use Rattle.panel_answer.specs.declared.AnswerLine.the-variants.{Size, Record, Place, End}
-use Rattle.panel_answer.specs.Answer.{recordsOfAxis, recordCount, recordLines, placeLineOf, sizeLineOf, axisLines, answerLines}
+use Rattle.panel_answer.specs.Answer.{GridHeld, recordsOfAxis, recordCount, recordLines, placeLineOf, sizeLineOf, axisLines, answerLines}
 use Rattle.panel_answer.specs.Walk.{placeFrom, afterAxis, lineAfter, following}
 
 -- an axis has at most 60,001 records
-few-records : (s : AxisState) → recordsIn (axisTracks s) ≤ 60001
-few-records s = omega (arith, min-le-right (s .negative) 10000, min-le-right (s .explicit) 10000, min-le-right (s .positive) 10000)
+few-records : (s : AxisGrid) → recordsIn (axisTracks s) ≤ 60001
+few-records s = omega (arith, min-le-right (s .implicit .negative) 10000, min-le-right (s .size .explicit) 10000, min-le-right (s .implicit .positive) 10000)
 
 -- lines for two axes and then m
 parted : (c r p n : ℕ) → c + r + p + 2 ≤ n → (m : ℕ) × (n ≡ suc (c + suc (r + m))) × (p ≤ 0 + m)
@@ -40,39 +40,39 @@ parted c r p n g = (n - (c + r + 2), omega arith, omega arith)
 total : (c r p : ℕ) → c ≤ 60001 → r ≤ 60001 → p ≤ 256 → c + r + p + 2 ≤ 120260
 total c r p a b g = omega arith
 
-module _ (h : Held) where
+module _ (h : GridHeld) where
   -- ---- the placements
 
   places : ℕ → List (List ℕ)
-  places i = drop i (listed (placeLineOf h) (h .panel .placements))
+  places i = drop i (listed (placeLineOf h) (h .grid .placements))
 
-  place-next : (i : ℕ) → i < h .panel .placements → places i ≡ placeLineOf h i ∷ places (i + 1)
+  place-next : (i : ℕ) → i < h .grid .placements → places i ≡ placeLineOf h i ∷ places (i + 1)
   unfolding places
   place-next i g =
-      let n = h .panel .placements in
+      let n = h .grid .placements in
       let l = listed (placeLineOf h) n in
       let e : i < length l = rw (length-listed (placeLineOf h) n) g in
       drop-cons l i [] e ∙ rw (get-listed (placeLineOf h) n i [] g, add-one)
 
-  place-end : (i : ℕ) → h .panel .placements ≤ i → places i ≡ []
+  place-end : (i : ℕ) → h .grid .placements ≤ i → places i ≡ []
   unfolding places
   place-end i g =
-      let l = listed (placeLineOf h) (h .panel .placements) in
-      let e : length l ≤ i = rw (length-listed (placeLineOf h) (h .panel .placements)) g in
+      let l = listed (placeLineOf h) (h .grid .placements) in
+      let e : length l ≤ i = rw (length-listed (placeLineOf h) (h .grid .placements)) g in
       drop-of-length-le l e
 
   ended : (n : ℕ) → following h n End ≡ []
   ended zero = refl
   ended (suc n) = refl
 
-  placements-follow : (n i : ℕ) → h .panel .placements ≤ i + n → following h n (placeFrom (h .panel) i) ≡ places i
+  placements-follow : (n i : ℕ) → h .grid .placements ≤ i + n → following h n (placeFrom (h .grid) i) ≡ places i
   placements-follow zero i g = sym (place-end i (omega arith))
-  placements-follow (suc n) i g = go (ltb i (h .panel .placements)) refl (placements-follow n (i + 1) (omega arith))
+  placements-follow (suc n) i g = go (ltb i (h .grid .placements)) refl (placements-follow n (i + 1) (omega arith))
     where
-      go : (t : Bool) → ltb i (h .panel .placements) ≡ t → following h n (placeFrom (h .panel) (i + 1)) ≡ places (i + 1)
+      go : (t : Bool) → ltb i (h .grid .placements) ≡ t → following h n (placeFrom (h .grid) (i + 1)) ≡ places (i + 1)
           → following h (suc n) (cond t (Place i) End) ≡ places i
-      go true e k = ap (λ (l : List (List ℕ)). placeLineOf h i ∷ l) k ∙ sym (place-next i (ltb-true i (h .panel .placements) e))
-      go false e k = sym (place-end i (ltb-false i (h .panel .placements) e))
+      go true e k = ap (λ (l : List (List ℕ)). placeLineOf h i ∷ l) k ∙ sym (place-next i (ltb-true i (h .grid .placements) e))
+      go false e k = sym (place-end i (ltb-false i (h .grid .placements) e))
 
   -- ---- the records of an axis
 
@@ -82,20 +82,20 @@ module _ (h : Held) where
 
     record-next : (i : ℕ) → i < count → drop i (recordsOfAxis h a) ≡ getD (recordsOfAxis h a) i zeroGridTrack ∷ drop (i + 1) (recordsOfAxis h a)
     record-next i g =
-        let s = stateIn (h .panel) a in
+        let s = gridIn (h .grid) a in
         let words = wordsIn (namesOf (h .tables)) a in
         let e : i < length (recordsOfAxis h a) = rw (records-length (axisTracks s) (templateIn s words) (sparesIn s words) (marksOf (h .tables) a)) g in
         drop-cons (recordsOfAxis h a) i zeroGridTrack e ∙ rw add-one
 
     record-end : (i : ℕ) → count ≤ i → drop i (recordsOfAxis h a) ≡ []
     record-end i g =
-        let s = stateIn (h .panel) a in
+        let s = gridIn (h .grid) a in
         let words = wordsIn (namesOf (h .tables)) a in
         let e : length (recordsOfAxis h a) ≤ i = rw (records-length (axisTracks s) (templateIn s words) (sparesIn s words) (marksOf (h .tables) a)) g in
         drop-of-length-le (recordsOfAxis h a) e
 
     carried : ℕ → AnswerLine
-    carried i = Record a i (carriedTo (stateIn (h .panel) a) (wordsIn (namesOf (h .tables)) a) (marksOf (h .tables) a) i)
+    carried i = Record a i (carriedTo (gridIn (h .grid) a) (wordsIn (namesOf (h .tables)) a) (marksOf (h .tables) a) i)
 
     -- the line of record i, and the lines after it
     lines : ℕ → List (List ℕ)
@@ -117,21 +117,21 @@ module _ (h : Held) where
     after-record : (i : ℕ) → i + 1 < count → after i ≡ carried (i + 1)
     unfolding after carried
     after-record i g =
-        rw (lt-ltb (i + 1) (recordsIn (axisTracks (stateIn (h .panel) a))) g)
-        (ap (Record a (i + 1)) (carried-on (stateIn (h .panel) a) (wordsIn (namesOf (h .tables)) a) (marksOf (h .tables) a) i (omega (arith, few-records (stateIn (h .panel) a)))))
+        rw (lt-ltb (i + 1) (recordsIn (axisTracks (gridIn (h .grid) a))) g)
+        (ap (Record a (i + 1)) (carried-on (gridIn (h .grid) a) (wordsIn (namesOf (h .tables)) a) (marksOf (h .tables) a) i (omega (arith, few-records (gridIn (h .grid) a)))))
 
-    after-last : (i : ℕ) → i + 1 ≡ count → after i ≡ afterAxis (h .panel) a
+    after-last : (i : ℕ) → i + 1 ≡ count → after i ≡ afterAxis (h .grid) a
     unfolding after carried
-    after-last i g = rw (le-ltb (i + 1) (recordsIn (axisTracks (stateIn (h .panel) a))) (omega arith))
+    after-last i g = rw (le-ltb (i + 1) (recordsIn (axisTracks (gridIn (h .grid) a))) (omega arith))
 
     step : (n i : ℕ) → i < count → following h (suc n) (carried i) ≡ recordLine i (getD (recordsOfAxis h a) i zeroGridTrack) ∷ following h n (after i)
     unfolding after carried
     step n i g =
         ap (λ (r : GridTrack). recordLine i r ∷ following h n (after i))
-        (carried-record (stateIn (h .panel) a) (wordsIn (namesOf (h .tables)) a) (marksOf (h .tables) a) i zeroGridTrack g)
+        (carried-record (gridIn (h .grid) a) (wordsIn (namesOf (h .tables)) a) (marksOf (h .tables) a) i zeroGridTrack g)
 
     -- from record i on, with k more after it
-    records-follow : (k m i : ℕ) → i + suc k ≡ count → following h (suc (k + m)) (carried i) ≡ lines i ++ following h m (afterAxis (h .panel) a)
+    records-follow : (k m i : ℕ) → i + suc k ≡ count → following h (suc (k + m)) (carried i) ≡ lines i ++ following h m (afterAxis (h .grid) a)
     records-follow zero m i e =
         let z : 0 + m ≡ m = omega arith in
         step (0 + m) i (omega arith)
@@ -145,7 +145,7 @@ module _ (h : Held) where
     some-records = omega arith
 
     -- the size and the records of an axis
-    axis-follow : (m : ℕ) → following h (suc (count + m)) (Size a) ≡ axisLines h a ++ following h m (afterAxis (h .panel) a)
+    axis-follow : (m : ℕ) → following h (suc (count + m)) (Size a) ≡ axisLines h a ++ following h m (afterAxis (h .grid) a)
     unfolding carried lines
     axis-follow m =
         let e : count + m ≡ suc (count - 1 + m) = omega (arith, some-records) in
@@ -153,14 +153,14 @@ module _ (h : Held) where
         ∙ ap (λ (l : List (List ℕ)). sizeLineOf h a ∷ l) (records-follow (count - 1) m 0 (omega (arith, some-records)))
 
   -- the whole answer, where no fewer lines are taken than it has
-  pub all-lines : (n : ℕ) → recordCount h Column + recordCount h Row + h .panel .placements + 2 ≤ n → following h n (Size Column) ≡ answerLines h
+  pub all-lines : (n : ℕ) → recordCount h Column + recordCount h Row + h .grid .placements + 2 ≤ n → following h n (Size Column) ≡ answerLines h
   unfolding answerLines places
   all-lines n g =
-      let (m, e, k) = parted (recordCount h Column) (recordCount h Row) (h .panel .placements) n g in
+      let (m, e, k) = parted (recordCount h Column) (recordCount h Row) (h .grid .placements) n g in
       ap (λ (j : ℕ). following h j (Size Column)) e
       ∙ axis-follow Column (suc (recordCount h Row + m))
       ∙ ap (λ (l : List (List ℕ)). axisLines h Column ++ l) (axis-follow Row m ∙ ap (λ (l : List (List ℕ)). axisLines h Row ++ l) (placements-follow m 0 k))
 
   -- 120,260 lines are enough for every panel of at most 256 placements
-  pub enough : h .panel .placements ≤ 256 → following h 120260 (Size Column) ≡ answerLines h
-  enough g = all-lines 120260 (total (recordCount h Column) (recordCount h Row) (h .panel .placements) (few-records (stateIn (h .panel) Column)) (few-records (stateIn (h .panel) Row)) g)
+  pub enough : h .grid .placements ≤ 256 → following h 120260 (Size Column) ≡ answerLines h
+  enough g = all-lines 120260 (total (recordCount h Column) (recordCount h Row) (h .grid .placements) (few-records (gridIn (h .grid) Column)) (few-records (gridIn (h .grid) Row)) g)

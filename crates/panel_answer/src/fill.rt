@@ -2,8 +2,7 @@
 ghost use mathlib.Core.Path.{_≡_};
 ghost use Rattle.sheet_rules.specs.Panels.{tablesIn};
 ghost use Rattle.sheet_rules.specs.Read.{readSheet};
-ghost use Rattle.panel_rules.specs.Runs.{Held};
-ghost use Rattle.panel_answer.specs.Answer.{answerText};
+ghost use Rattle.panel_answer.specs.Answer.{GridHeld, answerText};
 ghost use Rattle.panel_answer.specs.Text.{textFrom, FillsText};
 ghost use Rattle.panel_answer.specs.Walk.{firstLine};
 use crate::AnswerLine;
@@ -13,7 +12,7 @@ use crate::line::is_end;
 use crate::line::next_line;
 use crate::line::put_line;
 use coordinates::Axis;
-use panel_tables::Panel;
+use panel_tables::Grid;
 use panel_tables::region::PANEL_BYTES;
 use panel_tables::region::PANEL_WORDS;
 use sheet::read_sheet;
@@ -41,26 +40,27 @@ pub fn begin_answer(
     columnstore: &mut [u8],
     rowstore: &mut [u8],
 ) -> Begun
-    ensures { λ r. ⌜ textFrom (record { panel = r .panel; tables = tablesIn (now (words .exit)) (now (bytes .exit)) (now (columnstore .exit)) (now (rowstore .exit)) }) (r .first) ≡ answerText (now (sheet .entry)) (tablesIn (now (words .entry)) (now (bytes .entry)) (now (columnstore .entry)) (now (rowstore .entry))) ⌝ }
+    ensures { λ r. ⌜ textFrom (record { grid = r .grid; tables = tablesIn (now (words .exit)) (now (bytes .exit)) (now (columnstore .exit)) (now (rowstore .exit)) }) (r .first) ≡ answerText (now (sheet .entry)) (tablesIn (now (words .entry)) (now (bytes .entry)) (now (columnstore .entry)) (now (rowstore .entry))) ⌝ }
     ensures lent { λ r. ⌜ tablesIn (now (words .exit)) (now (bytes .exit)) (now (columnstore .exit)) (now (rowstore .exit)) ≡ readSheet (now (sheet .entry)) (tablesIn (now (words .entry)) (now (bytes .entry)) (now (columnstore .entry)) (now (rowstore .entry))) .tables ⌝ }
 {
     let read = read_sheet(sheet, words, bytes, columnstore, rowstore);
     let first = first_line(read);
     let panel = read.panel;
-    Begun { panel, first }
+    let grid = panel.grid;
+    Begun { grid, first }
 }
 
 // Writes the next lines of an answer at the start of lent bytes, as long as any line has room there.
 pub fn fill(
     out: &mut [u8],
-    panel: Panel,
+    grid: Grid,
     words: &[u64; PANEL_WORDS],
     bytes: &[u8; PANEL_BYTES],
     columnstore: &[u8],
     rowstore: &[u8],
     at: AnswerLine,
 ) -> Filled
-    ensures { λ r. ⌜ FillsText (now (out .entry)) (record { panel = panel; tables = tablesIn (now (words .entry)) (now (bytes .entry)) (now (columnstore .entry)) (now (rowstore .entry)) }) at (now (out .exit)) r ⌝ }
+    ensures { λ r. ⌜ FillsText (now (out .entry)) (record { grid = grid; tables = tablesIn (now (words .entry)) (now (bytes .entry)) (now (columnstore .entry)) (now (rowstore .entry)) }) at (now (out .exit)) r ⌝ }
 {
     let mut next = at;
     let mut count: usize = 0;
@@ -70,14 +70,14 @@ pub fn fill(
         }
         count += put_line(
             &mut out[count..],
-            panel,
+            grid,
             words,
             bytes,
             columnstore,
             rowstore,
             next,
         );
-        next = next_line(panel, words, bytes, next);
+        next = next_line(grid, words, bytes, next);
     }
     Filled { count, next }
 }

@@ -6,7 +6,7 @@ mod place;
 
 use coordinates::Axis;
 use coordinates::Refusal;
-use panel_tables::Panel;
+use panel_tables::Grid;
 use track_rules::TrackWalk;
 
 // A line of an answer: a refusal; the size of an axis; a record of it, by its index and what is carried to it; a placement, by its
@@ -19,9 +19,9 @@ pub enum AnswerLine {
     End,
 }
 
-// A sheet that was read: its panel, zeros where it is refused, and the first line of its answer.
+// A sheet that was read: what answers, zeros where it is refused, and the first line of its answer.
 pub struct Begun {
-    pub panel: Panel,
+    pub grid: Grid,
     pub first: AnswerLine,
 }
 

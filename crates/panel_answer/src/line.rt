@@ -2,14 +2,14 @@
 ghost use mathlib.Core.Path.{_≡_};
 ghost use Rattle.panel_tables.specs.Regions.{axisWordsIn, marksIn};
 ghost use Rattle.sheet_rules.specs.Panels.{tablesIn};
-ghost use Rattle.panel_rules.specs.Runs.{Held};
 ghost use Rattle.panel_text.specs.Written.{WritesLine};
+ghost use Rattle.panel_answer.specs.Answer.{GridHeld};
 ghost use Rattle.panel_answer.specs.Walk.{isEnd, lineText, nextLine};
 ghost use Rattle.coordinates.specs.declared.axis.Axis.the-variants.{Column, Row};
 use crate::AnswerLine;
 use crate::axis;
 use crate::place;
-use panel_tables::Panel;
+use panel_tables::Grid;
 use panel_tables::region::PANEL_BYTES;
 use panel_tables::region::PANEL_WORDS;
 
@@ -29,21 +29,21 @@ pub fn is_end(at: AnswerLine) -> bool
 // Writes a line at the start of lent bytes and answers its length, 0 at the end.
 pub fn put_line(
     out: &mut [u8],
-    panel: Panel,
+    grid: Grid,
     words: &[u64; PANEL_WORDS],
     bytes: &[u8; PANEL_BYTES],
     columnstore: &[u8],
     rowstore: &[u8],
     at: AnswerLine,
 ) -> usize
-    ensures { λ r. ⌜ WritesLine (now (out .entry)) (lineText (record { panel = panel; tables = tablesIn (now (words .entry)) (now (bytes .entry)) (now (columnstore .entry)) (now (rowstore .entry)) }) at) (now (out .exit)) r ⌝ }
+    ensures { λ r. ⌜ WritesLine (now (out .entry)) (lineText (record { grid = grid; tables = tablesIn (now (words .entry)) (now (bytes .entry)) (now (columnstore .entry)) (now (rowstore .entry)) }) at) (now (out .exit)) r ⌝ }
 {
     match at {
         AnswerLine::Refused(refusal) => panel_text::refused_line(out, refusal),
-        AnswerLine::Size(axis) => axis::put_size(out, panel, axis),
+        AnswerLine::Size(axis) => axis::put_size(out, grid, axis),
         AnswerLine::Record(axis, index, state) => axis::put_record(
             out,
-            panel,
+            grid,
             words,
             bytes,
             axis,
@@ -52,7 +52,7 @@ pub fn put_line(
         ),
         AnswerLine::Place(index) => place::put_place(
             out,
-            panel,
+            grid,
             words,
             bytes,
             columnstore,
@@ -65,24 +65,24 @@ pub fn put_line(
 
 // The line after a line.
 pub fn next_line(
-    panel: Panel,
+    grid: Grid,
     words: &[u64; PANEL_WORDS],
     bytes: &[u8; PANEL_BYTES],
     at: AnswerLine,
 ) -> AnswerLine
-    ensures { λ r. ⌜ r ≡ nextLine panel (axisWordsIn Column (now (words .entry))) (axisWordsIn Row (now (words .entry))) (marksIn Column (now (bytes .entry))) (marksIn Row (now (bytes .entry))) at ⌝ }
+    ensures { λ r. ⌜ r ≡ nextLine grid (axisWordsIn Column (now (words .entry))) (axisWordsIn Row (now (words .entry))) (marksIn Column (now (bytes .entry))) (marksIn Row (now (bytes .entry))) at ⌝ }
 {
     match at {
         AnswerLine::Refused(_) => AnswerLine::End,
-        AnswerLine::Size(axis) => axis::first_record(panel, words, bytes, axis),
+        AnswerLine::Size(axis) => axis::first_record(grid, words, bytes, axis),
         AnswerLine::Record(axis, index, state) => axis::next_record(
-            panel,
+            grid,
             words,
             axis,
             index,
             state,
         ),
-        AnswerLine::Place(index) => place::place_from(panel, index as u64 + 1),
+        AnswerLine::Place(index) => place::place_from(grid, index as u64 + 1),
         AnswerLine::End => AnswerLine::End,
     }
 }

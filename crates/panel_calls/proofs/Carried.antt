@@ -9,15 +9,15 @@ use Rattle.track_rules.specs.Records.{tracksIn, recordsIn, itemAt, recordsOf}
 use Rattle.track_rules.proofs.RecordList.{records-at}
 use Rattle.track_rules.proofs.Answers.{answer-held}
 use Rattle.track_run.proofs.Filling.{state-record, advanced}
-use Rattle.axis_tables.specs.declared.AxisState.{AxisState}
+use Rattle.axis_tables.specs.declared.AxisGrid.{AxisGrid}
 use Rattle.axis_tables.specs.Runs.{partOf}
 use Rattle.panel_rules.specs.Calls.{axisTracks, templateIn, sparesIn, trackRecord}
 use Rattle.panel_calls.specs.Carried.{carriedTo, carriedRecord, carriedOn}
 
-module _ (s : AxisState) (words items : List ℕ) where
+module _ (s : AxisGrid) (words items : List ℕ) where
   -- carried on from record i, it is what is carried to the next
   pub carried-on : (i : ℕ) → i < 18446744073709551615 → carriedOn s words (carriedTo s words items i) i ≡ carriedTo s words items (i + 1)
-  carried-on i h = advanced (axisTracks s) (partOf words 0 (s .components)) (partOf words 64 (s .tracks)) (partOf words 2112 (s .tracks)) (itemAt items) i h
+  carried-on i h = advanced (axisTracks s) (partOf words 0 (s .template .components)) (partOf words 64 (s .template .tracks)) (partOf words 2112 (s .template .tracks)) (itemAt items) i h
 
   -- the record that it gives is element i of the axis's records
   pub carried-record : (i : ℕ) (d : GridTrack) → i < recordsIn (axisTracks s) →

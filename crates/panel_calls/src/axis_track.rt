@@ -10,7 +10,7 @@ use crate::part::maximums_of;
 use crate::part::minimums_of;
 use crate::part::spare_maximums_of;
 use crate::part::spare_minimums_of;
-use axis_tables::AxisState;
+use axis_tables::AxisGrid;
 use track_counts::TrackCounts;
 use track_rules::AxisTracks;
 use track_rules::GridTrack;
@@ -29,87 +29,87 @@ fn held_count(count: u32) -> u16
 }
 
 // What the records of an axis ask of its state.
-pub fn axis_tracks(state: AxisState) -> AxisTracks
-    ensures { λ r. ⌜ r ≡ axisTracks state ⌝ }
+pub fn axis_tracks(grid: AxisGrid) -> AxisTracks
+    ensures { λ r. ⌜ r ≡ axisTracks grid ⌝ }
 {
     let counts = TrackCounts {
-        negative_implicit: held_count(state.negative),
-        explicit: held_count(state.explicit),
-        positive_implicit: held_count(state.positive),
+        negative_implicit: held_count(grid.implicit.negative),
+        explicit: held_count(grid.size.explicit),
+        positive_implicit: held_count(grid.implicit.positive),
     };
     AxisTracks {
         counts,
-        repetitions: state.repetitions,
-        gap: sizing::word::sizing_of(state.gap),
+        repetitions: grid.size.repetitions,
+        gap: sizing::word::sizing_of(grid.space.gap),
     }
 }
 
 // Record `index`.
-pub fn record_on(state: AxisState, words: &[u64], items: &[u8], index: u32) -> RecordAnswer
-    ensures { λ r. ⌜ r ≡ trackRecord state (now (words .entry)) (now (items .entry)) index ⌝ }
+pub fn record_on(grid: AxisGrid, words: &[u64], items: &[u8], index: u32) -> RecordAnswer
+    ensures { λ r. ⌜ r ≡ trackRecord grid (now (words .entry)) (now (items .entry)) index ⌝ }
 {
     track_record::rule::track_record(
-        components_of(state, words),
-        minimums_of(state, words),
-        maximums_of(state, words),
-        spare_minimums_of(state, words),
-        spare_maximums_of(state, words),
+        components_of(grid, words),
+        minimums_of(grid, words),
+        maximums_of(grid, words),
+        spare_minimums_of(grid, words),
+        spare_maximums_of(grid, words),
         items,
-        axis_tracks(state),
+        axis_tracks(grid),
         index,
     )
 }
 
 // What is worked out once for all records.
-pub fn plan_on(state: AxisState, words: &[u64], items: &[u8]) -> Plan
-    ensures { λ r. ⌜ r ≡ planOf (axisTracks state) (templateIn state (now (words .entry))) (itemAt (now (items .entry))) ⌝ }
+pub fn plan_on(grid: AxisGrid, words: &[u64], items: &[u8]) -> Plan
+    ensures { λ r. ⌜ r ≡ planOf (axisTracks grid) (templateIn grid (now (words .entry))) (itemAt (now (items .entry))) ⌝ }
 {
     track_record::plan::make_plan(
-        components_of(state, words),
-        minimums_of(state, words),
-        maximums_of(state, words),
+        components_of(grid, words),
+        minimums_of(grid, words),
+        maximums_of(grid, words),
         items,
-        axis_tracks(state),
+        axis_tracks(grid),
     )
 }
 
 // What is carried to record `index`.
-pub fn begin_on(state: AxisState, words: &[u64], items: &[u8], index: usize) -> TrackWalk
-    ensures { λ r. ⌜ r ≡ carriedTo state (now (words .entry)) (now (items .entry)) index ⌝ }
+pub fn begin_on(grid: AxisGrid, words: &[u64], items: &[u8], index: usize) -> TrackWalk
+    ensures { λ r. ⌜ r ≡ carriedTo grid (now (words .entry)) (now (items .entry)) index ⌝ }
 {
     track_run::state::begin_at(
-        components_of(state, words),
-        minimums_of(state, words),
-        maximums_of(state, words),
+        components_of(grid, words),
+        minimums_of(grid, words),
+        maximums_of(grid, words),
         items,
-        axis_tracks(state),
+        axis_tracks(grid),
         index,
     )
 }
 
 // What is carried to record 0.
-pub fn first_on(state: AxisState, words: &[u64], items: &[u8]) -> TrackWalk
-    ensures { λ r. ⌜ r ≡ carriedTo state (now (words .entry)) (now (items .entry)) 0 ⌝ }
+pub fn first_on(grid: AxisGrid, words: &[u64], items: &[u8]) -> TrackWalk
+    ensures { λ r. ⌜ r ≡ carriedTo grid (now (words .entry)) (now (items .entry)) 0 ⌝ }
 {
-    begin_on(state, words, items, 0)
+    begin_on(grid, words, items, 0)
 }
 
 // Record `index`, by what is carried to it.
 pub fn carried_on(
-    state: AxisState,
+    grid: AxisGrid,
     words: &[u64],
     items: &[u8],
     at: TrackWalk,
     index: usize,
 ) -> GridTrack
-    ensures { λ r. ⌜ r ≡ carriedRecord state (now (words .entry)) (now (items .entry)) at index ⌝ }
+    ensures { λ r. ⌜ r ≡ carriedRecord grid (now (words .entry)) (now (items .entry)) at index ⌝ }
 {
     track_run::state::record_at(
-        components_of(state, words),
-        minimums_of(state, words),
-        maximums_of(state, words),
-        spare_minimums_of(state, words),
-        spare_maximums_of(state, words),
+        components_of(grid, words),
+        minimums_of(grid, words),
+        maximums_of(grid, words),
+        spare_minimums_of(grid, words),
+        spare_maximums_of(grid, words),
         items,
         at,
         index,
@@ -117,8 +117,8 @@ pub fn carried_on(
 }
 
 // What is carried on from record `index`.
-pub fn next_on(state: AxisState, words: &[u64], at: TrackWalk, index: usize) -> TrackWalk
-    ensures { λ r. ⌜ r ≡ carriedOn state (now (words .entry)) at index ⌝ }
+pub fn next_on(grid: AxisGrid, words: &[u64], at: TrackWalk, index: usize) -> TrackWalk
+    ensures { λ r. ⌜ r ≡ carriedOn grid (now (words .entry)) at index ⌝ }
 {
-    track_run::state::advance(components_of(state, words), at, index)
+    track_run::state::advance(components_of(grid, words), at, index)
 }

@@ -1,26 +1,23 @@
 // The explicit size of an axis, and how many lists of line names it has.
 ghost use mathlib.Core.Path.{_≡_};
 ghost use Rattle.panel_rules.specs.Calls.{explicitSize, lineCountIn};
+use axis_tables::AxisSize;
 use coordinates::Axis;
-use panel_rules::AxisSize;
-use panel_tables::Panel;
-use panel_tables::axis::state_in;
+use panel_tables::Grid;
+use panel_tables::axis::grid_in;
 
 // The repetitions and the explicit count of an axis.
-pub fn explicit_size(panel: Panel, axis: Axis) -> AxisSize
-    ensures { λ r. ⌜ r ≡ explicitSize panel axis ⌝ }
+pub fn explicit_size(grid: Grid, axis: Axis) -> AxisSize
+    ensures { λ r. ⌜ r ≡ explicitSize grid axis ⌝ }
 {
-    let state = state_in(panel, axis);
-    AxisSize {
-        repetitions: state.repetitions,
-        explicit: state.explicit,
-    }
+    let own = grid_in(grid, axis);
+    own.size
 }
 
 // How many lists of line names an axis has.
-pub fn line_count(panel: Panel, axis: Axis) -> u64
-    ensures { λ r. ⌜ r ≡ lineCountIn panel axis ⌝ }
+pub fn line_count(grid: Grid, axis: Axis) -> u64
+    ensures { λ r. ⌜ r ≡ lineCountIn grid axis ⌝ }
 {
-    let state = state_in(panel, axis);
-    name_entries::line_names::line_count(state.entries, state.explicit)
+    let own = grid_in(grid, axis);
+    name_entries::line_names::line_count(own.entries, own.size.explicit)
 }

@@ -21,9 +21,10 @@ use Rattle.track_rules.specs.Lines.{Stands}
 use Rattle.track_rules.specs.Tracks.{zeroGridTrack}
 use Rattle.track_rules.specs.Records.{tracksIn, recordsIn, noTrack, recordAnswerOf}
 use Rattle.track_run.specs.Run.{fillAnswerOf, runAfter}
-use Rattle.axis_tables.specs.declared.AxisState.{AxisState}
+use Rattle.axis_tables.specs.declared.AxisGrid.{AxisGrid}
 use Rattle.axis_tables.specs.Runs.{bytesOf}
 use Rattle.axis_tables.specs.View.{componentsOf, axisBytes}
+use Rattle.panel_tables.specs.declared.Grid.{Grid}
 use Rattle.panel_tables.specs.declared.Panel.{Panel}
 use Rattle.panel_tables.specs.declared.PlacementPlace.{PlacementPlace}
 use Rattle.panel_tables.specs.View.{PanelView}
@@ -85,7 +86,7 @@ entry-answered p t a line name = go (enterRefusal p t a line name) refl
     go zero e = entryAccepted e (rw e)
     go (suc n) e = entryRefused n e (rw (ne-eqb (enterRefusal p t a line name) 0 (λ z. omega arith), e))
 
-placement-answered : (p : Panel) (t : NameTables) (areas placements : NamedWords) (i : ℕ) → PlacementAnswered p t areas placements i
+placement-answered : (p : Grid) (t : NameTables) (areas placements : NamedWords) (i : ℕ) → PlacementAnswered p t areas placements i
 unfolding resolvePlacement
 placement-answered p t areas placements i = go (ltb i (p .placements)) refl
   where
@@ -110,7 +111,7 @@ placement-answered p t areas placements i = go (ltb i (p .placements)) refl
     go false e = placementOutside (inl (ltb-false i (p .placements) e)) (rw e)
     go true e = by e (leb (x .explicit) 10000) refl (shortNames t) refl
 
-record-answered : (s : AxisState) (words items : List ℕ) (i : ℕ) → RecordAnswered s words items i
+record-answered : (s : AxisGrid) (words items : List ℕ) (i : ℕ) → RecordAnswered s words items i
 unfolding trackRecord recordAnswerOf
 record-answered s words items i = go (leb (recordsIn (axisTracks s)) i) refl (ltb (length items) (tracksIn (axisTracks s))) refl
   where
@@ -119,7 +120,7 @@ record-answered s words items i = go (leb (recordsIn (axisTracks s)) i) refl (lt
     go false e true f = recordShort (leb-false (recordsIn (axisTracks s)) i e) (ltb-true (length items) (tracksIn (axisTracks s)) f) (rw (e, f))
     go false e false f = recordAccepted (leb-false (recordsIn (axisTracks s)) i e) (ltb-false (length items) (tracksIn (axisTracks s)) f) (rw (e, f))
 
-run-answered : (s : AxisState) (words items : List ℕ) (run : List GridTrack) → RunAnswered s words items run
+run-answered : (s : AxisGrid) (words items : List ℕ) (run : List GridTrack) → RunAnswered s words items run
 unfolding fillAnswerOf runAfter
 run-answered s words items run = go (ltb (length run) (recordsIn (axisTracks s))) refl (ltb (length items) (tracksIn (axisTracks s))) refl
   where

@@ -21,11 +21,12 @@ use Rattle.track_rules.specs.Written.{writtenOut}
 use Rattle.track_rules.specs.Records.{tracksIn, recordsIn, noTrack}
 use Rattle.track_rules.specs.Lines.{Stands}
 use Rattle.track_run.specs.Run.{refusedFill, fillAnswerOf, runAfter}
-use Rattle.axis_tables.specs.declared.AxisState.{AxisState}
+use Rattle.axis_tables.specs.declared.AxisGrid.{AxisGrid}
 use Rattle.axis_tables.specs.View.{AxisView, sizesOf, componentsOf, axisBytes}
+use Rattle.panel_tables.specs.declared.Grid.{Grid}
 use Rattle.panel_tables.specs.declared.Panel.{Panel}
 use Rattle.panel_tables.specs.View.{PanelView}
-use Rattle.panel_tables.specs.Axes.{stateIn, viewIn}
+use Rattle.panel_tables.specs.Axes.{gridIn, viewIn}
 use Rattle.panel_tables.specs.Placements.{placementAt as placeAt}
 use Rattle.sheet_rules.specs.Sheet.{innerOf, strategyOf, sheetOf}
 use Rattle.sheet_rules.specs.Rows.{Row, numberOf, HoldsAt, FirstAt, Nowhere}
@@ -57,37 +58,37 @@ pub data EntryAnswered (p : Panel) (t : NameTables) (a : Axis) (line : ℕ) (nam
       → enterName p t a line name ≡ record { answer = record { refusal = refusalOf (suc n); panel = p }; tables = t } → EntryAnswered p t a line name
 
 -- resolving a placement: 4 where it isn't held, or where the explicit count of its axis is no panel's; then 10 where a store is short
-abbrev pub explicitFor : Panel → NamedWords → ℕ → ℕ
-explicitFor p placements i = stateIn p (placeAt (placements .words) i .axis) .explicit
+abbrev pub explicitFor : Grid → NamedWords → ℕ → ℕ
+explicitFor g placements i = gridIn g (placeAt (placements .words) i .axis) .size .explicit
 
-pub data PlacementAnswered (p : Panel) (t : NameTables) (areas placements : NamedWords) (i : ℕ) : Type 0 where
-  placementAccepted : i < p .placements → explicitFor p placements i ≤ 10000 → shortNames t ≡ false
-      → resolvePlacement p t areas placements i .refusal ≡ noRefusal → PlacementAnswered p t areas placements i
-  placementOutside : (p .placements ≤ i) ⊎ (10000 < explicitFor p placements i)
-      → resolvePlacement p t areas placements i ≡ refusedPlacement count → PlacementAnswered p t areas placements i
-  placementShort : i < p .placements → explicitFor p placements i ≤ 10000 → shortNames t ≡ true
-      → resolvePlacement p t areas placements i ≡ refusedPlacement short → PlacementAnswered p t areas placements i
+pub data PlacementAnswered (g : Grid) (t : NameTables) (areas placements : NamedWords) (i : ℕ) : Type 0 where
+  placementAccepted : i < g .placements → explicitFor g placements i ≤ 10000 → shortNames t ≡ false
+      → resolvePlacement g t areas placements i .refusal ≡ noRefusal → PlacementAnswered g t areas placements i
+  placementOutside : (g .placements ≤ i) ⊎ (10000 < explicitFor g placements i)
+      → resolvePlacement g t areas placements i ≡ refusedPlacement count → PlacementAnswered g t areas placements i
+  placementShort : i < g .placements → explicitFor g placements i ≤ 10000 → shortNames t ≡ true
+      → resolvePlacement g t areas placements i ≡ refusedPlacement short → PlacementAnswered g t areas placements i
 
 -- one record: 4 for an index of 2N + 1 or more, then 10 for fewer than N item bytes
-pub data RecordAnswered (s : AxisState) (words items : List ℕ) (i : ℕ) : Type 0 where
-  recordAccepted : i < recordsIn (axisTracks s) → tracksIn (axisTracks s) ≤ length items → trackRecord s words items i .refusal ≡ noRefusal → RecordAnswered s words items i
-  recordOutside : recordsIn (axisTracks s) ≤ i → trackRecord s words items i ≡ refusedRecord count → RecordAnswered s words items i
-  recordShort : i < recordsIn (axisTracks s) → length items < tracksIn (axisTracks s) → trackRecord s words items i ≡ refusedRecord short → RecordAnswered s words items i
+pub data RecordAnswered (g : AxisGrid) (words items : List ℕ) (i : ℕ) : Type 0 where
+  recordAccepted : i < recordsIn (axisTracks g) → tracksIn (axisTracks g) ≤ length items → trackRecord g words items i .refusal ≡ noRefusal → RecordAnswered g words items i
+  recordOutside : recordsIn (axisTracks g) ≤ i → trackRecord g words items i ≡ refusedRecord count → RecordAnswered g words items i
+  recordShort : i < recordsIn (axisTracks g) → length items < tracksIn (axisTracks g) → trackRecord g words items i ≡ refusedRecord short → RecordAnswered g words items i
 
 -- the lent run: 10 for fewer than 2N + 1 records or N item bytes, and then no record is written
-pub data RunAnswered (s : AxisState) (words items : List ℕ) (run : List GridTrack) : Type 0 where
-  runAccepted : recordsIn (axisTracks s) ≤ length run → tracksIn (axisTracks s) ≤ length items
-      → fillAnswerOf (axisTracks s) (length run) (length items) ≡ record { refusal = noRefusal; count = recordsIn (axisTracks s) } → RunAnswered s words items run
-  runShort : (length run < recordsIn (axisTracks s)) ⊎ (length items < tracksIn (axisTracks s))
-      → fillAnswerOf (axisTracks s) (length run) (length items) ≡ refusedFill
-      → runAfter (axisTracks s) (templateIn s words) (sparesIn s words) items run ≡ run → RunAnswered s words items run
+pub data RunAnswered (g : AxisGrid) (words items : List ℕ) (run : List GridTrack) : Type 0 where
+  runAccepted : recordsIn (axisTracks g) ≤ length run → tracksIn (axisTracks g) ≤ length items
+      → fillAnswerOf (axisTracks g) (length run) (length items) ≡ record { refusal = noRefusal; count = recordsIn (axisTracks g) } → RunAnswered g words items run
+  runShort : (length run < recordsIn (axisTracks g)) ⊎ (length items < tracksIn (axisTracks g))
+      → fillAnswerOf (axisTracks g) (length run) (length items) ≡ refusedFill
+      → runAfter (axisTracks g) (templateIn g words) (sparesIn g words) items run ≡ run → RunAnswered g words items run
 
 pub record FirstDemand : Type 0 where
   pub sheets : (s : List ℕ) (t : Tables) → SheetAnswered s t
   pub entries : (p : Panel) (t : NameTables) (a : Axis) (line : ℕ) (name : Bytes) → EntryAnswered p t a line name
-  pub placements : (p : Panel) (t : NameTables) (areas placements : NamedWords) (i : ℕ) → PlacementAnswered p t areas placements i
-  pub records : (s : AxisState) (words items : List ℕ) (i : ℕ) → RecordAnswered s words items i
-  pub runs : (s : AxisState) (words items : List ℕ) (run : List GridTrack) → RunAnswered s words items run
+  pub placements : (g : Grid) (t : NameTables) (areas placements : NamedWords) (i : ℕ) → PlacementAnswered g t areas placements i
+  pub records : (g : AxisGrid) (words items : List ℕ) (i : ℕ) → RecordAnswered g words items i
+  pub runs : (g : AxisGrid) (words items : List ℕ) (run : List GridTrack) → RunAnswered g words items run
 
 -- ==== demand 2: the answers after an accepted sheet and any entry calls are those of the definitions that the Rust is compared with, on the
 -- sheet's view and the entries that the table accepts; repeats and placements are CSS's
@@ -102,7 +103,7 @@ pub record SecondDemand (s : List ℕ) (t : Tables) (calls : List Call) : Type 0
       → Repetitions (innerOf (sheetAxis s a .line)) (strategyOf (sheetAxis s a .line)) (sizingOf (sheetAxis s a .line .gap)) (componentsOf (sheetAxis s a .template))
       (sizeOf (runOf s t calls) a .repetitions)
   -- layer 4
-  pub entries : (a : Axis) → bookIn (runOf s t calls .panel) (namesOf (runOf s t calls .tables)) a ≡ entriesAfter (sheetAxis s a) (added s a calls)
+  pub entries : (a : Axis) → bookIn (runOf s t calls .panel .grid) (namesOf (runOf s t calls .tables)) a ≡ entriesAfter (sheetAxis s a) (added s a calls)
   -- one more entry is refused by the table alone, with the entries and bytes that its axis has then
   pub refusals : (c : Call) → refusalIn (runOf s t calls) c ≡ refusalOf (refusalAfter (sheetAxis s (c .axis)) (added s (c .axis) calls) c)
   pub placements : (i : ℕ) → placementOf (runOf s t calls) i ≡ placementAfter (sheetOf s .view) (λ a. added s a calls) i
@@ -132,7 +133,7 @@ pub record SecondDemand (s : List ℕ) (t : Tables) (calls : List Call) : Type 0
 -- an axis whose own template is valid, writes each repeat out and at most 10,000 tracks: the entries held are the book's, an entry is refused
 -- exactly as the book refuses it, and "the track after each template line but the last is the one written there, or collapsed as CSS has it"
 pub record TemplateTheorem (n : ℕ) (s : List ℕ) (t : Tables) (calls : List Call) (a : Axis) : Type 0 where
-  pub entries : bookIn (runOf s t calls .panel) (namesOf (runOf s t calls .tables)) a ≡ book n (sheetOf s .view) a calls
+  pub entries : bookIn (runOf s t calls .panel .grid) (namesOf (runOf s t calls .tables)) a ≡ book n (sheetOf s .view) a calls
   pub refusals : (line : ℕ) (name : Bytes) → refusalIn (runOf s t calls) (record { axis = a; line = line; name = name })
       ≡ refusalOf (tableRefusal (length (book n (sheetOf s .view) a calls)) (bookBytes n (sheetOf s .view) a calls) line name)
   -- record 2(m + j) - 1, m the negative tracks, is track j as written out, or collapsed exactly where `fit` wrote it and it holds no item

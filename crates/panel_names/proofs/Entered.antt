@@ -44,19 +44,19 @@ other-words words Column i v h = set-before words (firstWord Row) 12480 v (first
 other-words words Row i v h = set-after words (firstWord Column) 12480 v (firstWord Row + i) (omega arith)
 
 -- the view of the words after an entry is the view before it with the entry
-pub words-entered : (words columnStore rowStore : List ℕ) (a : Axis) (s : AxisState) (line : ℕ) (name : List ℕ) → s .entries < 4096 →
-    nameTablesIn (set words (firstWord a + (8384 + s .entries)) (wordOf line (s .used) (length name)))
-    (ofAxis a (sets columnStore (s .used) name) columnStore)
-    (ofAxis a rowStore (sets rowStore (s .used) name))
+pub words-entered : (words columnStore rowStore : List ℕ) (a : Axis) (s : AxisState) (line : ℕ) (name : List ℕ) → s .grid .entries < 4096 →
+    nameTablesIn (set words (firstWord a + (8384 + s .grid .entries)) (wordOf line (s .room .used) (length name)))
+    (ofAxis a (sets columnStore (s .room .used) name) columnStore)
+    (ofAxis a rowStore (sets rowStore (s .room .used) name))
     ≡ enteredIn (nameTablesIn words columnStore rowStore) a s line name
 words-entered words columnStore rowStore Column s line name h =
-    let v = wordOf line (s .used) (length name) in
-    ap₂ (withWords (sets columnStore (s .used) name) rowStore)
-    (own-word words Column (8384 + s .entries) v (omega arith)) (other-words words Column (8384 + s .entries) v (omega arith))
+    let v = wordOf line (s .room .used) (length name) in
+    ap₂ (withWords (sets columnStore (s .room .used) name) rowStore)
+    (own-word words Column (8384 + s .grid .entries) v (omega arith)) (other-words words Column (8384 + s .grid .entries) v (omega arith))
 words-entered words columnStore rowStore Row s line name h =
-    let v = wordOf line (s .used) (length name) in
-    ap₂ (withWords columnStore (sets rowStore (s .used) name))
-    (other-words words Row (8384 + s .entries) v (omega arith)) (own-word words Row (8384 + s .entries) v (omega arith))
+    let v = wordOf line (s .room .used) (length name) in
+    ap₂ (withWords columnStore (sets rowStore (s .room .used) name))
+    (other-words words Row (8384 + s .grid .entries) v (omega arith)) (own-word words Row (8384 + s .grid .entries) v (omega arith))
 
 -- and the words of areas and placements are as they were
 others-stay : (words : List ℕ) (a : Axis) (i v : ℕ) → i < 12480 →
@@ -74,11 +74,11 @@ module _ (p : Panel) (t : NameTables) (line : ℕ) (name : List ℕ) where
   module _ (a : Axis) where
     -- the number that the call computes
     pub refusal-is : (s : AxisState) (shorter number : ℕ) → s ≡ stateIn p a → shorter ≡ shorterStore t →
-        number ≡ entryRefusal 4096 shorter (s .entries) (s .used) line name → number ≡ enterRefusal p t a line name
+        number ≡ entryRefusal 4096 shorter (s .grid .entries) (s .room .used) line name → number ≡ enterRefusal p t a line name
     unfolding enterRefusal
     refusal-is s shorter number e f g =
-        g ∙ ap (λ (x : AxisState). entryRefusal 4096 shorter (x .entries) (x .used) line name) e
-        ∙ ap (λ (n : ℕ). entryRefusal 4096 n (stateIn p a .entries) (stateIn p a .used) line name) f
+        g ∙ ap (λ (x : AxisState). entryRefusal 4096 shorter (x .grid .entries) (x .room .used) line name) e
+        ∙ ap (λ (n : ℕ). entryRefusal 4096 n (stateIn p a .grid .entries) (stateIn p a .room .used) line name) f
 
     -- a refused call leaves everything as it came
     pub refused : (number : ℕ) (x : Refusal) → (number ≡ 0 → ⊥) → number ≡ enterRefusal p t a line name → x ≡ refusalOf number →
@@ -94,25 +94,25 @@ module _ (p : Panel) (t : NameTables) (line : ℕ) (name : List ℕ) where
     -- and has room for it
     pub roomy : enterRefusal p t a line name ≡ 0 → Roomy (stateIn p a) (length (storeIn t a)) name
     unfolding enterRefusal
-    roomy e = within (accepted 4096 (shorterStore t) (stateIn p a .entries) (stateIn p a .used) line name e)
+    roomy e = within (accepted 4096 (shorterStore t) (stateIn p a .grid .entries) (stateIn p a .room .used) line name e)
       where
         longer : (b : Axis) → shorterStore t ≤ length (storeIn t b)
         longer Column = omega arith
         longer Row = omega arith
 
-        within : Accepted 4096 (shorterStore t) (stateIn p a .entries) (stateIn p a .used) line name → Roomy (stateIn p a) (length (storeIn t a)) name
+        within : Accepted 4096 (shorterStore t) (stateIn p a .grid .entries) (stateIn p a .room .used) line name → Roomy (stateIn p a) (length (storeIn t a)) name
         within k = record { short = k .short; few = k .few; fits = k .fits; wide = let h = longer a in omega (arith, h, k .wide) }
 
 -- an entry written to one axis
 module _ (words columnStore rowStore : List ℕ) (line : ℕ) (name : List ℕ) (e : EnteredAxis) where
   -- is an entry of the panel
-  pub entered : (p : Panel) (a : Axis) (x : Refusal) → stateIn p a .entries < 4096 → x ≡ noRefusal → e ≡ enteredOn (stateIn p a) a words (ofAxis a columnStore rowStore) line name →
+  pub entered : (p : Panel) (a : Axis) (x : Refusal) → stateIn p a .grid .entries < 4096 → x ≡ noRefusal → e ≡ enteredOn (stateIn p a) a words (ofAxis a columnStore rowStore) line name →
       record { answer = record { refusal = x; panel = withState p a (e .state) }; tables = nameTablesIn (e .words) (ofAxis a (e .store) columnStore) (ofAxis a rowStore (e .store)) }
       ≡ enteredName p (nameTablesIn words columnStore rowStore) a line name
-  entered p Column x h f g = rw (f, g, words-entered words columnStore rowStore Column (p .columns) line name h)
-  entered p Row x h f g = rw (f, g, words-entered words columnStore rowStore Row (p .rows) line name h)
+  entered p Column x h f g = rw (f, g, words-entered words columnStore rowStore Column (stateIn p Column) line name h)
+  entered p Row x h f g = rw (f, g, words-entered words columnStore rowStore Row (stateIn p Row) line name h)
 
   -- and leaves the words of areas and placements as they were
-  pub others-entered : (s : AxisState) (a : Axis) (store : List ℕ) → s .entries < 4096 → e ≡ enteredOn s a words store line name →
+  pub others-entered : (s : AxisState) (a : Axis) (store : List ℕ) → s .grid .entries < 4096 → e ≡ enteredOn s a words store line name →
       (areaWordsIn (e .words) ≡ areaWordsIn words) × (placementWordsIn (e .words) ≡ placementWordsIn words)
-  others-entered s a store h g = rw g (others-stay words a (8384 + s .entries) (wordOf line (s .used) (length name)) (omega arith))
+  others-entered s a store h g = rw g (others-stay words a (8384 + s .grid .entries) (wordOf line (s .room .used) (length name)) (omega arith))

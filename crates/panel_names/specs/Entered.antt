@@ -15,8 +15,8 @@ use Rattle.panel_rules.specs.Calls.{NameTables, EnteredName, withEntry, entered
 -- there is room for the entry and for the bytes of its name, in a store of that length
 pub record Roomy (s : AxisState) (store : ℕ) (name : List ℕ) : Type 0 where
   pub short : length name ≤ 32
-  pub few : s .entries < 4096
-  pub fits : s .used + length name ≤ 32768
+  pub few : s .grid .entries < 4096
+  pub fits : s .room .used + length name ≤ 32768
   pub wide : 32768 ≤ store
 
 -- an axis's state, the words of the panel and the axis's store
@@ -30,8 +30,8 @@ abbrev pub enteredOn : AxisState → Axis → List ℕ → List ℕ → ℕ → 
 enteredOn s a words store line name =
     record {
       state = withEntry s (length name);
-      words = set words (firstWord a + (8384 + s .entries)) (wordOf line (s .used) (length name));
-      store = sets store (s .used) name;
+      words = set words (firstWord a + (8384 + s .grid .entries)) (wordOf line (s .room .used) (length name));
+      store = sets store (s .room .used) name;
     }
 
 -- the answer of an entry that nothing refuses

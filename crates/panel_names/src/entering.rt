@@ -17,6 +17,7 @@ use name_entries::enter::entry_refusal;
 use panel_rules::EntryAnswer;
 use panel_tables::Panel;
 use panel_tables::axis::state_in;
+use panel_tables::axis::with_state;
 use panel_tables::region::PANEL_WORDS;
 use panel_tables::region::first_word;
 
@@ -33,16 +34,18 @@ fn enter_on(
     ensures { λ r. ⌜ record { state = r; words = now (words .exit); store = now (store .exit) } ≡ enteredOn state axis (now (words .entry)) (now (store .entry)) line (now (name .entry)) ⌝ }
 {
     let length = name.len();
-    let entries = state.entries;
-    let used = state.used;
+    let entries = state.grid.entries;
+    let used = state.room.used;
     let first = first_word(axis);
     words[first + (ENTRIES + entries as usize)] = line as u64
         + used as u64 * 0x1_0000
         + length as u64 * 0x1_0000_0000;
     put_bytes(store, used as usize, name);
+    let next = entries + 1;
+    let end = used + length as u32;
     let mut after = state;
-    after.entries = entries + 1;
-    after.used = used + length as u32;
+    after.grid.entries = next;
+    after.room.used = end;
     after
 }
 
@@ -60,22 +63,18 @@ fn enter_in(
     ensures { λ r. ⌜ record { answer = r; tables = nameTablesIn (now (words .exit)) (now (columnstore .exit)) (now (rowstore .exit)) } ≡ enteredName panel (nameTablesIn (now (words .entry)) (now (columnstore .entry)) (now (rowstore .entry))) axis line (now (name .entry)) ⌝ }
     ensures others { λ _. ⌜ (areaWordsIn (now (words .exit)) ≡ areaWordsIn (now (words .entry))) × (placementWordsIn (now (words .exit)) ≡ placementWordsIn (now (words .entry))) ⌝ }
 {
-    let mut after = panel;
     let refusal = no_refusal();
+    let state = state_in(panel, axis);
     match axis {
         Axis::Column => {
-            after.columns = enter_on(panel.columns, words, Axis::Column, columnstore, line, name);
-            EntryAnswer {
-                refusal,
-                panel: after,
-            }
+            let own = enter_on(state, words, Axis::Column, columnstore, line, name);
+            let panel = with_state(panel, Axis::Column, own);
+            EntryAnswer { refusal, panel }
         }
         Axis::Row => {
-            after.rows = enter_on(panel.rows, words, Axis::Row, rowstore, line, name);
-            EntryAnswer {
-                refusal,
-                panel: after,
-            }
+            let own = enter_on(state, words, Axis::Row, rowstore, line, name);
+            let panel = with_state(panel, Axis::Row, own);
+            EntryAnswer { refusal, panel }
         }
     }
 }
@@ -96,7 +95,14 @@ pub fn enter_name(
 {
     let state = state_in(panel, axis);
     let shorter = smaller(columnstore.len(), rowstore.len());
-    let number = entry_refusal(4096, shorter, state.entries, state.used, line, name);
+    let number = entry_refusal(
+        4096,
+        shorter,
+        state.grid.entries,
+        state.room.used,
+        line,
+        name,
+    );
     if number != 0 {
         return EntryAnswer {
             refusal: refusal_of(number),

@@ -2,7 +2,7 @@
 ghost use mathlib.Core.Path.{_≡_};
 ghost use Prim.Native.Nat.{min};
 ghost use Rattle.axis_tables.specs.Runs.{partOf};
-use axis_tables::AxisState;
+use axis_tables::AxisGrid;
 use axis_tables::layout::ENTRIES;
 use axis_tables::layout::words_part;
 
@@ -17,8 +17,8 @@ pub fn smaller(a: usize, b: usize) -> usize
 }
 
 // The name entries.
-pub fn entries_of(state: AxisState, words: &[u64]) -> &[u64]
-    ensures { λ r. ⌜ now r ≡ partOf (now (words .entry)) 8384 (state .entries) ⌝ }
+pub fn entries_of(grid: AxisGrid, words: &[u64]) -> &[u64]
+    ensures { λ r. ⌜ now r ≡ partOf (now (words .entry)) 8384 (grid .entries) ⌝ }
 {
-    words_part(words, ENTRIES, state.entries)
+    words_part(words, ENTRIES, grid.entries)
 }

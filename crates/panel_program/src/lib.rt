@@ -24,13 +24,13 @@ fn print_answer(sheet: &[u8]) {
         &mut columnstore,
         &mut rowstore,
     );
-    let panel = begun.panel;
+    let grid = begun.grid;
     let mut next = begun.first;
     let mut out = io::large_buffer();
     while !is_end(next) {
         let filled = fill(
             &mut out,
-            panel,
+            grid,
             &words,
             &bytes,
             &columnstore,

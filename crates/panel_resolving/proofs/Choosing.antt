@@ -15,7 +15,7 @@ use Rattle.name_lines.proofs.Suffixes.{never}
 use Rattle.name_lines.specs.Areas.{axisNames}
 use Rattle.name_resolver.specs.Placements.{resolutionOf}
 use Rattle.axis_tables.specs.Runs.{partOf}
-use Rattle.panel_tables.specs.declared.Panel.{Panel}
+use Rattle.panel_tables.specs.declared.Grid.{Grid}
 use Rattle.panel_tables.specs.declared.PlacementPlace.{PlacementPlace}
 use Rattle.panel_tables.specs.Placements.{axisNumber, placementAt}
 use Rattle.panel_rules.specs.Calls.{NameTables, NamedWords, entryWordsIn, namesIn, shorterStore, shortNames}
@@ -132,7 +132,7 @@ alike chosen f g (suc n) xs p first h =
 
 -- ---- the placements of a panel
 
-module _ (p : Panel) (t : NameTables) (areas placements : NamedWords) where
+module _ (p : Grid) (t : NameTables) (areas placements : NamedWords) where
   abbrev answers : ℕ → PlacementNumbers
   answers i = placementNumbers (resolvePlacement p t areas placements i)
 
@@ -183,8 +183,8 @@ module _ (p : Panel) (t : NameTables) (areas placements : NamedWords) where
 
     -- what the two runs leave, one after the other
     pub axes-written : (columns rows : Run) (columnWords rowWords : List ℕ) (middle after : List ℤ)
-        → columns ≡ runOf Column (p .columns .explicit) (p .areas) first count → columnWords ≡ entryWordsIn (p .columns) (t .columns)
-        → rows ≡ runOf Row (p .rows .explicit) (p .areas) first count → rowWords ≡ entryWordsIn (p .rows) (t .rows)
+        → columns ≡ runOf Column (p .columns .size .explicit) (p .areas) first count → columnWords ≡ entryWordsIn (p .columns) (t .columns)
+        → rows ≡ runOf Row (p .rows .size .explicit) (p .areas) first count → rowWords ≡ entryWordsIn (p .rows) (t .rows)
         → middle ≡ chosenSets (onAxis (columns .around .axis) (placements .words))
         (numbersBy (resolutionOf (axisNames (columns .around .explicit) (columns .around .axis) columnWords (t .columnStore) (partOf (areas .words) 0 (columns .around .areas)) (partOf (areas .words) 64 (columns .around .areas)) (areas .bytes)) (placements .bytes)) (placements .words))
         0 (columns .first) (columns .count) lent

@@ -18,8 +18,8 @@ use Rattle.name_resolver.specs.Placements.{resolvedLine, refusedResolution, res
 use Rattle.name_resolver.specs.Questions.{answeredLine}
 use Rattle.name_resolver.proofs.Questions.{line-answer}
 use Rattle.axis_tables.specs.Runs.{partOf}
-use Rattle.panel_tables.specs.declared.Panel.{Panel}
-use Rattle.panel_tables.specs.Axes.{stateIn}
+use Rattle.panel_tables.specs.declared.Grid.{Grid}
+use Rattle.panel_tables.specs.Axes.{gridIn}
 use Rattle.panel_rules.specs.Calls.{NameTables, NamedWords, wordsIn, storeIn, entryWordsIn, namesIn}
 use Rattle.panel_resolving.specs.declared.Around.{Around}
 use Rattle.panel_resolving.specs.Whole.{wholeAround}
@@ -67,8 +67,8 @@ module _ (axis : Axis) (explicit held : ℕ) (x : Around) (e : x ≡ wholeAround
       ∙ ap (λ (ws : List ℕ). resolutionOf (axisNames explicit axis ws store (partOf areas 0 held) (partOf areas 64 held) areabytes) bytes l) f
 
 -- the names of an axis that is known
-pub axis-resolution : (p : Panel) (t : NameTables) (areas : NamedWords) (axis known : Axis) → axis ≡ known → (bytes : List ℕ) (l : Line) (r : Resolution)
-    → r ≡ resolutionOf (axisNames (stateIn p known .explicit) axis (entryWordsIn (stateIn p known) (wordsIn t known)) (storeIn t known)
+pub axis-resolution : (p : Grid) (t : NameTables) (areas : NamedWords) (axis known : Axis) → axis ≡ known → (bytes : List ℕ) (l : Line) (r : Resolution)
+    → r ≡ resolutionOf (axisNames (gridIn p known .size .explicit) axis (entryWordsIn (gridIn p known) (wordsIn t known)) (storeIn t known)
     (partOf (areas .words) 0 (p .areas)) (partOf (areas .words) 64 (p .areas)) (areas .bytes)) bytes l
     → r ≡ resolutionOf (namesIn p t areas axis) bytes l
 axis-resolution p t areas axis known e bytes l r h = h ∙ rw e

@@ -22,7 +22,7 @@ use Rattle.name_resolver.specs.declared.Resolution.{Resolution}
 use Rattle.name_resolver.specs.Placements.{resolvedKindOf, refusedResolution}
 use Rattle.name_resolver.specs.Questions.{answeredLine}
 use Rattle.coordinates.specs.Refusals.{noRefusal}
-use Rattle.panel_tables.specs.declared.Panel.{Panel}
+use Rattle.panel_tables.specs.declared.Grid.{Grid}
 use Rattle.panel_tables.specs.Placements.{axisNumber}
 use Rattle.panel_rules.specs.declared.PlacementAnswer.{PlacementAnswer}
 use Rattle.panel_rules.specs.Calls.{NameTables, NamedWords, shorterStore}
@@ -112,7 +112,7 @@ pub all-written : (held first : ℕ) → held ≤ 256 → numbersCount held firs
 unfolding numbersCount
 all-written held first h = omega arith
 
-module _ (p : Panel) (t : NameTables) (areas placements : NamedWords) (first : ℕ) (lent : List ℤ) where
+module _ (p : Grid) (t : NameTables) (areas placements : NamedWords) (first : ℕ) (lent : List ℤ) where
   pub run-refused : (number : ℕ) (answer : CountAnswer) → number ≡ numbersRefusal (p .placements) (shorterStore t) first → (number ≡ 0 → ⊥) →
       answer ≡ uncounted number → record { answer = answer; numbers = lent } ≡ placementsWritten p t areas placements first lent
   unfolding placementsWritten

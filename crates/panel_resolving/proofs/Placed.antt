@@ -6,14 +6,14 @@ use borrow.Author.Tests.{lt-ltb}
 use Rattle.name_resolver.specs.declared.Line.{Line}
 use Rattle.name_resolver.specs.declared.Resolution.{Resolution}
 use Rattle.name_resolver.specs.Placements.{resolutionOf}
-use Rattle.panel_tables.specs.declared.Panel.{Panel}
+use Rattle.panel_tables.specs.declared.Grid.{Grid}
 use Rattle.panel_tables.specs.declared.PlacementPlace.{PlacementPlace}
 use Rattle.panel_tables.specs.Placements.{placementAt}
 use Rattle.panel_rules.specs.declared.PlacementAnswer.{PlacementAnswer}
 use Rattle.panel_rules.specs.Calls.{NameTables, NamedWords, namesIn, shortNames}
 use Rattle.panel_rules.specs.Placing.{linePlacement, placedBy, resolvePlacement}
 
-module _ (p : Panel) (t : NameTables) (areas placements : NamedWords) (index : ℕ) where
+module _ (p : Grid) (t : NameTables) (areas placements : NamedWords) (index : ℕ) where
   -- the placement read, its ends, the resolver's answer and the stores' lengths make the answer
   pub placed : index < p .placements → (place : PlacementPlace) (line : Line) (r : Resolution) (isShort : Bool) (answer : PlacementAnswer) →
       place ≡ placementAt (placements .words) index → line ≡ linePlacement place → r ≡ resolutionOf (namesIn p t areas (place .axis)) (placements .bytes) line →

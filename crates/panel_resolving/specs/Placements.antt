@@ -6,7 +6,7 @@ use lib.Dec.{eqb, leb, ltb}
 use lib.IntN.{ℤ, pos}
 use lib.Seq.{sets}
 use Rattle.coordinates.specs.Refusals.{count, short}
-use Rattle.panel_tables.specs.declared.Panel.{Panel}
+use Rattle.panel_tables.specs.declared.Grid.{Grid}
 use Rattle.panel_rules.specs.Calls.{NameTables, NamedWords, shorterStore}
 use Rattle.panel_rules.specs.Placing.{resolvePlacement}
 use Rattle.library_numbers.specs.declared.CountAnswer.{CountAnswer}
@@ -29,10 +29,10 @@ pub record SmallNumbers (n : PlacementNumbers) : Type 0 where
 -- ---- a run
 
 -- so many placements from one on
-unfoldable pub runNumbers : Panel → NameTables → NamedWords → NamedWords → ℕ → ℕ → List ℤ
-runNumbers p t areas placements first zero = []
-runNumbers p t areas placements first (suc n) =
-    numbersOf (placementNumbers (resolvePlacement p t areas placements first)) ++ runNumbers p t areas placements (first + 1) n
+unfoldable pub runNumbers : Grid → NameTables → NamedWords → NamedWords → ℕ → ℕ → List ℤ
+runNumbers g t areas placements first zero = []
+runNumbers g t areas placements first (suc n) =
+    numbersOf (placementNumbers (resolvePlacement g t areas placements first)) ++ runNumbers g t areas placements (first + 1) n
 
 -- 4 for a first placement that isn't held; then 10 for a store below 32,768 bytes
 unfoldable pub numbersRefusal : ℕ → ℕ → ℕ → ℕ
@@ -47,11 +47,11 @@ pub record WrittenNumbers : Type 0 where
   pub answer : CountAnswer
   pub numbers : List ℤ
 
-unfoldable pub placementsWritten : Panel → NameTables → NamedWords → NamedWords → ℕ → List ℤ → WrittenNumbers
-placementsWritten p t areas placements first lent =
-    cond (eqb (numbersRefusal (p .placements) (shorterStore t) first) 0)
+unfoldable pub placementsWritten : Grid → NameTables → NamedWords → NamedWords → ℕ → List ℤ → WrittenNumbers
+placementsWritten g t areas placements first lent =
+    cond (eqb (numbersRefusal (g .placements) (shorterStore t) first) 0)
     (record {
-      answer = counted (numbersCount (p .placements) first);
-      numbers = sets lent 0 (runNumbers p t areas placements first (numbersCount (p .placements) first));
+      answer = counted (numbersCount (g .placements) first);
+      numbers = sets lent 0 (runNumbers g t areas placements first (numbersCount (g .placements) first));
     })
-    (record { answer = uncounted (numbersRefusal (p .placements) (shorterStore t) first); numbers = lent })
+    (record { answer = uncounted (numbersRefusal (g .placements) (shorterStore t) first); numbers = lent })

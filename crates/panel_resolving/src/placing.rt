@@ -24,7 +24,7 @@ use name_resolver::Resolution;
 use panel_names::store::entries_of;
 use panel_names::store::smaller;
 use panel_rules::PlacementAnswer;
-use panel_tables::Panel;
+use panel_tables::Grid;
 use panel_tables::placement::placement_at;
 use panel_tables::region::PANEL_BYTES;
 use panel_tables::region::PANEL_WORDS;
@@ -99,7 +99,7 @@ fn resolve_one(
 
 // A placement beside the names of its axis.
 fn resolve_in(
-    panel: Panel,
+    grid: Grid,
     words: &[u64; PANEL_WORDS],
     bytes: &[u8; PANEL_BYTES],
     columnstore: &[u8],
@@ -107,22 +107,22 @@ fn resolve_in(
     index: u32,
 ) -> Resolution
     requires { ⌜ index < 4294967295 ⌝ }
-    ensures { λ r. ⌜ r ≡ resolutionOf (namesIn panel (nameTablesIn (now (words .entry)) (now (columnstore .entry)) (now (rowstore .entry))) (areaTableIn (now (words .entry)) (now (bytes .entry))) (placementAt (placementWordsIn (now (words .entry))) index .axis)) (placementBytesIn (now (bytes .entry))) (linePlacement (placementAt (placementWordsIn (now (words .entry))) index)) ⌝ }
+    ensures { λ r. ⌜ r ≡ resolutionOf (namesIn grid (nameTablesIn (now (words .entry)) (now (columnstore .entry)) (now (rowstore .entry))) (areaTableIn (now (words .entry)) (now (bytes .entry))) (placementAt (placementWordsIn (now (words .entry))) index .axis)) (placementBytesIn (now (bytes .entry))) (linePlacement (placementAt (placementWordsIn (now (words .entry))) index)) ⌝ }
 {
-    let held = panel.areas;
+    let held = grid.areas;
     let place = placement_at(placement_words(words), index);
     let axis = place.axis;
     match axis {
         Axis::Column => {
-            let state = panel.columns;
-            let around = whole_around(axis, state.explicit, held);
-            let entries = entries_of(state, axis_words(words, Axis::Column));
+            let own = grid.columns;
+            let around = whole_around(axis, own.size.explicit, held);
+            let entries = entries_of(own, axis_words(words, Axis::Column));
             resolve_one(around, entries, columnstore, words, bytes, index)
         }
         Axis::Row => {
-            let state = panel.rows;
-            let around = whole_around(axis, state.explicit, held);
-            let entries = entries_of(state, axis_words(words, Axis::Row));
+            let own = grid.rows;
+            let around = whole_around(axis, own.size.explicit, held);
+            let entries = entries_of(own, axis_words(words, Axis::Row));
             resolve_one(around, entries, rowstore, words, bytes, index)
         }
     }
@@ -130,21 +130,21 @@ fn resolve_in(
 
 // Placement `index` of a panel with its names resolved. 4: no such placement; 10: a store below 32,768 bytes.
 pub fn resolve_placement(
-    panel: Panel,
+    grid: Grid,
     words: &[u64; PANEL_WORDS],
     bytes: &[u8; PANEL_BYTES],
     columnstore: &[u8],
     rowstore: &[u8],
     index: u32,
 ) -> PlacementAnswer
-    ensures { λ r. ⌜ r ≡ resolvePlacement panel (nameTablesIn (now (words .entry)) (now (columnstore .entry)) (now (rowstore .entry))) (areaTableIn (now (words .entry)) (now (bytes .entry))) (placementTableIn (now (words .entry)) (now (bytes .entry))) index ⌝ }
+    ensures { λ r. ⌜ r ≡ resolvePlacement grid (nameTablesIn (now (words .entry)) (now (columnstore .entry)) (now (rowstore .entry))) (areaTableIn (now (words .entry)) (now (bytes .entry))) (placementTableIn (now (words .entry)) (now (bytes .entry))) index ⌝ }
 {
-    if panel.placements <= index {
+    if grid.placements <= index {
         return refused_placement(refusal::COUNT);
     }
     let place = placement_at(placement_words(words), index);
     let axis = place.axis;
-    let resolved = resolve_in(panel, words, bytes, columnstore, rowstore, index);
+    let resolved = resolve_in(grid, words, bytes, columnstore, rowstore, index);
     let shorter = smaller(columnstore.len(), rowstore.len());
     placed_by(resolved, axis, shorter < AXIS_BYTES)
 }

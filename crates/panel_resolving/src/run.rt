@@ -18,7 +18,7 @@ use library_numbers::numbers::counted;
 use library_numbers::numbers::uncounted;
 use panel_names::store::entries_of;
 use panel_names::store::smaller;
-use panel_tables::Panel;
+use panel_tables::Grid;
 use panel_tables::region::PANEL_BYTES;
 use panel_tables::region::PANEL_WORDS;
 use panel_tables::region::axis_words;
@@ -68,7 +68,7 @@ fn run_of(axis: Axis, explicit: u32, areas: u32, first: u32, count: u32) -> Run
 
 // Writes so many placements from one on, those of the columns, then those of the rows.
 fn write_numbers(
-    panel: Panel,
+    grid: Grid,
     words: &[u64; PANEL_WORDS],
     bytes: &[u8; PANEL_BYTES],
     columnstore: &[u8],
@@ -77,24 +77,24 @@ fn write_numbers(
     count: u32,
     numbers: &mut [i32],
 )
-    requires { ⌜ (first + count ≤ panel .placements) × (first + count ≤ 4294967295) × (6 * count ≤ length (now numbers)) ⌝ }
+    requires { ⌜ (first + count ≤ grid .placements) × (first + count ≤ 4294967295) × (6 * count ≤ length (now numbers)) ⌝ }
     requires { ⌜ 32768 ≤ shorterStore (nameTablesIn (now words) (now columnstore) (now rowstore)) ⌝ }
-    ensures { λ _. ⌜ now (numbers .exit) ≡ sets (now (numbers .entry)) 0 (runNumbers panel (nameTablesIn (now (words .entry)) (now (columnstore .entry)) (now (rowstore .entry))) (areaTableIn (now (words .entry)) (now (bytes .entry))) (placementTableIn (now (words .entry)) (now (bytes .entry))) first count) ⌝ }
+    ensures { λ _. ⌜ now (numbers .exit) ≡ sets (now (numbers .entry)) 0 (runNumbers grid (nameTablesIn (now (words .entry)) (now (columnstore .entry)) (now (rowstore .entry))) (areaTableIn (now (words .entry)) (now (bytes .entry))) (placementTableIn (now (words .entry)) (now (bytes .entry))) first count) ⌝ }
 {
-    let held = panel.areas;
-    let columnstate = panel.columns;
-    let rowstate = panel.rows;
-    let ofcolumns = run_of(Axis::Column, columnstate.explicit, held, first, count);
-    let ofrows = run_of(Axis::Row, rowstate.explicit, held, first, count);
-    let columnentries = entries_of(columnstate, axis_words(words, Axis::Column));
-    let rowentries = entries_of(rowstate, axis_words(words, Axis::Row));
+    let held = grid.areas;
+    let columns = grid.columns;
+    let rows = grid.rows;
+    let ofcolumns = run_of(Axis::Column, columns.size.explicit, held, first, count);
+    let ofrows = run_of(Axis::Row, rows.size.explicit, held, first, count);
+    let columnentries = entries_of(columns, axis_words(words, Axis::Column));
+    let rowentries = entries_of(rows, axis_words(words, Axis::Row));
     write_axis(ofcolumns, columnentries, columnstore, words, bytes, numbers);
     write_axis(ofrows, rowentries, rowstore, words, bytes, numbers);
 }
 
 // Writes the placements of a panel from `first` on, as many as there are and fit. 4: no such placement; 10: a store below 32,768 bytes.
 pub fn write_placements(
-    panel: Panel,
+    grid: Grid,
     words: &[u64; PANEL_WORDS],
     bytes: &[u8; PANEL_BYTES],
     columnstore: &[u8],
@@ -102,16 +102,16 @@ pub fn write_placements(
     first: u32,
     numbers: &mut [i32; PLACEMENT_RUN],
 ) -> CountAnswer
-    ensures { λ r. ⌜ record { answer = r; numbers = now (numbers .exit) } ≡ placementsWritten panel (nameTablesIn (now (words .entry)) (now (columnstore .entry)) (now (rowstore .entry))) (areaTableIn (now (words .entry)) (now (bytes .entry))) (placementTableIn (now (words .entry)) (now (bytes .entry))) first (now (numbers .entry)) ⌝ }
+    ensures { λ r. ⌜ record { answer = r; numbers = now (numbers .exit) } ≡ placementsWritten grid (nameTablesIn (now (words .entry)) (now (columnstore .entry)) (now (rowstore .entry))) (areaTableIn (now (words .entry)) (now (bytes .entry))) (placementTableIn (now (words .entry)) (now (bytes .entry))) first (now (numbers .entry)) ⌝ }
 {
     let shorter = smaller(columnstore.len(), rowstore.len());
-    let number = numbers_refusal(panel.placements, shorter, first);
+    let number = numbers_refusal(grid.placements, shorter, first);
     if number != 0 {
         return uncounted(number);
     }
-    let count = numbers_count(panel.placements, first);
+    let count = numbers_count(grid.placements, first);
     write_numbers(
-        panel,
+        grid,
         words,
         bytes,
         columnstore,

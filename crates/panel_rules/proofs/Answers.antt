@@ -17,11 +17,11 @@ use Rattle.name_entries.specs.Entries.{entryOf, namedEntry, entriesOf}
 use Rattle.name_entries.specs.LineNames.{ofAxis}
 use Rattle.name_resolver.specs.Placements.{endsOf, resolvedLine, resolutionOf}
 use Rattle.name_resolver.proofs.Theorems.{resolution-accepted}
-use Rattle.axis_tables.specs.declared.AxisState.{AxisState}
+use Rattle.axis_tables.specs.declared.AxisGrid.{AxisGrid}
 use Rattle.axis_tables.specs.View.{AxisView, sizesOf, componentsOf, axisBytes}
 use Rattle.panel_tables.specs.declared.PlacementPlace.{PlacementPlace}
 use Rattle.panel_tables.specs.View.{PanelView}
-use Rattle.panel_tables.specs.Axes.{stateIn, viewIn}
+use Rattle.panel_tables.specs.Axes.{gridIn, viewIn}
 use Rattle.panel_tables.specs.Placements.{placementAt as placeAt}
 use Rattle.panel_tables.specs.Written.{placementWords, placementStore}
 use Rattle.panel_tables.proofs.Axes.{axis-in-fits}
@@ -65,10 +65,10 @@ module _ (v : PanelView) (f : FitsPanel v) (range : PanelRange v) (ok : endFault
 
   -- ---- what is held of an axis
 
-  state-held : (a : Axis) → stateIn (h .panel) a ≡ stateAfter (viewIn v a) (es a)
+  grid-held : (a : Axis) → gridIn (h .panel .grid) a ≡ stateAfter (viewIn v a) (es a) .grid
   unfolding heldAfter
-  state-held Column = refl
-  state-held Row = refl
+  grid-held Column = refl
+  grid-held Row = refl
 
   words-held : (a : Axis) → wordsIn (namesOf (h .tables)) a ≡ wordsAfter (viewIn v a) (es a)
   unfolding heldAfter
@@ -88,23 +88,23 @@ module _ (v : PanelView) (f : FitsPanel v) (range : PanelRange v) (ok : endFault
   -- ---- its entries and its names
 
   -- the entries that are held are the sheet's, and then the further ones
-  pub entries-after : (a : Axis) → bookIn (h .panel) (namesOf (h .tables)) a ≡ entriesAfter (viewIn v a) (es a)
+  pub entries-after : (a : Axis) → bookIn (h .panel .grid) (namesOf (h .tables)) a ≡ entriesAfter (viewIn v a) (es a)
   entries-after a =
-      rw (state-held a, words-held a, store-held a)
+      rw (grid-held a, words-held a, store-held a)
       (book-back (viewIn v a) (axis-in-fits v a f) (es a) (entries-fit a) (entries-read (viewIn v a) (axis-in-fits v a f) (no-fault v ok a)) (ofAxis a (t .columnStore) (t .rowStore)))
 
   -- the explicit count is layer 3's
-  explicit-after : (a : Axis) → stateIn (h .panel) a .explicit ≡ explicitOf (viewIn v a)
+  explicit-after : (a : Axis) → gridIn (h .panel .grid) a .size .explicit ≡ explicitOf (viewIn v a)
   unfolding stateAfter sizedState
-  explicit-after a = ap (λ (s : AxisState). s .explicit) (state-held a)
+  explicit-after a = ap (λ (g : AxisGrid). g .size .explicit) (grid-held a)
 
   -- the drawn areas are the sheet's, as the axis sees them
-  areas-after : (a : Axis) → namesIn (h .panel) (namesOf (h .tables)) (areasOf (h .tables)) a .areas ≡ areasIn a (v .areas)
+  areas-after : (a : Axis) → namesIn (h .panel .grid) (namesOf (h .tables)) (areasOf (h .tables)) a .areas ≡ areasIn a (v .areas)
   unfolding heldAfter sizedPanel tablesOf
   areas-after a = areas-held (v .areas) (f .drawn) (f .areas) a
 
   -- all that names its lines
-  pub names-after : (a : Axis) → namesIn (h .panel) (namesOf (h .tables)) (areasOf (h .tables)) a ≡ namesAfter v a (es a)
+  pub names-after : (a : Axis) → namesIn (h .panel .grid) (namesOf (h .tables)) (areasOf (h .tables)) a ≡ namesAfter v a (es a)
   names-after a = named-by (explicit-after a) (entries-after a) (areas-after a)
     where
       named-by : {m n : ℕ} {k l : List Entry} {x y : List Css.Area} → m ≡ n → k ≡ l → x ≡ y
@@ -112,14 +112,14 @@ module _ (v : PanelView) (f : FitsPanel v) (range : PanelRange v) (ok : endFault
       named-by p q s = rw (p, q, s)
 
   -- as many entries as words
-  count-after : (a : Axis) → stateIn (h .panel) a .entries ≡ length (entriesAfter (viewIn v a) (es a))
+  count-after : (a : Axis) → gridIn (h .panel .grid) a .entries ≡ length (entriesAfter (viewIn v a) (es a))
   unfolding stateAfter sizedState entriesOf
   count-after a =
       let x : AxisView = viewIn v a in
       let e : length (entryWords x) ≡ length (Sheet.entriesOf x) =
       sym (length-map (entryWords x) (λ (w : ℕ). namedEntry (axisBytes x ++ []) (entryOf w)))
       ∙ ap length (entries-read x (axis-in-fits v a f) (no-fault v ok a) []) in
-      ap (λ (s : AxisState). s .entries) (state-held a)
+      ap (λ (g : AxisGrid). g .entries) (grid-held a)
       ∙ omega (arith, e, length-append (Sheet.entriesOf x) (es a))
 
   -- ---- the answers for an axis
@@ -127,7 +127,7 @@ module _ (v : PanelView) (f : FitsPanel v) (range : PanelRange v) (ok : endFault
   -- `explicit_size`
   pub size-after : (a : Axis) → sizeOf h a ≡ sizeAfter (viewIn v a)
   unfolding explicitSize sizeAfter stateAfter sizedState
-  size-after a = rw (state-held a)
+  size-after a = ap (λ (g : AxisGrid). g .size) (grid-held a)
 
   -- `line_count`
   pub lists-after : (a : Axis) → listsOf h a ≡ listsAfter (viewIn v a) (es a)
@@ -150,14 +150,14 @@ module _ (v : PanelView) (f : FitsPanel v) (range : PanelRange v) (ok : endFault
 
   -- ---- the records: the components, the spare sizes and the counts that they are made of
 
-  pub template-after : (a : Axis) → templateIn (stateIn (h .panel) a) (wordsIn (namesOf (h .tables)) a) ≡ componentsOf (viewIn v a .template)
-  template-after a = rw (state-held a, words-held a) (template-held (viewIn v a) (axis-in-fits v a f) (es a))
+  pub template-after : (a : Axis) → templateIn (gridIn (h .panel .grid) a) (wordsIn (namesOf (h .tables)) a) ≡ componentsOf (viewIn v a .template)
+  template-after a = rw (grid-held a, words-held a) (template-held (viewIn v a) (axis-in-fits v a f) (es a))
 
-  pub spares-after : (a : Axis) → sparesIn (stateIn (h .panel) a) (wordsIn (namesOf (h .tables)) a) ≡ map sizesOf (viewIn v a .spares)
-  spares-after a = rw (state-held a, words-held a) (spares-held (viewIn v a) (axis-in-fits v a f) (es a))
+  pub spares-after : (a : Axis) → sparesIn (gridIn (h .panel .grid) a) (wordsIn (namesOf (h .tables)) a) ≡ map sizesOf (viewIn v a .spares)
+  spares-after a = rw (grid-held a, words-held a) (spares-held (viewIn v a) (axis-in-fits v a f) (es a))
 
-  pub tracks-after : (a : Axis) → axisTracks (stateIn (h .panel) a) ≡ tracksAfter (viewIn v a)
-  tracks-after a = ap axisTracks (state-held a) ∙ tracks-held (viewIn v a) (largest a (v .areas)) (range .axes a) (explicit-few (viewIn v a) (no-fault v ok a)) (es a)
+  pub tracks-after : (a : Axis) → axisTracks (gridIn (h .panel .grid) a) ≡ tracksAfter (viewIn v a)
+  tracks-after a = ap axisTracks (grid-held a) ∙ tracks-held (viewIn v a) (largest a (v .areas)) (range .axes a) (explicit-few (viewIn v a) (no-fault v ok a)) (es a)
 
   -- `track_record`
   pub record-after : (a : Axis) (items : List ℕ) (i : ℕ) → recordWith h a items i ≡ recordAfter (viewIn v a) items i
@@ -181,7 +181,7 @@ module _ (v : PanelView) (f : FitsPanel v) (range : PanelRange v) (ok : endFault
     bytes = placementStore (v .placements)
 
     abbrev names : AxisNames
-    names = namesIn (h .panel) (namesOf (h .tables)) (areasOf (h .tables)) (place .axis)
+    names = namesIn (h .panel .grid) (namesOf (h .tables)) (areasOf (h .tables)) (place .axis)
 
     -- nothing is refused: at most 10,000 explicit tracks
     resolved-after : resolutionOf names bytes (linePlacement place)

@@ -37,12 +37,12 @@ explicit-few x e =
 -- ---- the words
 module _ (x : AxisView) (f : Fits x) (es : List Entry) where
   -- layer 3's components
-  pub template-held : templateIn (stateAfter x es) (wordsAfter x es) ≡ componentsOf (x .template)
+  pub template-held : templateIn (stateAfter x es .grid) (wordsAfter x es) ≡ componentsOf (x .template)
   unfolding stateAfter sizedState wordsAfter
   template-held = template-back x f _
 
   -- layer 5's spare sizes
-  pub spares-held : sparesIn (stateAfter x es) (wordsAfter x es) ≡ map sizesOf (x .spares)
+  pub spares-held : sparesIn (stateAfter x es .grid) (wordsAfter x es) ≡ map sizesOf (x .spares)
   unfolding stateAfter sizedState wordsAfter sparesOf
   spares-held =
       rw (spare-minimums-back x f _, spare-maximums-back x f _, length-map (x .spares) minOf)
@@ -51,6 +51,6 @@ module _ (x : AxisView) (f : Fits x) (es : List Entry) where
 -- ---- the state
 
 -- counts in range are not held
-pub tracks-held : (x : AxisView) (span : ℕ) → AxisRange span x → explicitOf x ≤ 10000 → (es : List Entry) → axisTracks (stateAfter x es) ≡ tracksAfter x
+pub tracks-held : (x : AxisView) (span : ℕ) → AxisRange span x → explicitOf x ≤ 10000 → (es : List Entry) → axisTracks (stateAfter x es .grid) ≡ tracksAfter x
 unfolding stateAfter sizedState
 tracks-held x span r h es = rw (min-eq-left (r .negative), min-eq-left h, min-eq-left (r .positive))

@@ -48,8 +48,8 @@ range-more (x ∷ es) e (a1, b1, s1, r) a b s = (a1, b1, s1, range-more es e r a
 -- what an accepted entry leaves on its axis
 pub record Entered (v : AxisView) (es : List Entry) (e : Entry) (store : List ℕ) : Type 0 where
   pub state : withEntry (stateAfter v es) (length (e .name)) ≡ stateAfter v (es ++ (e ∷ []))
-  pub words : set (wordsAfter v es) (8384 + stateAfter v es .entries) (entryWordAt e (stateAfter v es .used)) ≡ wordsAfter v (es ++ (e ∷ []))
-  pub bytes : sets (storeAfter v es store) (stateAfter v es .used) (e .name) ≡ storeAfter v (es ++ (e ∷ [])) store
+  pub words : set (wordsAfter v es) (8384 + stateAfter v es .grid .entries) (entryWordAt e (stateAfter v es .room .used)) ≡ wordsAfter v (es ++ (e ∷ []))
+  pub bytes : sets (storeAfter v es store) (stateAfter v es .room .used) (e .name) ≡ storeAfter v (es ++ (e ∷ [])) store
 
 module _ (v : AxisView) (es : List Entry) (e : Entry) where
   -- the bytes of the axis, and how many bytes and entries it has then

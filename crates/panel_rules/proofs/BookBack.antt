@@ -57,7 +57,7 @@ module _ (v : AxisView) (f : Fits v) (es : List Entry) (fit : EntriesFit v es)
   length-held = omega (arith, length-append (entryWords v) further, length-words entryWordAt entryName (length (axisBytes v)) es)
 
   -- the words of the entries, cut to their count
-  words-held : entryWordsIn (stateAfter v es) (wordsAfter v es) ≡ entryWords v ++ further
+  words-held : entryWordsIn (stateAfter v es .grid) (wordsAfter v es) ≡ entryWords v ++ further
   unfolding stateAfter wordsAfter
   words-held =
       ap (partOf (wordsAfter v es) 8384) length-held
@@ -68,7 +68,7 @@ module _ (v : AxisView) (f : Fits v) (es : List Entry) (fit : EntriesFit v es)
   sheet-read rest = ap (entriesOf (entryWords v)) (append-assoc (axisBytes v) (bytesOf entryName es) rest) ∙ read (bytesOf entryName es ++ rest)
 
   -- the entries that are held, with the store's bytes past the used ones whatever they were
-  pub book-back : (store : List ℕ) → entriesOf (entryWordsIn (stateAfter v es) (wordsAfter v es)) (storeAfter v es store) ≡ entriesAfter v es
+  pub book-back : (store : List ℕ) → entriesOf (entryWordsIn (stateAfter v es .grid) (wordsAfter v es)) (storeAfter v es store) ≡ entriesAfter v es
   unfolding storeAfter
   book-back store =
       let rest : List ℕ = drop (length (bytesAfter v es)) store in

@@ -16,18 +16,17 @@ use Rattle.axis_tables.specs.declared.AxisState.{AxisState}
 use Rattle.panel_tables.specs.declared.Panel.{Panel}
 use Rattle.panel_tables.specs.Axes.{stateIn, withState}
 use Rattle.sheet_rules.specs.Panels.{Tables}
-use Rattle.panel_rules.specs.Calls.{NameTables, wordsIn, withEntry, enteredIn, EnteredName, enterRefusal, enterName, explicitSize}
+use Rattle.panel_rules.specs.Calls.{NameTables, wordsIn, withEntries, withEntry, enteredIn, EnteredName, enterRefusal, enterName, explicitSize}
 use Rattle.panel_rules.specs.Runs.{Held, namesOf, withNames, areasOf, placementsOf, marksOf, Call, after, afterCalls, sheetHeld, runOf, sizeOf}
-use Rattle.panel_rules.specs.Views.{withEntries}
 
 -- the counts of a panel
 pub record SameCounts (p q : Panel) : Type 0 where
-  pub areas : p .areas ≡ q .areas
-  pub areabytes : p .areabytes ≡ q .areabytes
-  pub placements : p .placements ≡ q .placements
-  pub placementbytes : p .placementbytes ≡ q .placementbytes
+  pub areas : p .grid .areas ≡ q .grid .areas
+  pub areabytes : p .room .areabytes ≡ q .room .areabytes
+  pub placements : p .grid .placements ≡ q .grid .placements
+  pub placementbytes : p .room .placementbytes ≡ q .room .placementbytes
   -- of an axis's state, the entries and the bytes used alone may differ
-  pub state : (a : Axis) → stateIn p a ≡ withEntries (stateIn q a) (stateIn p a .entries) (stateIn p a .used)
+  pub state : (a : Axis) → stateIn p a ≡ withEntries (stateIn q a) (stateIn p a .grid .entries) (stateIn p a .room .used)
 
 -- everything that is held, but for the entries, the bytes used and the line-name stores
 pub record SameFrame (h k : Held) : Type 0 where
@@ -46,7 +45,7 @@ join-counts p q r x y =
       areabytes = x .areabytes ∙ y .areabytes;
       placements = x .placements ∙ y .placements;
       placementbytes = x .placementbytes ∙ y .placementbytes;
-      state = λ a. x .state a ∙ ap (λ (s : AxisState). withEntries s (stateIn p a .entries) (stateIn p a .used)) (y .state a);
+      state = λ a. x .state a ∙ ap (λ (s : AxisState). withEntries s (stateIn p a .grid .entries) (stateIn p a .room .used)) (y .state a);
     }
 
 join : (h k l : Held) → SameFrame h k → SameFrame k l → SameFrame h l
@@ -66,7 +65,7 @@ same-counts p = record { areas = refl; areabytes = refl; placements = refl; plac
 
 -- one entry more on an axis
 state-entered : (p : Panel) (length : ℕ) (a b : Axis) → let q : Panel = withState p a (withEntry (stateIn p a) length) in
-    stateIn q b ≡ withEntries (stateIn p b) (stateIn q b .entries) (stateIn q b .used)
+    stateIn q b ≡ withEntries (stateIn p b) (stateIn q b .grid .entries) (stateIn q b .room .used)
 state-entered p length Column Column = refl
 state-entered p length Column Row = refl
 state-entered p length Row Column = refl
@@ -77,10 +76,10 @@ panel-entered p Column length = record { areas = refl; areabytes = refl; placeme
 panel-entered p Row length = record { areas = refl; areabytes = refl; placements = refl; placementbytes = refl; state = state-entered p length Row }
 
 words-entered : (t : NameTables) (s : AxisState) (line : ℕ) (name : Bytes) (a b : Axis) → take 8384 (wordsIn (enteredIn t a s line name) b) ≡ take 8384 (wordsIn t b)
-words-entered t s line name Column Column = take-set-le 8384 (t .columns) (8384 + s .entries) (wordOf line (s .used) (length name)) (omega arith)
+words-entered t s line name Column Column = take-set-le 8384 (t .columns) (8384 + s .grid .entries) (wordOf line (s .room .used) (length name)) (omega arith)
 words-entered t s line name Column Row = refl
 words-entered t s line name Row Column = refl
-words-entered t s line name Row Row = take-set-le 8384 (t .rows) (8384 + s .entries) (wordOf line (s .used) (length name)) (omega arith)
+words-entered t s line name Row Row = take-set-le 8384 (t .rows) (8384 + s .grid .entries) (wordOf line (s .room .used) (length name)) (omega arith)
 
 -- what a call leaves, by what it answers
 abbrev leaves : Held → EnteredName → Held
@@ -116,7 +115,7 @@ run-frame s t calls = calls-frame (sheetHeld s t) calls
 -- and so no explicit size
 pub same-size : (h k : Held) → SameFrame h k → (a : Axis) → sizeOf h a ≡ sizeOf k a
 unfolding explicitSize
-same-size h k f a = ap (λ (s : AxisState). record { repetitions = s .repetitions; explicit = s .explicit }) (f .panel .state a)
+same-size h k f a = ap (λ (s : AxisState). s .grid .size) (f .panel .state a)
 
 pub run-size : (s : List ℕ) (t : Tables) (calls : List Call) (a : Axis) → sizeOf (runOf s t calls) a ≡ sizeOf (sheetHeld s t) a
 run-size s t calls a = same-size (runOf s t calls) (sheetHeld s t) (run-frame s t calls) a

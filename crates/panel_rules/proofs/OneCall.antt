@@ -12,6 +12,7 @@ use Rattle.coordinates.specs.declared.axis.Axis.the-variants.{Column, Row}
 use Rattle.coordinates.specs.Refusals.{refusalOf}
 use Rattle.name_rules.specs.Css.{Bytes, Entry}
 use Rattle.name_entries.proofs.Booleans.{neither}
+use Rattle.axis_tables.specs.declared.AxisState.{AxisState}
 use Rattle.panel_tables.specs.declared.Panel.{Panel}
 use Rattle.panel_tables.specs.View.{PanelView}
 use Rattle.panel_tables.specs.Axes.{viewIn}
@@ -79,8 +80,8 @@ module _ (v : PanelView) (t : Tables) (columns rows : List Entry) (long : shortS
       eqb (refusalAfter (viewIn v a) (both columns rows a) c) 0 ≡ b
       → after (heldAfter v t columns rows) c ≡ heldAfter v t (entriesWith Column (v .columns) columns c) (entriesWith Row (v .rows) rows c)
   unfolding enterName heldAfter
-  after-of Column line name true e = let k = call-entered Column line name e in rw (refused-by Column line name, e, k .state, k .words, k .bytes)
-  after-of Row line name true e = let k = call-entered Row line name e in rw (refused-by Row line name, e, k .state, k .words, k .bytes)
+  after-of Column line name true e = let k = call-entered Column line name e in rw (refused-by Column line name, e, ap (λ (s : AxisState). s .grid) (k .state), ap (λ (s : AxisState). s .room) (k .state), k .words, k .bytes)
+  after-of Row line name true e = let k = call-entered Row line name e in rw (refused-by Row line name, e, ap (λ (s : AxisState). s .grid) (k .state), ap (λ (s : AxisState). s .room) (k .state), k .words, k .bytes)
   after-of Column line name false e = rw (refused-by Column line name, e)
   after-of Row line name false e = rw (refused-by Row line name, e)
 

@@ -70,9 +70,9 @@ module _ (s : List ℕ) (t : Tables) (calls : List Call) (ok : Accepted s t) whe
   of-closed : {A : Type 0} (answer : Held → A) → answer (runOf s t calls) ≡ answer (heldAfter v t columns rows)
   of-closed answer = ap answer (run-held s t calls ok)
 
-  pub run-entries : (a : Axis) → bookIn (runOf s t calls .panel) (namesOf (runOf s t calls .tables)) a ≡ entriesAfter (sheetAxis s a) (added s a calls)
+  pub run-entries : (a : Axis) → bookIn (runOf s t calls .panel .grid) (namesOf (runOf s t calls .tables)) a ≡ entriesAfter (sheetAxis s a) (added s a calls)
   run-entries a =
-      of-closed (λ h. bookIn (h .panel) (namesOf (h .tables)) a)
+      of-closed (λ h. bookIn (h .panel .grid) (namesOf (h .tables)) a)
       ∙ Answers.entries-after v (sheet-fits s) (sheet-range s) (sheet-end s good) t (accepted-sheet s t ok .1) columns rows (added-fit s good Column calls) (added-fit s good Row calls) a
       ∙ ap (entriesAfter (sheetAxis s a)) (both-added s calls a)
 

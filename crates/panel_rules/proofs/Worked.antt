@@ -46,7 +46,7 @@ use Rattle.sheet_rules.specs.Sheet.{sizeOf as templateSize, entriesOf, endFault
 use Rattle.sheet_rules.specs.Panels.{Tables}
 use Rattle.sheet_rules.specs.Read.{shortStores, readBy, readSheet}
 use Rattle.panel_rules.specs.declared.PlacementAnswer.{PlacementAnswer}
-use Rattle.panel_rules.specs.declared.AxisSize.{AxisSize}
+use Rattle.axis_tables.specs.declared.AxisSize.{AxisSize}
 use Rattle.panel_rules.specs.Placing.{refusedPlacement}
 use Rattle.panel_rules.specs.Runs.{Held, Call, Accepted, runOf, marksOf, sizeOf, nameOf, recordOf}
 use Rattle.panel_rules.specs.Views.{sizeAfter, listsAfter, nameAfter, recordAfter, placementAfter}

@@ -20,13 +20,15 @@ use Rattle.track_rules.specs.declared.AxisTracks.{AxisTracks}
 use Rattle.track_rules.specs.declared.RecordAnswer.{RecordAnswer}
 use Rattle.track_rules.specs.Written.{sparesOf}
 use Rattle.track_rules.specs.Records.{recordAnswerOf}
+use Rattle.axis_tables.specs.declared.AxisGrid.{AxisGrid}
+use Rattle.axis_tables.specs.declared.AxisSize.{AxisSize}
 use Rattle.axis_tables.specs.declared.AxisState.{AxisState}
 use Rattle.axis_tables.specs.Runs.{partOf}
+use Rattle.panel_tables.specs.declared.Grid.{Grid}
 use Rattle.panel_tables.specs.declared.Panel.{Panel}
-use Rattle.panel_tables.specs.Axes.{stateIn, withState}
+use Rattle.panel_tables.specs.Axes.{gridIn, stateIn, withState}
 use Rattle.panel_tables.specs.Regions.{axisWordsIn, areaWordsIn, placementWordsIn, areaBytesIn, placementBytesIn}
 use Rattle.panel_rules.specs.declared.EntryAnswer.{EntryAnswer}
-use Rattle.panel_rules.specs.declared.AxisSize.{AxisSize}
 
 -- ---- what is lent
 
@@ -75,64 +77,56 @@ shortNames t = ltb (shorterStore t) 32768
 -- ---- what the tables of an axis hold
 
 -- the words of its name entries
-abbrev pub entryWordsIn : AxisState → List ℕ → List ℕ
-entryWordsIn s words = partOf words 8384 (s .entries)
+abbrev pub entryWordsIn : AxisGrid → List ℕ → List ℕ
+entryWordsIn g words = partOf words 8384 (g .entries)
 
 -- its entries, in entry order
-abbrev pub bookIn : Panel → NameTables → Axis → List Entry
-bookIn p t a = entriesOf (entryWordsIn (stateIn p a) (wordsIn t a)) (storeIn t a)
+abbrev pub bookIn : Grid → NameTables → Axis → List Entry
+bookIn g t a = entriesOf (entryWordsIn (gridIn g a) (wordsIn t a)) (storeIn t a)
 
 -- its template and its spare sizes
-abbrev pub templateIn : AxisState → List ℕ → List Component
-templateIn s words = templateOf (partOf words 0 (s .components)) (partOf words 64 (s .tracks)) (partOf words 2112 (s .tracks))
+abbrev pub templateIn : AxisGrid → List ℕ → List Component
+templateIn g words =
+    templateOf (partOf words 0 (g .template .components)) (partOf words 64 (g .template .tracks)) (partOf words 2112 (g .template .tracks))
 
-abbrev pub sparesIn : AxisState → List ℕ → List MinMax
-sparesIn s words = sparesOf (partOf words 4160 (s .spares)) (partOf words 4224 (s .spares))
+abbrev pub sparesIn : AxisGrid → List ℕ → List MinMax
+sparesIn g words = sparesOf (partOf words 4160 (g .implicit .spares)) (partOf words 4224 (g .implicit .spares))
 
 -- all that names its lines: the explicit count, the entries and the drawn areas
-abbrev pub namesIn : Panel → NameTables → NamedWords → Axis → AxisNames
-namesIn p t areas a =
-    axisNames (stateIn p a .explicit) a (entryWordsIn (stateIn p a) (wordsIn t a)) (storeIn t a)
-    (partOf (areas .words) 0 (p .areas)) (partOf (areas .words) 64 (p .areas)) (areas .bytes)
+abbrev pub namesIn : Grid → NameTables → NamedWords → Axis → AxisNames
+namesIn g t areas a =
+    axisNames (gridIn g a .size .explicit) a (entryWordsIn (gridIn g a) (wordsIn t a)) (storeIn t a)
+    (partOf (areas .words) 0 (g .areas)) (partOf (areas .words) 64 (g .areas)) (areas .bytes)
 
 -- ---- `enter_name`: "one call enters an axis, line and name directly"
 
--- a state with one entry more, of a name of that length
-abbrev pub withEntry : AxisState → ℕ → AxisState
-withEntry s length =
+-- a state with so many entries and used bytes
+abbrev pub withEntries : AxisState → ℕ → ℕ → AxisState
+withEntries s entries used =
     record {
-      definite = s .definite;
-      inner = s .inner;
-      rule = s .rule;
-      gap = s .gap;
-      components = s .components;
-      tracks = s .tracks;
-      spares = s .spares;
-      names = s .names;
-      used = s .used + length;
-      negative = s .negative;
-      positive = s .positive;
-      entries = s .entries + 1;
-      repetitions = s .repetitions;
-      explicit = s .explicit;
-      areas = s .areas;
+      grid = record { space = s .grid .space; template = s .grid .template; implicit = s .grid .implicit; entries = entries; size = s .grid .size };
+      room = record { template = s .room .template; names = s .room .names; used = used; areas = s .room .areas };
     }
+
+-- with one entry more, of a name of that length
+abbrev pub withEntry : AxisState → ℕ → AxisState
+withEntry s length = withEntries s (s .grid .entries + 1) (s .room .used + length)
 
 -- the words and the store of an axis with the entry at the next place and its bytes after those used; the other axis's stay
 abbrev pub enteredIn : NameTables → Axis → AxisState → ℕ → Bytes → NameTables
 enteredIn t Column s line name =
     record {
-      columns = set (t .columns) (8384 + s .entries) (wordOf line (s .used) (length name));
+      columns = set (t .columns) (8384 + s .grid .entries) (wordOf line (s .room .used) (length name));
       rows = t .rows;
-      columnStore = sets (t .columnStore) (s .used) name;
+      columnStore = sets (t .columnStore) (s .room .used) name;
       rowStore = t .rowStore;
     }
 enteredIn t Row s line name =
     record {
       columns = t .columns;
-      rows = set (t .rows) (8384 + s .entries) (wordOf line (s .used) (length name));
+      rows = set (t .rows) (8384 + s .grid .entries) (wordOf line (s .room .used) (length name));
       columnStore = t .columnStore;
-      rowStore = sets (t .rowStore) (s .used) name;
+      rowStore = sets (t .rowStore) (s .room .used) name;
     }
 
 -- an answer, and what is lent then
@@ -142,7 +136,7 @@ pub record EnteredName : Type 0 where
 
 -- 2 no name, 4 a line outside 1 to 20,000, 8 no room, then 10 where either store is short
 unfoldable pub enterRefusal : Panel → NameTables → Axis → ℕ → Bytes → ℕ
-enterRefusal p t a line name = entryRefusal 4096 (shorterStore t) (stateIn p a .entries) (stateIn p a .used) line name
+enterRefusal p t a line name = entryRefusal 4096 (shorterStore t) (stateIn p a .grid .entries) (stateIn p a .room .used) line name
 
 -- "on a refusal a state passed in goes back as it came"
 unfoldable pub enterName : Panel → NameTables → Axis → ℕ → Bytes → EnteredName
@@ -156,33 +150,33 @@ enterName p t a line name =
 
 -- ---- `explicit_size`, `line_count`, `line_name`
 
-unfoldable pub explicitSize : Panel → Axis → AxisSize
-explicitSize p a = record { repetitions = stateIn p a .repetitions; explicit = stateIn p a .explicit }
+unfoldable pub explicitSize : Grid → Axis → AxisSize
+explicitSize g a = gridIn g a .size
 
 -- "one list for each explicit line; with no entry on the axis there are no lists"
-unfoldable pub lineCountIn : Panel → Axis → ℕ
-lineCountIn p a = lineCount (stateIn p a .entries) (stateIn p a .explicit)
+unfoldable pub lineCountIn : Grid → Axis → ℕ
+lineCountIn g a = lineCount (gridIn g a .entries) (gridIn g a .size .explicit)
 
 -- "an empty part where that line and place hold none", or a store is short
-unfoldable pub lineNameIn : Panel → NameTables → Axis → ℕ → ℕ → Bytes
-lineNameIn p t a line place =
-    cond (shortNames t) [] (getD (explicitLineNames (stateIn p a .explicit) (bookIn p t a) line) place [])
+unfoldable pub lineNameIn : Grid → NameTables → Axis → ℕ → ℕ → Bytes
+lineNameIn g t a line place =
+    cond (shortNames t) [] (getD (explicitLineNames (gridIn g a .size .explicit) (bookIn g t a) line) place [])
 
 -- ---- `track_record`, `initialize_grid_tracks`
 
 -- what the records call asks of an axis; a count that no sheet gives is held to 10,000
-abbrev pub axisTracks : AxisState → AxisTracks
-axisTracks s =
+abbrev pub axisTracks : AxisGrid → AxisTracks
+axisTracks g =
     record {
       counts = record {
-        «negative_implicit» = min (s .negative) 10000;
-        explicit = min (s .explicit) 10000;
-        «positive_implicit» = min (s .positive) 10000;
+        «negative_implicit» = min (g .implicit .negative) 10000;
+        explicit = min (g .size .explicit) 10000;
+        «positive_implicit» = min (g .implicit .positive) 10000;
       };
-      repetitions = s .repetitions;
-      gap = sizingOf (s .gap);
+      repetitions = g .size .repetitions;
+      gap = sizingOf (g .space .gap);
     }
 
 -- 4 for an index of 2N + 1 or more, then 10 for fewer than N item bytes
-unfoldable pub trackRecord : AxisState → List ℕ → List ℕ → ℕ → RecordAnswer
-trackRecord s words items index = recordAnswerOf (axisTracks s) (templateIn s words) (sparesIn s words) items index
+unfoldable pub trackRecord : AxisGrid → List ℕ → List ℕ → ℕ → RecordAnswer
+trackRecord g words items index = recordAnswerOf (axisTracks g) (templateIn g words) (sparesIn g words) items index

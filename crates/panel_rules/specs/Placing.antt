@@ -13,7 +13,7 @@ use Rattle.name_resolver.specs.declared.GridPlacement.the-variants.{Auto, Line 
 use Rattle.name_resolver.specs.declared.Line.{Line}
 use Rattle.name_resolver.specs.declared.Resolution.{Resolution}
 use Rattle.name_resolver.specs.Placements.{gridLineOf, zeroLine, resolutionOf}
-use Rattle.panel_tables.specs.declared.Panel.{Panel}
+use Rattle.panel_tables.specs.declared.Grid.{Grid}
 use Rattle.panel_tables.specs.declared.EndPlace.{EndPlace}
 use Rattle.panel_tables.specs.declared.PlacementPlace.{PlacementPlace}
 use Rattle.panel_tables.specs.Placements.{placementAt}
@@ -59,9 +59,9 @@ placedBy r a isShort =
     (refusedPlacement (r .refusal .number))
 
 -- "a placement index that isn't held" is 4
-unfoldable pub resolvePlacement : Panel → NameTables → NamedWords → NamedWords → ℕ → PlacementAnswer
-resolvePlacement p t areas placements index =
-    cond (ltb index (p .placements))
+unfoldable pub resolvePlacement : Grid → NameTables → NamedWords → NamedWords → ℕ → PlacementAnswer
+resolvePlacement g t areas placements index =
+    cond (ltb index (g .placements))
     (let place : PlacementPlace = placementAt (placements .words) index in
-    placedBy (resolutionOf (namesIn p t areas (place .axis)) (placements .bytes) (linePlacement place)) (place .axis) (shortNames t))
+    placedBy (resolutionOf (namesIn g t areas (place .axis)) (placements .bytes) (linePlacement place)) (place .axis) (shortNames t))
     (refusedPlacement count)

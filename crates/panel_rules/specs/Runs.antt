@@ -13,13 +13,13 @@ use Rattle.track_rules.specs.declared.GridTrack.{GridTrack}
 use Rattle.track_rules.specs.declared.RecordAnswer.{RecordAnswer}
 use Rattle.track_run.specs.declared.FillAnswer.{FillAnswer}
 use Rattle.track_run.specs.Run.{fillAnswerOf, runAfter}
-use Rattle.axis_tables.specs.declared.AxisState.{AxisState}
+use Rattle.axis_tables.specs.declared.AxisGrid.{AxisGrid}
+use Rattle.axis_tables.specs.declared.AxisSize.{AxisSize}
 use Rattle.panel_tables.specs.declared.Panel.{Panel}
-use Rattle.panel_tables.specs.Axes.{stateIn}
+use Rattle.panel_tables.specs.Axes.{gridIn}
 use Rattle.sheet_rules.specs.Panels.{Tables}
 use Rattle.sheet_rules.specs.Read.{readSheet}
 use Rattle.panel_rules.specs.declared.PlacementAnswer.{PlacementAnswer}
-use Rattle.panel_rules.specs.declared.AxisSize.{AxisSize}
 use Rattle.panel_rules.specs.Calls.{NameTables, NamedWords, EnteredName, enterName, templateIn, sparesIn, axisTracks, explicitSize, lineCountIn, lineNameIn, trackRecord, wordsIn}
 use Rattle.panel_rules.specs.Placing.{resolvePlacement}
 
@@ -95,20 +95,20 @@ runOf sheet t calls = afterCalls (sheetHeld sheet t) calls
 -- ---- the answers of the other calls on what is held
 
 abbrev pub sizeOf : Held → Axis → AxisSize
-sizeOf h a = explicitSize (h .panel) a
+sizeOf h a = explicitSize (h .panel .grid) a
 
 abbrev pub placementOf : Held → ℕ → PlacementAnswer
-placementOf h i = resolvePlacement (h .panel) (namesOf (h .tables)) (areasOf (h .tables)) (placementsOf (h .tables)) i
+placementOf h i = resolvePlacement (h .panel .grid) (namesOf (h .tables)) (areasOf (h .tables)) (placementsOf (h .tables)) i
 
 abbrev pub listsOf : Held → Axis → ℕ
-listsOf h a = lineCountIn (h .panel) a
+listsOf h a = lineCountIn (h .panel .grid) a
 
 abbrev pub nameOf : Held → Axis → ℕ → ℕ → Bytes
-nameOf h a line place = lineNameIn (h .panel) (namesOf (h .tables)) a line place
+nameOf h a line place = lineNameIn (h .panel .grid) (namesOf (h .tables)) a line place
 
 -- a record, for any item bytes
 abbrev pub recordWith : Held → Axis → List ℕ → ℕ → RecordAnswer
-recordWith h a items index = trackRecord (stateIn (h .panel) a) (wordsIn (namesOf (h .tables)) a) items index
+recordWith h a items index = trackRecord (gridIn (h .panel .grid) a) (wordsIn (namesOf (h .tables)) a) items index
 
 -- and for the sheet's marks
 abbrev pub recordOf : Held → Axis → ℕ → RecordAnswer
@@ -117,10 +117,10 @@ recordOf h a index = recordWith h a (marksOf (h .tables) a) index
 -- a lent run of records after the call that fills it
 abbrev pub runWith : Held → Axis → List ℕ → List GridTrack → List GridTrack
 runWith h a items run =
-    let s : AxisState = stateIn (h .panel) a in
+    let g : AxisGrid = gridIn (h .panel .grid) a in
     let words : List ℕ = wordsIn (namesOf (h .tables)) a in
-    runAfter (axisTracks s) (templateIn s words) (sparesIn s words) items run
+    runAfter (axisTracks g) (templateIn g words) (sparesIn g words) items run
 
 -- and what that call answers
 abbrev pub fillWith : Held → Axis → List ℕ → List GridTrack → FillAnswer
-fillWith h a items run = fillAnswerOf (axisTracks (stateIn (h .panel) a)) (length run) (length items)
+fillWith h a items run = fillAnswerOf (axisTracks (gridIn (h .panel .grid) a)) (length run) (length items)

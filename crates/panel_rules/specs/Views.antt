@@ -20,6 +20,7 @@ use Rattle.name_resolver.specs.Placements.{endsOf, resolvedEnds}
 use Rattle.track_rules.specs.declared.AxisTracks.{AxisTracks}
 use Rattle.track_rules.specs.declared.RecordAnswer.{RecordAnswer}
 use Rattle.track_rules.specs.Records.{recordAnswerOf}
+use Rattle.axis_tables.specs.declared.AxisSize.{AxisSize}
 use Rattle.axis_tables.specs.declared.AxisState.{AxisState}
 use Rattle.axis_tables.specs.Runs.{bytesOf, wordsFrom}
 use Rattle.axis_tables.specs.View.{AxisView, sizesOf, componentsOf, axisBytes}
@@ -30,9 +31,9 @@ use Rattle.panel_tables.specs.Areas.{edgesIn}
 use Rattle.panel_tables.specs.Axes.{viewIn}
 use Rattle.sheet_rules.specs.Sheet as Sheet
 use Rattle.sheet_rules.specs.Sheet.{explicitOf}
-use Rattle.sheet_rules.specs.Panels.{Tables, entryWords, sizedState, sizedPanel, tablesOf}
+use Rattle.sheet_rules.specs.Panels.{Tables, entryWords, withAxes, sizedState, sizedPanel, tablesOf}
 use Rattle.panel_rules.specs.declared.PlacementAnswer.{PlacementAnswer}
-use Rattle.panel_rules.specs.declared.AxisSize.{AxisSize}
+use Rattle.panel_rules.specs.Calls.{withEntries}
 use Rattle.panel_rules.specs.Placing.{refusedPlacement}
 use Rattle.panel_rules.specs.Runs.{Held}
 
@@ -55,26 +56,6 @@ bytesAfter v es = axisBytes v ++ bytesOf entryName es
 unfoldable pub storeAfter : AxisView → List Entry → List ℕ → List ℕ
 storeAfter v es store = bytesAfter v es ++ drop (length (bytesAfter v es)) store
 
-abbrev pub withEntries : AxisState → ℕ → ℕ → AxisState
-withEntries s entries used =
-    record {
-      definite = s .definite;
-      inner = s .inner;
-      rule = s .rule;
-      gap = s .gap;
-      components = s .components;
-      tracks = s .tracks;
-      spares = s .spares;
-      names = s .names;
-      used = used;
-      negative = s .negative;
-      positive = s .positive;
-      entries = entries;
-      repetitions = s .repetitions;
-      explicit = s .explicit;
-      areas = s .areas;
-    }
-
 unfoldable pub stateAfter : AxisView → List Entry → AxisState
 stateAfter v es = withEntries (sizedState v) (length (entryWords v) + length es) (length (bytesAfter v es))
 
@@ -82,14 +63,7 @@ stateAfter v es = withEntries (sizedState v) (length (entryWords v) + length es)
 unfoldable pub heldAfter : PanelView → Tables → List Entry → List Entry → Held
 heldAfter v t columns rows =
     record {
-      panel = record {
-        columns = stateAfter (v .columns) columns;
-        rows = stateAfter (v .rows) rows;
-        areas = sizedPanel v .areas;
-        areabytes = sizedPanel v .areabytes;
-        placements = sizedPanel v .placements;
-        placementbytes = sizedPanel v .placementbytes;
-      };
+      panel = withAxes (sizedPanel v) (stateAfter (v .columns) columns) (stateAfter (v .rows) rows);
       tables = record {
         columns = wordsAfter (v .columns) columns;
         rows = wordsAfter (v .rows) rows;

@@ -28,7 +28,7 @@ use Rattle.panel_tables.specs.Axes.{viewIn}
 use Rattle.sheet_rules.specs.Sheet.{sizeOf as templateSize, sheetOf}
 use Rattle.sheet_rules.specs.Panels.{Tables}
 use Rattle.panel_rules.specs.declared.PlacementAnswer.{PlacementAnswer}
-use Rattle.panel_rules.specs.declared.AxisSize.{AxisSize}
+use Rattle.axis_tables.specs.declared.AxisSize.{AxisSize}
 use Rattle.panel_rules.specs.Placing.{refusedPlacement}
 use Rattle.panel_rules.specs.Runs.{Held, Call, Accepted, runOf, sizeOf, placementOf, listsOf, nameOf, recordOf}
 use Rattle.panel_rules.specs.Book.{Regular}

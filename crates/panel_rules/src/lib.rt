@@ -10,12 +10,6 @@ pub struct EntryAnswer {
     pub panel: Panel,
 }
 
-// The explicit size of an axis.
-pub struct AxisSize {
-    pub repetitions: u32,
-    pub explicit: u32,
-}
-
 // A resolved placement with its axis, or a refusal and zeros.
 pub struct PlacementAnswer {
     pub refusal: Refusal,

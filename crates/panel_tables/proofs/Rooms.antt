@@ -11,18 +11,18 @@ use Rattle.panel_tables.specs.View.{endOutside}
 use Rattle.panel_tables.specs.Placements.{placementFault}
 
 pub record PlacementRoom (p : Panel) (m n : ℕ) : Type 0 where
-  pub start : Room 256 16384 (p .placements) (p .placementbytes) m
-  pub end : Room 256 16384 (p .placements) (p .placementbytes + m) n
+  pub start : Room 256 16384 (p .grid .placements) (p .room .placementbytes) m
+  pub end : Room 256 16384 (p .grid .placements) (p .room .placementbytes + m) n
 
 pub placement-room : (p : Panel) (s : PlacementEnd) (m : ℕ) (e : PlacementEnd) (n f : ℕ) → f ≡ placementFault p s m e n → f ≡ 0 → PlacementRoom p m n
 unfolding placementFault
-placement-room p s m e n f a b = go (endOutside s) (endOutside e) (noRoom 256 16384 (p .placements) (p .placementbytes) m) (noRoom 256 16384 (p .placements) (p .placementbytes + m) n) refl refl (sym a ∙ b)
+placement-room p s m e n f a b = go (endOutside s) (endOutside e) (noRoom 256 16384 (p .grid .placements) (p .room .placementbytes) m) (noRoom 256 16384 (p .grid .placements) (p .room .placementbytes + m) n) refl refl (sym a ∙ b)
   where
-    go : (t u v w : Bool) → noRoom 256 16384 (p .placements) (p .placementbytes) m ≡ v → noRoom 256 16384 (p .placements) (p .placementbytes + m) n ≡ w
+    go : (t u v w : Bool) → noRoom 256 16384 (p .grid .placements) (p .room .placementbytes) m ≡ v → noRoom 256 16384 (p .grid .placements) (p .room .placementbytes + m) n ≡ w
         → _≡_ {A = ℕ} (cond t 4 (cond u 4 (cond v 8 (cond w 8 0)))) 0 → PlacementRoom p m n
     go true u v w a b z = absurd (omega arith)
     go false true v w a b z = absurd (omega arith)
     go false false true w a b z = absurd (omega arith)
     go false false false true a b z = absurd (omega arith)
     go false false false false a b z =
-        record { start = room 256 16384 (p .placements) (p .placementbytes) m a; end = room 256 16384 (p .placements) (p .placementbytes + m) n b }
+        record { start = room 256 16384 (p .grid .placements) (p .room .placementbytes) m a; end = room 256 16384 (p .grid .placements) (p .room .placementbytes + m) n b }

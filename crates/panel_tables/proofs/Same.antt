@@ -229,7 +229,10 @@ placement-bytes-none = pad-none 16384
 abbrev held : AxisState → AxisReading → List ℕ → List ℕ → List ℕ → List ℕ → List ℕ → List ℕ → List ℕ → PanelHeld
 held s r w m n a b p q =
     record {
-      panel = record { columns = s; rows = s; areas = 0; areabytes = 0; placements = 0; placementbytes = 0 };
+      panel = record {
+        grid = record { columns = s .grid; rows = s .grid; areas = 0; placements = 0 };
+        room = record { columns = s .room; rows = s .room; areabytes = 0; placementbytes = 0 };
+      };
       reading = record { stage = 0; columns = r; rows = r };
       columns = w;
       rows = w;

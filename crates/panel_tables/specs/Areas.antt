@@ -7,11 +7,12 @@ use lib.ListN.{length, getD, set}
 use Rattle.coordinates.specs.declared.axis.Axis.{Axis}
 use Rattle.coordinates.specs.declared.axis.Axis.the-variants.{Column, Row}
 use Rattle.text.specs.Split.{same}
-use Rattle.axis_tables.specs.declared.AxisState.{AxisState}
+use Rattle.axis_tables.specs.declared.AxisRoom.{AxisRoom}
 use Rattle.axis_tables.specs.Runs.{partOf, putBytes}
 use Rattle.axis_tables.specs.View.{noRoom}
 use Rattle.axis_tables.specs.Store.{nameWord, withAreas}
 use Rattle.axis_tables.specs.Reads.{namePlace}
+use Rattle.panel_tables.specs.declared.Room.{Room}
 use Rattle.panel_tables.specs.declared.Panel.{Panel}
 use Rattle.panel_tables.specs.declared.PanelPut.{PanelPut}
 use Rattle.panel_tables.specs.declared.AreaEdges.{AreaEdges}
@@ -61,18 +62,29 @@ pub record InAreas : Type 0 where
   pub words : List ℕ
   pub bytes : List ℕ
 
-abbrev pub raisedTo : AxisState → ℕ → AxisState
-raisedTo s end = withAreas s (max (s .areas) (end - 1))
+abbrev pub raisedTo : AxisRoom → ℕ → AxisRoom
+raisedTo r end = withAreas r (max (r .areas) (end - 1))
+
+-- both axes with the tracks that an area spans
+abbrev pub raised : Room → AreaEdges → Room
+raised r e =
+    record {
+      columns = raisedTo (r .columns) (e .columnend);
+      rows = raisedTo (r .rows) (e .rowend);
+      areabytes = r .areabytes;
+      placementbytes = r .placementbytes;
+    }
 
 abbrev pub withArea : Panel → AreaEdges → ℕ → Panel
 withArea p e length =
     record {
-      columns = raisedTo (p .columns) (e .columnend);
-      rows = raisedTo (p .rows) (e .rowend);
-      areas = p .areas + 1;
-      areabytes = p .areabytes + length;
-      placements = p .placements;
-      placementbytes = p .placementbytes;
+      grid = record { columns = p .grid .columns; rows = p .grid .rows; areas = p .grid .areas + 1; placements = p .grid .placements };
+      room = record {
+        columns = raised (p .room) e .columns;
+        rows = raised (p .room) e .rows;
+        areabytes = p .room .areabytes + length;
+        placementbytes = p .room .placementbytes;
+      };
     }
 
 abbrev pub put : ℕ → Panel → PanelPut
@@ -81,9 +93,9 @@ put fault p = record { fault = fault; panel = p }
 unfoldable pub putArea : Panel → List ℕ → List ℕ → List ℕ → AreaEdges → InAreas
 putArea p w b n e =
     cond (edgesOutside e) (record { answer = put 4 p; words = w; bytes = b })
-    (cond (noRoom 64 2048 (p .areas) (p .areabytes) (length n)) (record { answer = put 8 p; words = w; bytes = b })
+    (cond (noRoom 64 2048 (p .grid .areas) (p .room .areabytes) (length n)) (record { answer = put 8 p; words = w; bytes = b })
     (record {
       answer = put 0 (withArea p e (length n));
-      words = set (set w (p .areas) (edgesWord e)) (64 + p .areas) (nameWord 0 0 (p .areabytes) (length n));
-      bytes = putBytes b (p .areabytes) n;
+      words = set (set w (p .grid .areas) (edgesWord e)) (64 + p .grid .areas) (nameWord 0 0 (p .room .areabytes) (length n));
+      bytes = putBytes b (p .room .areabytes) n;
     }))

@@ -3,28 +3,47 @@ use Prim.Native.Nat.{ℕ}
 use mathlib.Core.List.{List}
 use Rattle.coordinates.specs.declared.axis.Axis.{Axis}
 use Rattle.coordinates.specs.declared.axis.Axis.the-variants.{Column, Row}
+use Rattle.axis_tables.specs.declared.AxisGrid.{AxisGrid}
+use Rattle.axis_tables.specs.declared.AxisRoom.{AxisRoom}
 use Rattle.axis_tables.specs.declared.AxisState.{AxisState}
 use Rattle.axis_tables.specs.declared.AxisReading.{AxisReading}
 use Rattle.axis_tables.specs.declared.AxisPut.{AxisPut}
 use Rattle.axis_tables.specs.View.{AxisView, AxisOutcome}
 use Rattle.axis_tables.specs.Written.{Held}
+use Rattle.panel_tables.specs.declared.Grid.{Grid}
+use Rattle.panel_tables.specs.declared.Room.{Room}
 use Rattle.panel_tables.specs.declared.Panel.{Panel}
 use Rattle.panel_tables.specs.declared.Reading.{Reading}
 use Rattle.panel_tables.specs.declared.PanelRead.{PanelRead}
 use Rattle.panel_tables.specs.View.{PanelView, PanelOutcome}
 use Rattle.panel_tables.specs.Written.{PanelHeld, PanelStepped}
 
+-- what answers on an axis, what edits it, and both
+abbrev pub gridIn : Grid → Axis → AxisGrid
+gridIn g Column = g .columns
+gridIn g Row = g .rows
+
+abbrev pub roomIn : Room → Axis → AxisRoom
+roomIn r Column = r .columns
+roomIn r Row = r .rows
+
 abbrev pub stateIn : Panel → Axis → AxisState
-stateIn p Column = p .columns
-stateIn p Row = p .rows
+stateIn p a = record { grid = gridIn (p .grid) a; room = roomIn (p .room) a }
 
 abbrev pub readingIn : Reading → Axis → AxisReading
 readingIn r Column = r .columns
 readingIn r Row = r .rows
 
+abbrev pub withGrid : Grid → Axis → AxisGrid → Grid
+withGrid g Column own = record { columns = own; rows = g .rows; areas = g .areas; placements = g .placements }
+withGrid g Row own = record { columns = g .columns; rows = own; areas = g .areas; placements = g .placements }
+
+abbrev pub withRoom : Room → Axis → AxisRoom → Room
+withRoom r Column own = record { columns = own; rows = r .rows; areabytes = r .areabytes; placementbytes = r .placementbytes }
+withRoom r Row own = record { columns = r .columns; rows = own; areabytes = r .areabytes; placementbytes = r .placementbytes }
+
 abbrev pub withState : Panel → Axis → AxisState → Panel
-withState p Column s = record { columns = s; rows = p .rows; areas = p .areas; areabytes = p .areabytes; placements = p .placements; placementbytes = p .placementbytes }
-withState p Row s = record { columns = p .columns; rows = s; areas = p .areas; areabytes = p .areabytes; placements = p .placements; placementbytes = p .placementbytes }
+withState p a s = record { grid = withGrid (p .grid) a (s .grid); room = withRoom (p .room) a (s .room) }
 
 abbrev pub withReading : Reading → Axis → AxisReading → Reading
 withReading r Column a = record { stage = r .stage; columns = a; rows = r .rows }

@@ -66,24 +66,27 @@ placementIn words bytes i =
 -- ---- `place`
 abbrev pub withPlacement : Panel → ℕ → Panel
 withPlacement p used =
-    record { columns = p .columns; rows = p .rows; areas = p .areas; areabytes = p .areabytes; placements = p .placements + 1; placementbytes = used }
+    record {
+      grid = record { columns = p .grid .columns; rows = p .grid .rows; areas = p .grid .areas; placements = p .grid .placements + 1 };
+      room = record { columns = p .room .columns; rows = p .room .rows; areabytes = p .room .areabytes; placementbytes = used };
+    }
 
 -- a kind or number outside its range is 4; a 257th placement is 8, and so are names without room
 unfoldable pub placementFault : Panel → PlacementEnd → ℕ → PlacementEnd → ℕ → ℕ
 placementFault p s m e n =
     cond (endOutside s) 4
     (cond (endOutside e) 4
-    (cond (noRoom 256 16384 (p .placements) (p .placementbytes) m) 8
-    (cond (noRoom 256 16384 (p .placements) (p .placementbytes + m) n) 8 0)))
+    (cond (noRoom 256 16384 (p .grid .placements) (p .room .placementbytes) m) 8
+    (cond (noRoom 256 16384 (p .grid .placements) (p .room .placementbytes + m) n) 8 0)))
 
 unfoldable pub putPlacement : Panel → List ℕ → List ℕ → Axis → PlacementEnd → List ℕ → PlacementEnd → List ℕ → InAreas
 putPlacement p w b axis s m e n =
     cond (eqb (placementFault p s (length m) e (length n)) 0)
     (record {
-      answer = put 0 (withPlacement p (p .placementbytes + length m + length n));
+      answer = put 0 (withPlacement p (p .room .placementbytes + length m + length n));
       words =
-          set (set w (p .placements + p .placements) (endWord (axisNumber axis) s (p .placementbytes) (length m)))
-          (p .placements + p .placements + 1) (endWord 0 e (p .placementbytes + length m) (length n));
-      bytes = putBytes (putBytes b (p .placementbytes) m) (p .placementbytes + length m) n;
+          set (set w (p .grid .placements + p .grid .placements) (endWord (axisNumber axis) s (p .room .placementbytes) (length m)))
+          (p .grid .placements + p .grid .placements + 1) (endWord 0 e (p .room .placementbytes + length m) (length n));
+      bytes = putBytes (putBytes b (p .room .placementbytes) m) (p .room .placementbytes + length m) n;
     })
     (record { answer = put (placementFault p s (length m) e (length n)) p; words = w; bytes = b })

@@ -7,8 +7,8 @@ use Rattle.coordinates.specs.declared.axis.Axis.the-variants.{Column, Row}
 use Rattle.axis_tables.specs.Lay.{pad, Region, region, lay}
 use Rattle.axis_tables.specs.Runs.{bytesOf, wordsFrom}
 use Rattle.axis_tables.specs.View.{AxisView, AxisOutcome}
-use Rattle.axis_tables.specs.Store.{nameWord, zeroState, zeroReading}
-use Rattle.axis_tables.specs.Written.{stateOf, readingOf, axisWords, namesStore}
+use Rattle.axis_tables.specs.Store.{nameWord, zeroAxisGrid, zeroAxisRoom, zeroReading}
+use Rattle.axis_tables.specs.Written.{gridOf, roomOf, readingOf, axisWords, namesStore}
 use Rattle.panel_tables.specs.declared.Panel.{Panel}
 use Rattle.panel_tables.specs.declared.Reading.{Reading}
 use Rattle.panel_tables.specs.View.{Area, End, Placement, PanelView, PanelOutcome}
@@ -17,7 +17,11 @@ use Rattle.panel_tables.specs.Placements.{axisNumber, endWord}
 use Rattle.panel_tables.specs.Regions.{axisWordsIn, areaWordsIn, placementWordsIn, marksIn, areaBytesIn, placementBytesIn}
 
 abbrev pub zeroPanel : Panel
-zeroPanel = record { columns = zeroState; rows = zeroState; areas = 0; areabytes = 0; placements = 0; placementbytes = 0 }
+zeroPanel =
+    record {
+      grid = record { columns = zeroAxisGrid; rows = zeroAxisGrid; areas = 0; placements = 0 };
+      room = record { columns = zeroAxisRoom; rows = zeroAxisRoom; areabytes = 0; placementbytes = 0 };
+    }
 
 abbrev pub zeroPanelReading : Reading
 zeroPanelReading = record { stage = 0; columns = zeroReading; rows = zeroReading }
@@ -72,12 +76,13 @@ placementStore ps = pad 16384 (placementBytesOf ps)
 abbrev pub panelOf : PanelView → Panel
 panelOf v =
     record {
-      columns = stateOf (v .columns);
-      rows = stateOf (v .rows);
-      areas = length (v .areas);
-      areabytes = length (areaBytesOf (v .areas));
-      placements = length (v .placements);
-      placementbytes = length (placementBytesOf (v .placements));
+      grid = record { columns = gridOf (v .columns); rows = gridOf (v .rows); areas = length (v .areas); placements = length (v .placements) };
+      room = record {
+        columns = roomOf (v .columns);
+        rows = roomOf (v .rows);
+        areabytes = length (areaBytesOf (v .areas));
+        placementbytes = length (placementBytesOf (v .placements));
+      };
     }
 
 abbrev pub panelReadingOf : PanelView → Reading

@@ -6,19 +6,34 @@ pub mod placement;
 pub mod region;
 pub mod state;
 
+use axis_tables::AxisGrid;
 use axis_tables::AxisReading;
-use axis_tables::AxisState;
+use axis_tables::AxisRoom;
 use coordinates::Axis;
 
-// A panel by value: its axes, how many areas and placements the tables hold, and how many bytes their names take.
+// What answers are read from, beside the tables: both axes, and how many areas and placements the tables hold.
+#[repr(C)]
+pub struct Grid {
+    pub columns: AxisGrid,
+    pub rows: AxisGrid,
+    pub areas: u32,
+    pub placements: u32,
+}
+
+// What only an edit reads: of both axes, and how many bytes the names of areas and of placements take.
+#[repr(C)]
+pub struct Room {
+    pub columns: AxisRoom,
+    pub rows: AxisRoom,
+    pub areabytes: u32,
+    pub placementbytes: u32,
+}
+
+// A panel by value: what answers, and what edits.
 #[repr(C)]
 pub struct Panel {
-    pub columns: AxisState,
-    pub rows: AxisState,
-    pub areas: u32,
-    pub areabytes: u32,
-    pub placements: u32,
-    pub placementbytes: u32,
+    pub grid: Grid,
+    pub room: Room,
 }
 
 // What only reading needs: the kind order (0 where nothing but `axis` records was read, 1 after an `area`, 2 after any other),

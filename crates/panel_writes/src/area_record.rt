@@ -2,8 +2,8 @@
 ghost use mathlib.Core.Path.{_≡_};
 ghost use Prim.Native.Nat.{_-_, max};
 ghost use Rattle.panel_tables.specs.View.{edgeOutside, edgesOutside};
-ghost use Rattle.panel_tables.specs.Areas.{edgesWord, InAreas, raisedTo, putArea};
-use axis_tables::AxisState;
+ghost use Rattle.panel_tables.specs.Areas.{edgesWord, InAreas, raised, raisedTo, putArea};
+use axis_tables::AxisRoom;
 use axis_tables::layout::name_word;
 use axis_tables::name::no_room;
 use axis_tables::name::put_bytes;
@@ -11,6 +11,7 @@ use axis_tables::write::set_word;
 use panel_tables::AreaEdges;
 use panel_tables::Panel;
 use panel_tables::PanelPut;
+use panel_tables::Room;
 use panel_tables::area::AREA_NAMES;
 use panel_tables::state::put;
 
@@ -72,11 +73,23 @@ fn larger(a: u32, b: u32) -> u32
 }
 
 // An axis with the tracks that an area spans.
-fn raised_to(state: AxisState, end: u32) -> AxisState
-    ensures { λ r. ⌜ r ≡ raisedTo state end ⌝ }
+fn raised_to(room: AxisRoom, end: u32) -> AxisRoom
+    ensures { λ r. ⌜ r ≡ raisedTo room end ⌝ }
 {
-    let mut after = state;
-    after.areas = larger(state.areas, tracks_before(end));
+    let mut after = room;
+    after.areas = larger(room.areas, tracks_before(end));
+    after
+}
+
+// Both axes with them.
+fn raised(room: Room, edges: AreaEdges) -> Room
+    ensures { λ r. ⌜ r ≡ raised room edges ⌝ }
+{
+    let columns = room.columns;
+    let rows = room.rows;
+    let mut after = room;
+    after.columns = raised_to(columns, edges.columnend);
+    after.rows = raised_to(rows, edges.rowend);
     after
 }
 
@@ -91,8 +104,8 @@ pub fn put_area(
     ensures { λ r. ⌜ record { answer = r; words = now (words .exit); bytes = now (bytes .exit) } ≡ putArea panel (now (words .entry)) (now (bytes .entry)) (now (name .entry)) edges ⌝ }
 {
     let length = name.len();
-    let areas = panel.areas;
-    let used = panel.areabytes;
+    let areas = panel.grid.areas;
+    let used = panel.room.areabytes;
     if edges_outside(edges) {
         return put(4, panel);
     }
@@ -104,12 +117,12 @@ pub fn put_area(
     set_word(words, areas as usize, edgesword);
     set_word(words, AREA_NAMES + areas as usize, nameword);
     put_bytes(bytes, used as usize, name);
-    let columns = panel.columns;
-    let rows = panel.rows;
+    let next = areas + 1;
+    let end = used + length as u32;
+    let room = panel.room;
     let mut after = panel;
-    after.columns = raised_to(columns, edges.columnend);
-    after.rows = raised_to(rows, edges.rowend);
-    after.areas = areas + 1;
-    after.areabytes = used + length as u32;
+    after.room = raised(room, edges);
+    after.grid.areas = next;
+    after.room.areabytes = end;
     put(0, after)
 }

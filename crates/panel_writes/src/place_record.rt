@@ -60,8 +60,8 @@ fn placement_fault(
 ) -> u32
     ensures { λ r. ⌜ r ≡ placementFault panel start first end last ⌝ }
 {
-    let placements = panel.placements;
-    let used = panel.placementbytes;
+    let placements = panel.grid.placements;
+    let used = panel.room.placementbytes;
     if end_outside(start) {
         return 4;
     }
@@ -94,9 +94,9 @@ pub fn put_placement(
     if fault != 0 {
         return put(fault, panel);
     }
-    let placements = panel.placements;
+    let placements = panel.grid.placements;
     let at = placements as usize;
-    let used = panel.placementbytes;
+    let used = panel.room.placementbytes;
     let then = used + first.len() as u32;
     let startword = end_word(axis_number(axis), start, used, first.len() as u64);
     let endword = end_word(0, end, then, last.len() as u64);
@@ -104,8 +104,10 @@ pub fn put_placement(
     set_word(words, at + at + 1, endword);
     put_bytes(bytes, used as usize, first);
     put_bytes(bytes, then as usize, last);
+    let next = placements + 1;
+    let end = then + last.len() as u32;
     let mut after = panel;
-    after.placements = placements + 1;
-    after.placementbytes = then + last.len() as u32;
+    after.grid.placements = next;
+    after.room.placementbytes = end;
     put(0, after)
 }

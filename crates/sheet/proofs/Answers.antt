@@ -62,8 +62,8 @@ answerIn h t =
         areaBytes = h .areaBytes;
         placements = h .placements;
         placementBytes = h .placementBytes;
-        columnStore = putBytes (t .columnStore) 0 (partOf (h .columnBytes) 0 (h .panel .columns .used));
-        rowStore = putBytes (t .rowStore) 0 (partOf (h .rowBytes) 0 (h .panel .rows .used));
+        columnStore = putBytes (t .columnStore) 0 (partOf (h .columnBytes) 0 (h .panel .room .columns .used));
+        rowStore = putBytes (t .rowStore) 0 (partOf (h .rowBytes) 0 (h .panel .room .rows .used));
       };
     }
 
@@ -143,7 +143,7 @@ module _ (s : List ℕ) (r : HeldRun) (e : r ≡ heldSheet s zeroHeld) (few : le
 
 -- what is answered from words and bytes, where nothing is refused
 pub answer-in : (p : Panel) (q : Reading) (v a c d w b cs rs : List ℕ)
-    → record { answer = record { refusal = noRefusal; panel = p }; tables = tablesIn v a (putBytes cs 0 (partOf c 0 (p .columns .used))) (putBytes rs 0 (partOf d 0 (p .rows .used))) }
+    → record { answer = record { refusal = noRefusal; panel = p }; tables = tablesIn v a (putBytes cs 0 (partOf c 0 (p .room .columns .used))) (putBytes rs 0 (partOf d 0 (p .room .rows .used))) }
     ≡ answerIn (panelHeldOf p q v a c d) (tablesIn w b cs rs)
 unfolding tablesIn panelHeldOf
 answer-in p q v a c d w b cs rs = refl

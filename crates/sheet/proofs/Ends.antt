@@ -12,6 +12,7 @@ use Rattle.axis_tables.specs.Runs.{partOf, withPart}
 use Rattle.axis_tables.proofs.Regions.{part-length}
 use Rattle.panel_tables.specs.declared.Panel.{Panel}
 use Rattle.panel_tables.specs.declared.Reading.{Reading}
+use Rattle.panel_tables.specs.Axes.{stateIn}
 use Rattle.panel_tables.specs.Regions.{panelWords, firstWord, axisWordsIn, areaWordsIn, placementWordsIn}
 use Rattle.panel_tables.proofs.Regions.{axis-lent, rows-stay, columns-stay, areas-stay, placements-stay}
 use Rattle.sheet_end.specs.End.{EndedAxis, endIn}
@@ -47,17 +48,17 @@ part-back a s r w l x e =
     ∙ ap {B = EndedAxis} (λ (u : List ℕ). record { answer = z .answer; words = u }) (axis-lent w (z .words) l (back-length a s r w l) a)
 
 -- ---- both
-module _ (p : Panel) (q : Reading) (w : List ℕ) (l : length w ≡ panelWords) (x y : EndedAxis) (m : length (x .words) ≡ panelWords) (e : x ≡ endedIn Column (p .columns) (q .columns) w) (d : y ≡ endedIn Row (p .rows) (q .rows) (x .words)) where
+module _ (p : Panel) (q : Reading) (w : List ℕ) (l : length w ≡ panelWords) (x y : EndedAxis) (m : length (x .words) ≡ panelWords) (e : x ≡ endedIn Column (stateIn p Column) (q .columns) w) (d : y ≡ endedIn Row (stateIn p Row) (q .rows) (x .words)) where
   -- the end of the columns leaves the rows, that of the rows the columns
   rows-kept : axisWordsIn Row (x .words) ≡ axisWordsIn Row w
   unfolding endedIn
-  rows-kept = ap (λ (u : EndedAxis). axisWordsIn Row (u .words)) e ∙ rows-stay w (endIn (p .columns) (q .columns) (axisWordsIn Column w) .words) l (back-length Column (p .columns) (q .columns) w l)
+  rows-kept = ap (λ (u : EndedAxis). axisWordsIn Row (u .words)) e ∙ rows-stay w (endIn (stateIn p Column) (q .columns) (axisWordsIn Column w) .words) l (back-length Column (stateIn p Column) (q .columns) w l)
 
   columns-kept : axisWordsIn Column (y .words) ≡ axisWordsIn Column (x .words)
   unfolding endedIn
   columns-kept =
       ap (λ (u : EndedAxis). axisWordsIn Column (u .words)) d
-      ∙ columns-stay (x .words) (endIn (p .rows) (q .rows) (axisWordsIn Row (x .words)) .words) m (back-length Row (p .rows) (q .rows) (x .words) m)
+      ∙ columns-stay (x .words) (endIn (stateIn p Row) (q .rows) (axisWordsIn Row (x .words)) .words) m (back-length Row (stateIn p Row) (q .rows) (x .words) m)
 
   pub both-ended : endedBy p (record { answer = x .answer; words = axisWordsIn Column (y .words) }) (record { answer = y .answer; words = axisWordsIn Row (y .words) })
       ≡ endedPanel p q (axisWordsIn Column w) (axisWordsIn Row w)
@@ -65,24 +66,24 @@ module _ (p : Panel) (q : Reading) (w : List ℕ) (l : length w ≡ panelWords) 
   both-ended =
       let a : EndedAxis = record { answer = x .answer; words = axisWordsIn Column (y .words) } in
       let b : EndedAxis = record { answer = y .answer; words = axisWordsIn Row (y .words) } in
-      let f : a ≡ endIn (p .columns) (q .columns) (axisWordsIn Column w) = ap {B = EndedAxis} (λ (u : List ℕ). record { answer = x .answer; words = u }) columns-kept ∙ part-back Column (p .columns) (q .columns) w l x e in
-      let g : b ≡ endIn (p .rows) (q .rows) (axisWordsIn Row w) = part-back Row (p .rows) (q .rows) (x .words) m y d ∙ ap (endIn (p .rows) (q .rows)) rows-kept in
+      let f : a ≡ endIn (stateIn p Column) (q .columns) (axisWordsIn Column w) = ap {B = EndedAxis} (λ (u : List ℕ). record { answer = x .answer; words = u }) columns-kept ∙ part-back Column (stateIn p Column) (q .columns) w l x e in
+      let g : b ≡ endIn (stateIn p Row) (q .rows) (axisWordsIn Row w) = part-back Row (stateIn p Row) (q .rows) (x .words) m y d ∙ ap (endIn (stateIn p Row) (q .rows)) rows-kept in
       ap (λ (u : EndedAxis). endedBy p u b) f
-      ∙ ap (endedBy p (endIn (p .columns) (q .columns) (axisWordsIn Column w))) g
+      ∙ ap (endedBy p (endIn (stateIn p Column) (q .columns) (axisWordsIn Column w))) g
 
   -- and both leave the areas and the placements
   pub areas-kept : areaWordsIn (y .words) ≡ areaWordsIn w
   unfolding endedIn
   areas-kept =
       ap (λ (u : EndedAxis). areaWordsIn (u .words)) d
-      ∙ areas-stay (x .words) (endIn (p .rows) (q .rows) (axisWordsIn Row (x .words)) .words) m (back-length Row (p .rows) (q .rows) (x .words) m) Row
+      ∙ areas-stay (x .words) (endIn (stateIn p Row) (q .rows) (axisWordsIn Row (x .words)) .words) m (back-length Row (stateIn p Row) (q .rows) (x .words) m) Row
       ∙ ap (λ (u : EndedAxis). areaWordsIn (u .words)) e
-      ∙ areas-stay w (endIn (p .columns) (q .columns) (axisWordsIn Column w) .words) l (back-length Column (p .columns) (q .columns) w l) Column
+      ∙ areas-stay w (endIn (stateIn p Column) (q .columns) (axisWordsIn Column w) .words) l (back-length Column (stateIn p Column) (q .columns) w l) Column
 
   pub placements-kept : placementWordsIn (y .words) ≡ placementWordsIn w
   unfolding endedIn
   placements-kept =
       ap (λ (u : EndedAxis). placementWordsIn (u .words)) d
-      ∙ placements-stay (x .words) (endIn (p .rows) (q .rows) (axisWordsIn Row (x .words)) .words) m (back-length Row (p .rows) (q .rows) (x .words) m) Row
+      ∙ placements-stay (x .words) (endIn (stateIn p Row) (q .rows) (axisWordsIn Row (x .words)) .words) m (back-length Row (stateIn p Row) (q .rows) (x .words) m) Row
       ∙ ap (λ (u : EndedAxis). placementWordsIn (u .words)) e
-      ∙ placements-stay w (endIn (p .columns) (q .columns) (axisWordsIn Column w) .words) l (back-length Column (p .columns) (q .columns) w l) Column
+      ∙ placements-stay w (endIn (stateIn p Column) (q .columns) (axisWordsIn Column w) .words) l (back-length Column (stateIn p Column) (q .columns) w l) Column

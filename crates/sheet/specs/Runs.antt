@@ -6,9 +6,12 @@ use lib.Dec.{eqb}
 use lib.ListN.{length}
 use Rattle.text.specs.Split.{split}
 use Rattle.sheet_forms.specs.Faults.{firstOf}
+use Rattle.coordinates.specs.declared.axis.Axis.the-variants.{Column, Row}
 use Rattle.panel_tables.specs.declared.Panel.{Panel}
 use Rattle.panel_tables.specs.declared.Reading.{Reading}
+use Rattle.panel_tables.specs.Axes.{stateIn}
 use Rattle.panel_tables.specs.Written.{PanelHeld, PanelStepped}
+use Rattle.sheet_rules.specs.Panels.{withAxes}
 use Rattle.sheet_faults.specs.Lines.{lineIn}
 use Rattle.sheet_end.specs.End.{EndedAxis, endIn}
 
@@ -39,31 +42,19 @@ pub record EndedPanel : Type 0 where
   pub columns : List ℕ
   pub rows : List ℕ
 
--- a panel with its axes as they end
-abbrev pub withAxes : Panel → EndedAxis → EndedAxis → Panel
-withAxes p columns rows =
-    record {
-      columns = columns .answer .state;
-      rows = rows .answer .state;
-      areas = p .areas;
-      areabytes = p .areabytes;
-      placements = p .placements;
-      placementbytes = p .placementbytes;
-    }
-
 -- of the faults of the two axes the one that comes first
 abbrev pub endedBy : Panel → EndedAxis → EndedAxis → EndedPanel
 endedBy p columns rows =
     record {
       fault = firstOf (columns .answer .fault) (rows .answer .fault);
-      panel = withAxes p columns rows;
+      panel = withAxes p (columns .answer .state) (rows .answer .state);
       columns = columns .words;
       rows = rows .words;
     }
 
 -- both axes end
 unfoldable pub endedPanel : Panel → Reading → List ℕ → List ℕ → EndedPanel
-endedPanel p r columns rows = endedBy p (endIn (p .columns) (r .columns) columns) (endIn (p .rows) (r .rows) rows)
+endedPanel p r columns rows = endedBy p (endIn (stateIn p Column) (r .columns) columns) (endIn (stateIn p Row) (r .rows) rows)
 
 -- ---- the sheet
 

@@ -17,6 +17,8 @@ use axis_tables::layout::AXIS_WORDS;
 use coordinates::Axis;
 use panel_tables::Panel;
 use panel_tables::Reading;
+use panel_tables::axis::state_in;
+use panel_tables::axis::with_state;
 use panel_tables::region::PANEL_BYTES;
 use panel_tables::region::PANEL_WORDS;
 use panel_tables::region::first_word;
@@ -39,20 +41,17 @@ pub(crate) fn end_panel(panel: Panel, reading: Reading, words: &mut [u64; PANEL_
     ensures { λ r. ⌜ record { fault = r .fault; panel = r .panel; columns = axisWordsIn Column (now (words .exit)); rows = axisWordsIn Row (now (words .exit)) } ≡ endedPanel panel reading (axisWordsIn Column (now (words .entry))) (axisWordsIn Row (now (words .entry))) ⌝ }
     ensures others { λ _. ⌜ (areaWordsIn (now (words .exit)) ≡ areaWordsIn (now (words .entry))) × (placementWordsIn (now (words .exit)) ≡ placementWordsIn (now (words .entry))) ⌝ }
 {
-    let columnstate = panel.columns;
-    let rowstate = panel.rows;
+    let columnstate = state_in(panel, Axis::Column);
+    let rowstate = state_in(panel, Axis::Row);
     let columnreading = reading.columns;
     let rowreading = reading.rows;
     let columnend = end_in(Axis::Column, columnstate, columnreading, words);
     let rowend = end_in(Axis::Row, rowstate, rowreading, words);
-    let columnsized = columnend.state;
-    let rowsized = rowend.state;
-    let mut after = panel;
-    after.columns = columnsized;
-    after.rows = rowsized;
+    let columnsended = with_state(panel, Axis::Column, columnend.state);
+    let ended = with_state(columnsended, Axis::Row, rowend.state);
     PanelEnd {
         fault: first_fault(columnend.fault, rowend.fault),
-        panel: after,
+        panel: ended,
     }
 }
 

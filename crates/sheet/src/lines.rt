@@ -7,12 +7,26 @@ ghost use Rattle.panel_tables.specs.Written.{zeroPanel, zeroPanelReading, panel
 ghost use Rattle.sheet.specs.Runs.{heldRun};
 use crate::SheetRun;
 use axis_tables::layout::AXIS_BYTES;
+use panel_tables::Panel;
+use panel_tables::Reading;
 use panel_tables::region::PANEL_BYTES;
 use panel_tables::region::PANEL_WORDS;
 use panel_tables::state::zero_panel;
 use panel_tables::state::zero_panel_reading;
 use sheet_step::read_line;
 use text::split::find;
+
+// Where reading stops.
+fn stopped(fault: u32, line: u32, panel: Panel, reading: Reading) -> SheetRun
+    ensures { λ r. ⌜ r ≡ record { fault = fault; line = line; panel = panel; reading = reading } ⌝ }
+{
+    SheetRun {
+        fault,
+        line,
+        panel,
+        reading,
+    }
+}
 
 // Line after line into the arrays, until one is refused.
 pub(crate) fn read_lines(
@@ -32,12 +46,7 @@ pub(crate) fn read_lines(
     while at < sheet.len() {
         let end = find(sheet, at, 10);
         if end == sheet.len() {
-            return SheetRun {
-                fault: 1,
-                line,
-                panel,
-                reading,
-            };
+            return stopped(1, line, panel, reading);
         }
         let read = read_line(
             panel,
@@ -52,20 +61,10 @@ pub(crate) fn read_lines(
         reading = read.reading;
         let fault = read.fault;
         if fault != 0 {
-            return SheetRun {
-                fault,
-                line,
-                panel,
-                reading,
-            };
+            return stopped(fault, line, panel, reading);
         }
         at = end + 1;
         line += 1;
     }
-    SheetRun {
-        fault: 0,
-        line,
-        panel,
-        reading,
-    }
+    stopped(0, line, panel, reading)
 }

@@ -71,8 +71,8 @@ pub fn read_sheet(
     }
     *words = panelwords;
     *bytes = panelbytes;
-    copy_names(columnstore, &columnbytes, run.panel.columns.used);
-    copy_names(rowstore, &rowbytes, run.panel.rows.used);
+    copy_names(columnstore, &columnbytes, run.panel.room.columns.used);
+    copy_names(rowstore, &rowbytes, run.panel.room.rows.used);
     let panel = run.panel;
     SheetAnswer {
         refusal: no_refusal(),

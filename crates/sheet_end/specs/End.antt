@@ -15,6 +15,7 @@ use Rattle.template_rules.specs.Explicit.{explicitSizeOf}
 use Rattle.template_rules.specs.Template.{templateOf}
 use Rattle.name_entries.specs.declared.NameEntry.{NameEntry}
 use Rattle.name_template.specs.Writing.{writtenEntries, entryWord}
+use Rattle.axis_tables.specs.declared.AxisSpace.{AxisSpace}
 use Rattle.axis_tables.specs.declared.AxisState.{AxisState}
 use Rattle.axis_tables.specs.declared.AxisReading.{AxisReading}
 use Rattle.axis_tables.specs.Runs.{partOf}
@@ -22,24 +23,24 @@ use Rattle.sheet_rules.specs.Panels.{withSize}
 use Rattle.sheet_end.specs.declared.AxisEnd.{AxisEnd}
 
 -- "inner size or `-`"
-abbrev pub innerIn : AxisState → InnerSize
+abbrev pub innerIn : AxisSpace → InnerSize
 innerIn s = cond (eqb (s .definite) 0) Indefinite (Definite (floatUpTo largestBits (s .inner)))
 
 -- rule 0 is `max`, 1 is `min`
-abbrev pub strategyIn : AxisState → AutoRepeatStrategy
+abbrev pub strategyIn : AxisSpace → AutoRepeatStrategy
 strategyIn s = cond (eqb (s .rule) 0) MaxRepetitionsThatDoNotOverflow MinRepetitionsThatDoOverflow
 
 -- the words of the components, and of the name records
 abbrev pub componentsIn : AxisState → List ℕ → List ℕ
-componentsIn s w = partOf w 0 (s .components)
+componentsIn s w = partOf w 0 (s .room .template .components)
 
 abbrev pub namesIn : AxisState → List ℕ → List ℕ
-namesIn s w = partOf w 4288 (s .names)
+namesIn s w = partOf w 4288 (s .room .names)
 
 -- layer 3
 unfoldable pub sizeIn : AxisState → List ℕ → ExplicitSize
 sizeIn s w =
-    explicitSizeOf (innerIn s) (strategyIn s) (sizingOf (s .gap)) (s .areas) (templateOf (componentsIn s w) (partOf w 64 (s .tracks)) (partOf w 2112 (s .tracks)))
+    explicitSizeOf (innerIn (s .grid .space)) (strategyIn (s .grid .space)) (sizingOf (s .grid .space .gap)) (s .room .areas) (templateOf (componentsIn s w) (partOf w 64 (s .room .template .tracks)) (partOf w 2112 (s .room .template .tracks)))
 
 -- layer 4: the name entries, with the repetitions found
 unfoldable pub entriesIn : AxisState → List ℕ → List NameEntry

@@ -1,5 +1,6 @@
 // After the last line of a sheet: the explicit size of an axis and its name entries, written out.
 ghost use mathlib.Core.Path.{_≡_};
+ghost use Rattle.sheet_rules.specs.Panels.{withSize};
 ghost use Rattle.sheet_end.specs.End.{endIn};
 ghost use Rattle.sheet_end.specs.Steps.{faultBy};
 
@@ -11,6 +12,7 @@ use crate::written::count_entries;
 use crate::written::put_entries;
 use axis_tables::AxisReading;
 use axis_tables::AxisState;
+use template_rules::ExplicitSize;
 
 // An axis after the last line: the number of its refusal, 0 where there is none, and its state, on a refusal as it came.
 pub struct AxisEnd {
@@ -34,6 +36,19 @@ fn end_fault(kind: u32, refused: u32, entries: u32) -> u32
     0
 }
 
+// An axis at the end of its sheet: the template counts as they are written, with the entries and the explicit size.
+fn with_size(state: AxisState, entries: u32, size: ExplicitSize) -> AxisState
+    ensures { λ r. ⌜ r ≡ withSize state entries (size .repetitions) (size .explicit) ⌝ }
+{
+    let mut after = state;
+    after.grid.template.components = state.room.template.components;
+    after.grid.template.tracks = state.room.template.tracks;
+    after.grid.entries = entries;
+    after.grid.size.repetitions = size.repetitions;
+    after.grid.size.explicit = size.explicit;
+    after
+}
+
 // The line after the last, for one axis: its size is put into its state and its entries into their region of the words.
 // 1: a repeat is open; 4: an explicit count above 10,000; 8: more than 4,096 entries. A refused axis stays as it came.
 pub fn end_axis(state: AxisState, reading: AxisReading, words: &mut [u64]) -> AxisEnd
@@ -47,12 +62,6 @@ pub fn end_axis(state: AxisState, reading: AxisReading, words: &mut [u64]) -> Ax
         return AxisEnd { fault, state };
     }
     put_entries(state, repetitions, entries, words);
-    let mut after = state;
-    after.entries = entries;
-    after.repetitions = repetitions;
-    after.explicit = size.explicit;
-    AxisEnd {
-        fault: 0,
-        state: after,
-    }
+    let state = with_size(state, entries, size);
+    AxisEnd { fault: 0, state }
 }

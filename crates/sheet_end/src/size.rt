@@ -1,6 +1,7 @@
 // The explicit size of an axis, from its state and words.
 ghost use mathlib.Core.Path.{_≡_};
 ghost use Rattle.sheet_end.specs.End.{innerIn, strategyIn, sizeIn};
+use axis_tables::AxisSpace;
 use axis_tables::AxisState;
 use axis_tables::layout::MAXIMUMS;
 use axis_tables::layout::MINIMUMS;
@@ -13,20 +14,20 @@ use template_rules::ExplicitSize;
 use template_rules::InnerSize;
 
 // The inner size, where the axis has one.
-pub fn inner_in(state: AxisState) -> InnerSize
-    ensures { λ r. ⌜ r ≡ innerIn state ⌝ }
+pub fn inner_in(space: AxisSpace) -> InnerSize
+    ensures { λ r. ⌜ r ≡ innerIn space ⌝ }
 {
-    if state.definite == 0 {
+    if space.definite == 0 {
         return InnerSize::Indefinite;
     }
-    InnerSize::Definite(length_of(state.inner))
+    InnerSize::Definite(length_of(space.inner))
 }
 
 // Which repetitions the axis asks for.
-pub fn strategy_in(state: AxisState) -> AutoRepeatStrategy
-    ensures { λ r. ⌜ r ≡ strategyIn state ⌝ }
+pub fn strategy_in(space: AxisSpace) -> AutoRepeatStrategy
+    ensures { λ r. ⌜ r ≡ strategyIn space ⌝ }
 {
-    if state.rule == 0 {
+    if space.rule == 0 {
         return AutoRepeatStrategy::MaxRepetitionsThatDoNotOverflow;
     }
     AutoRepeatStrategy::MinRepetitionsThatDoOverflow
@@ -36,13 +37,15 @@ pub fn strategy_in(state: AxisState) -> AutoRepeatStrategy
 pub fn size_in(state: AxisState, words: &[u64]) -> ExplicitSize
     ensures { λ r. ⌜ r ≡ sizeIn state (now (words .entry)) ⌝ }
 {
+    let grid = state.grid;
+    let space = grid.space;
     compute_explicit_grid_size_in_axis(
-        words_part(words, 0, state.components),
-        words_part(words, MINIMUMS, state.tracks),
-        words_part(words, MAXIMUMS, state.tracks),
-        inner_in(state),
-        strategy_in(state),
-        sizing_of(state.gap),
-        state.areas,
+        words_part(words, 0, state.room.template.components),
+        words_part(words, MINIMUMS, state.room.template.tracks),
+        words_part(words, MAXIMUMS, state.room.template.tracks),
+        inner_in(space),
+        strategy_in(space),
+        sizing_of(space.gap),
+        state.room.areas,
     )
 }

@@ -20,8 +20,8 @@ pub fn count_entries(state: AxisState, repetitions: u32, words: &[u64]) -> u32
     ensures { λ r. ⌜ r ≡ min 4097 (length (writtenEntries (namesIn state (now (words .entry))) (componentsIn state (now (words .entry))) repetitions)) ⌝ }
 {
     count_written_names(
-        words_part(words, NAMES, state.names),
-        words_part(words, 0, state.components),
+        words_part(words, NAMES, state.room.names),
+        words_part(words, 0, state.room.template.components),
         repetitions,
     )
 }
@@ -36,8 +36,8 @@ fn write_entries(
     ensures { λ r. ⌜ record { answer = r; entries = now (entries .exit) } ≡ namesWritten (namesIn state (now (words .entry))) (componentsIn state (now (words .entry))) repetitions (now (entries .entry)) ⌝ }
 {
     write_names(
-        words_part(words, NAMES, state.names),
-        words_part(words, 0, state.components),
+        words_part(words, NAMES, state.room.names),
+        words_part(words, 0, state.room.template.components),
         repetitions,
         entries,
     )

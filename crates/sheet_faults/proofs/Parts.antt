@@ -45,7 +45,7 @@ module _ (h : PanelHeld) (fs : List (List ℕ)) where
   part-step (Place a s e) = refl
 
   -- twice looks at the reading, the areas and the name alone
-  twice-of : (r : Record) → twiceIn h fs r ≡ twiceOf (h .panel .areas) (h .reading) (h .areas) (h .areaBytes) (firstName r fs) r
+  twice-of : (r : Record) → twiceIn h fs r ≡ twiceOf (h .panel .grid .areas) (h .reading) (h .areas) (h .areaBytes) (firstName r fs) r
   twice-of (Fault n) = refl
   twice-of (AxisLine a) = refl
   twice-of (Area a) = refl
@@ -59,7 +59,7 @@ module _ (h : PanelHeld) (fs : List (List ℕ)) where
   twice-of (Place a s e) = refl
 
   -- and so do the faults before
-  before-of : (r : Record) → faultBefore h fs r ≡ beforeOf (h .panel .areas) (h .reading) (h .areas) (h .areaBytes) (firstName r fs) r
+  before-of : (r : Record) → faultBefore h fs r ≡ beforeOf (h .panel .grid .areas) (h .reading) (h .areas) (h .areaBytes) (firstName r fs) r
   unfolding faultBefore
   before-of r = ap (λ (n : ℕ). firstOf (faultOf r) (firstOf n (lateIn (h .reading .stage) r))) (twice-of r)
 
@@ -69,12 +69,12 @@ module _ (h : PanelHeld) (fs : List (List ℕ)) where
 
   -- a line from its record and its names, its fault before, what it wrote and its place in the kind order
   pub line-by : {r : Record} {first second : List ℕ} {x : PanelStepped} {before stage fault : ℕ} → r ≡ recordOf fs → first ≡ firstName r fs → second ≡ secondName r fs
-      → before ≡ beforeOf (h .panel .areas) (h .reading) (h .areas) (h .areaBytes) first r → x ≡ namedStep h first second r
+      → before ≡ beforeOf (h .panel .grid .areas) (h .reading) (h .areas) (h .areaBytes) first r → x ≡ namedStep h first second r
       → stage ≡ stageIn (h .reading .stage) r → fault ≡ firstOf before (x .fault) → record { fault = fault; held = atStage stage (x .held) } ≡ lineIn h fs
   unfolding lineIn recordIn
   line-by {r} {first} {second} {x} {before} {stage} {fault} said one two earlier wrote reached top =
       ap (λ (n : ℕ). record { fault = n; held = atStage stage (x .held) }) top
-      ∙ ap (λ (n : ℕ). made n stage x) (earlier ∙ ap (λ (n : List ℕ). beforeOf (h .panel .areas) (h .reading) (h .areas) (h .areaBytes) n r) one ∙ sym (before-of r))
+      ∙ ap (λ (n : ℕ). made n stage x) (earlier ∙ ap (λ (n : List ℕ). beforeOf (h .panel .grid .areas) (h .reading) (h .areas) (h .areaBytes) n r) one ∙ sym (before-of r))
       ∙ ap (λ (n : ℕ). made (faultBefore h fs r) n x) reached
       ∙ ap (made (faultBefore h fs r) (stageIn (h .reading .stage) r)) (wrote ∙ ap₂ (λ (m : List ℕ) (n : List ℕ). namedStep h m n r) one two ∙ sym (part-step r))
       ∙ ap (recordIn h fs) said

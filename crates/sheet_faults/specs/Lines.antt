@@ -18,7 +18,7 @@ use Rattle.sheet_rules.specs.Steps.{heldStep}
 abbrev pub twiceIn : PanelHeld → List (List ℕ) → Record → ℕ
 twiceIn h fs (Fault n) = 0
 twiceIn h fs (AxisLine a) = cond (eqb (readingIn (h .reading) (a .axis) .seen) 0) 0 6
-twiceIn h fs (Area a) = cond (hasAreaIn (h .panel .areas) (h .areas) (h .areaBytes) (at fs 1)) 6 0
+twiceIn h fs (Area a) = cond (hasAreaIn (h .panel .grid .areas) (h .areas) (h .areaBytes) (at fs 1)) 6 0
 twiceIn h fs (Name a) = 0
 twiceIn h fs (Track a min max) = 0
 twiceIn h fs (Repeat a n) = 0

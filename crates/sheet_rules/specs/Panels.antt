@@ -9,6 +9,7 @@ use Rattle.axis_tables.specs.View.{AxisView, nameOf, axisNames, axisBytes}
 use Rattle.axis_tables.specs.Written.{componentsFrom, recordWord, stateOf, wordsWith}
 use Rattle.panel_tables.specs.declared.Panel.{Panel}
 use Rattle.panel_tables.specs.View.{PanelView}
+use Rattle.panel_tables.specs.Axes.{withState}
 use Rattle.coordinates.specs.declared.axis.Axis.the-variants.{Column, Row}
 use Rattle.panel_tables.specs.Regions.{axisWordsIn, areaWordsIn, placementWordsIn, marksIn, areaBytesIn, placementBytesIn}
 use Rattle.panel_tables.specs.Written.{panelOf, areaWords, areaStore, placementWords, placementStore}
@@ -24,25 +25,18 @@ nameWords v = wordsFrom recordWord nameOf 0 (axisNames v)
 unfoldable pub entryWords : AxisView → List ℕ
 entryWords v = map entryWord (writtenEntries (nameWords v) (componentsFrom 0 (v .template)) (sizeOf v .repetitions))
 
--- a state with its entries, repetitions and explicit count
+-- a state at the end of its sheet: the template counts as written, with the entries and the explicit size
 abbrev pub withSize : AxisState → ℕ → ℕ → ℕ → AxisState
 withSize s entries repetitions explicit =
     record {
-      definite = s .definite;
-      inner = s .inner;
-      rule = s .rule;
-      gap = s .gap;
-      components = s .components;
-      tracks = s .tracks;
-      spares = s .spares;
-      names = s .names;
-      used = s .used;
-      negative = s .negative;
-      positive = s .positive;
-      entries = entries;
-      repetitions = repetitions;
-      explicit = explicit;
-      areas = s .areas;
+      grid = record {
+        space = s .grid .space;
+        template = s .room .template;
+        implicit = s .grid .implicit;
+        entries = entries;
+        size = record { repetitions = repetitions; explicit = explicit };
+      };
+      room = s .room;
     }
 
 unfoldable pub sizedState : AxisView → AxisState
@@ -50,16 +44,12 @@ sizedState v = withSize (stateOf v) (length (entryWords v)) (sizeOf v .repetitio
 
 -- ---- the panel
 
+-- a panel whose axes are these
+abbrev pub withAxes : Panel → AxisState → AxisState → Panel
+withAxes p columns rows = withState (withState p Column columns) Row rows
+
 unfoldable pub sizedPanel : PanelView → Panel
-sizedPanel v =
-    record {
-      columns = sizedState (v .columns);
-      rows = sizedState (v .rows);
-      areas = panelOf v .areas;
-      areabytes = panelOf v .areabytes;
-      placements = panelOf v .placements;
-      placementbytes = panelOf v .placementbytes;
-    }
+sizedPanel v = withAxes (panelOf v) (sizedState (v .columns)) (sizedState (v .rows))
 
 -- everything that is lent with a panel: for each axis its words, its item marks and its line-name store; the areas and the placements with their bytes
 pub record Tables : Type 0 where

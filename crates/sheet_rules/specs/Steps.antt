@@ -17,8 +17,8 @@ use Rattle.sheet_rules.specs.Lines.{bit, edgesOf, placedEnd}
 
 -- what is held of an axis
 abbrev pub axisHeld : PanelHeld → Axis → Held
-axisHeld h Column = record { answer = put 0 (h .panel .columns) (h .reading .columns); words = h .columns; marks = h .columnMarks; bytes = h .columnBytes }
-axisHeld h Row = record { answer = put 0 (h .panel .rows) (h .reading .rows); words = h .rows; marks = h .rowMarks; bytes = h .rowBytes }
+axisHeld h Column = record { answer = put 0 (stateIn (h .panel) Column) (h .reading .columns); words = h .columns; marks = h .columnMarks; bytes = h .columnBytes }
+axisHeld h Row = record { answer = put 0 (stateIn (h .panel) Row) (h .reading .rows); words = h .rows; marks = h .rowMarks; bytes = h .rowBytes }
 
 -- an axis with an answer, and its words, marks or names
 abbrev pub answered : Held → AxisPut → Held

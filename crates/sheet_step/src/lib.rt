@@ -47,10 +47,10 @@ fn fault_here(
     name: &[u8],
     said: Record,
 ) -> u32
-    ensures { λ r. ⌜ r ≡ beforeOf (panel .areas) reading (areaWordsIn (now (words .entry))) (areaBytesIn (now (bytes .entry))) (now (name .entry)) said ⌝ }
+    ensures { λ r. ⌜ r ≡ beforeOf (panel .grid .areas) reading (areaWordsIn (now (words .entry))) (areaBytesIn (now (bytes .entry))) (now (name .entry)) said ⌝ }
 {
     fault_before(
-        panel.areas,
+        panel.grid.areas,
         reading,
         area_words(words),
         area_bytes(bytes),

@@ -5,7 +5,7 @@ use panel_answer::AnswerLine;
 use panel_answer::line::is_end;
 use panel_answer::line::next_line;
 use panel_answer::line::put_line;
-use panel_tables::Panel;
+use panel_tables::Grid;
 use panel_tables::region::PANEL_BYTES;
 use panel_tables::region::PANEL_WORDS;
 
@@ -24,7 +24,7 @@ fn is_listed(at: AnswerLine, cut: bool) -> bool {
 fn seen_line(
     expected: &[u8],
     seen: usize,
-    panel: Panel,
+    grid: Grid,
     words: &[u64; PANEL_WORDS],
     bytes: &[u8; PANEL_BYTES],
     columnstore: &[u8],
@@ -32,7 +32,7 @@ fn seen_line(
     at: AnswerLine,
 ) -> usize {
     let mut line = [0u8; 128];
-    let count = put_line(&mut line, panel, words, bytes, columnstore, rowstore, at);
+    let count = put_line(&mut line, grid, words, bytes, columnstore, rowstore, at);
     seen_part(expected, seen, &line[..count])
 }
 
@@ -41,7 +41,7 @@ pub fn seen_answer(
     expected: &[u8],
     seen: usize,
     cut: bool,
-    panel: Panel,
+    grid: Grid,
     words: &[u64; PANEL_WORDS],
     bytes: &[u8; PANEL_BYTES],
     columnstore: &[u8],
@@ -58,7 +58,7 @@ pub fn seen_answer(
             last = seen_line(
                 expected,
                 last,
-                panel,
+                grid,
                 words,
                 bytes,
                 columnstore,
@@ -66,7 +66,7 @@ pub fn seen_answer(
                 at,
             );
         }
-        at = next_line(panel, words, bytes, at);
+        at = next_line(grid, words, bytes, at);
         turns += 1;
     }
     last

@@ -107,12 +107,13 @@ fn seen_accepted(
     rowstore: &mut [u8],
 ) -> usize {
     let called = call_lines(input, block, expected, panel, words, columnstore, rowstore);
-    let held = called.panel;
+    let after = called.panel;
+    let grid = after.grid;
     let seen = seen_answer(
         expected,
         called.seen,
         block.cut,
-        held,
+        grid,
         words,
         bytes,
         columnstore,
@@ -122,7 +123,7 @@ fn seen_accepted(
         expected,
         seen,
         block.cut,
-        held,
+        grid,
         words,
         columnstore,
         rowstore,

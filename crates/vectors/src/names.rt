@@ -5,7 +5,7 @@ use crate::expected::seen_part;
 use coordinates::Axis;
 use panel_calls::size::line_count;
 use panel_names::naming::line_name;
-use panel_tables::Panel;
+use panel_tables::Grid;
 use panel_tables::region::PANEL_WORDS;
 
 // The word and the axis.
@@ -20,7 +20,7 @@ fn seen_axis(expected: &[u8], seen: usize, axis: Axis) -> usize {
 fn seen_list<'a>(
     expected: &[u8],
     seen: usize,
-    panel: Panel,
+    grid: Grid,
     words: &[u64; PANEL_WORDS],
     columnstore: &'a [u8],
     rowstore: &'a [u8],
@@ -30,7 +30,7 @@ fn seen_list<'a>(
     let mut last = seen;
     let mut place: u32 = 0;
     while place < 4096 {
-        let name = line_name(panel, words, columnstore, rowstore, axis, line, place);
+        let name = line_name(grid, words, columnstore, rowstore, axis, line, place);
         if name.len() == 0 {
             return last;
         }
@@ -43,14 +43,14 @@ fn seen_list<'a>(
 // Whether the expected text has the list of a line: a cut text has none that is empty.
 fn is_listed<'a>(
     cut: bool,
-    panel: Panel,
+    grid: Grid,
     words: &[u64; PANEL_WORDS],
     columnstore: &'a [u8],
     rowstore: &'a [u8],
     axis: Axis,
     line: u32,
 ) -> bool {
-    let first = line_name(panel, words, columnstore, rowstore, axis, line, 0);
+    let first = line_name(grid, words, columnstore, rowstore, axis, line, 0);
     !(cut & (first.len() == 0))
 }
 
@@ -58,7 +58,7 @@ fn is_listed<'a>(
 fn seen_line<'a>(
     expected: &[u8],
     seen: usize,
-    panel: Panel,
+    grid: Grid,
     words: &[u64; PANEL_WORDS],
     columnstore: &'a [u8],
     rowstore: &'a [u8],
@@ -69,7 +69,7 @@ fn seen_line<'a>(
     let last = seen_list(
         expected,
         last,
-        panel,
+        grid,
         words,
         columnstore,
         rowstore,
@@ -80,10 +80,10 @@ fn seen_line<'a>(
 }
 
 // How many lists an axis has: at most 10,001.
-fn list_count(panel: Panel, axis: Axis) -> u32
+fn list_count(grid: Grid, axis: Axis) -> u32
     ensures { λ r. ⌜ r ≤ 10001 ⌝ }
 {
-    let count = line_count(panel, axis);
+    let count = line_count(grid, axis);
     if count < 10001 {
         return count as u32;
     }
@@ -95,22 +95,22 @@ fn seen_lists<'a>(
     expected: &[u8],
     seen: usize,
     cut: bool,
-    panel: Panel,
+    grid: Grid,
     words: &[u64; PANEL_WORDS],
     columnstore: &'a [u8],
     rowstore: &'a [u8],
     axis: Axis,
 ) -> usize {
-    let count = list_count(panel, axis);
+    let count = list_count(grid, axis);
     let mut last = seen;
     let mut line: u32 = 0;
     while line < count {
         line += 1;
-        if is_listed(cut, panel, words, columnstore, rowstore, axis, line) {
+        if is_listed(cut, grid, words, columnstore, rowstore, axis, line) {
             last = seen_line(
                 expected,
                 last,
-                panel,
+                grid,
                 words,
                 columnstore,
                 rowstore,
@@ -127,7 +127,7 @@ pub fn seen_names<'a>(
     expected: &[u8],
     seen: usize,
     cut: bool,
-    panel: Panel,
+    grid: Grid,
     words: &[u64; PANEL_WORDS],
     columnstore: &'a [u8],
     rowstore: &'a [u8],
@@ -136,7 +136,7 @@ pub fn seen_names<'a>(
         expected,
         seen,
         cut,
-        panel,
+        grid,
         words,
         columnstore,
         rowstore,
@@ -146,7 +146,7 @@ pub fn seen_names<'a>(
         expected,
         last,
         cut,
-        panel,
+        grid,
         words,
         columnstore,
         rowstore,

@@ -19,7 +19,7 @@ uncounted-requires c κs = search needs
 
 returns : tie.Need-returns
 returns c = let a = c .before .before .before .before .before .before .args in
-    lists-refused (a .state) (axisWordsIn (a .axis) (a .words .now)) (a .store .now) (a .bytes) (a .out .now) (c .before .before .before .entries-of .result .now) (rw (c .before .before .before .before .axis-words .ensures) at (c .before .before .before .entries-of .ensures)) (c .before .before .lists-refusal .result) (c .before .before .lists-refusal .ensures)
+    lists-refused (a .grid) (axisWordsIn (a .axis) (a .words .now)) (a .store .now) (a .bytes) (a .out .now) (c .before .before .before .entries-of .result .now) (rw (c .before .before .before .before .axis-words .ensures) at (c .before .before .before .entries-of .ensures)) (c .before .before .lists-refusal .result) (c .before .before .lists-refusal .ensures)
     (c .uncounted .result) (c .before .if1 .taken) (c .uncounted .ensures)
 
 detailed-line-names-requires : tie.Need-detailed-line-names-requires
@@ -30,9 +30,9 @@ counted-requires c κs = search needs
 
 returns-2 : tie.Need-returns-2
 returns-2 c = let a = c .before .before .before .before .before .before .before .before .args in let p = c .before .before .before .before .before .entries-of .result in let e = rw (c .before .before .before .before .before .before .axis-words .ensures) at (c .before .before .before .before .before .entries-of .ensures) in
-    lists-written (a .state) (axisWordsIn (a .axis) (a .words .now)) (a .store .now) (a .bytes) (a .out .now) (p .now) e (c .before .before .before .before .lists-refusal .result) (c .before .before .before .before .lists-refusal .ensures)
-    (c .before .detailed-line-names .result) (c .counted .result) _ (c .before .before .before .if1 .left) (fitting-written (a .state .explicit) (p .now) (a .store .now) (a .out .now) _ _
-    (lists-asked (a .state) (axisWordsIn (a .axis) (a .words .now)) (a .store .now) (a .bytes) (a .out .now) (p .now) e (c .before .before .before .before .lists-refusal .result) (c .before .before .before .before .lists-refusal .ensures) (c .before .before .before .if1 .left) (axis-long (a .axis) (a .words .now)) (c .before .before .detailed-line-names-arg .given .0 .1))
+    lists-written (a .grid) (axisWordsIn (a .axis) (a .words .now)) (a .store .now) (a .bytes) (a .out .now) (p .now) e (c .before .before .before .before .lists-refusal .result) (c .before .before .before .before .lists-refusal .ensures)
+    (c .before .detailed-line-names .result) (c .counted .result) _ (c .before .before .before .if1 .left) (fitting-written (a .grid .size .explicit) (p .now) (a .store .now) (a .out .now) _ _
+    (lists-asked (a .grid) (axisWordsIn (a .axis) (a .words .now)) (a .store .now) (a .bytes) (a .out .now) (p .now) e (c .before .before .before .before .lists-refusal .result) (c .before .before .before .before .lists-refusal .ensures) (c .before .before .before .if1 .left) (axis-long (a .axis) (a .words .now)) (c .before .before .detailed-line-names-arg .given .0 .1))
     (c .before .detailed-line-names .ensures)) (c .counted .ensures)
 
 pub write-on-spec : {M : Type 1} → statement M

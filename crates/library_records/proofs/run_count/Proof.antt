@@ -19,17 +19,17 @@ add-left : tie.Need-add-left
 add-left c = search needs
 
 sub-left : tie.Need-sub-left
-sub-left c = let r = all-records (c .before .before .args .state) (c .track-count .result) (c .track-count .ensures ∙ ap tracksIn (c .before .axis-tracks .ensures)) in
+sub-left c = let r = all-records (c .before .before .args .grid) (c .track-count .result) (c .track-count .ensures ∙ ap tracksIn (c .before .axis-tracks .ensures)) in
     subst (λ (n : ℕ). c .before .before .args .first ≤ n) (sym r) (c .before .before .pre)
 
 cast-left : tie.Need-cast-left
 cast-left c = search needs
 
 returns : tie.Need-returns
-returns c = count-all (c .before .before .before .args .state) (c .before .track-count .result) (c .before .track-count .ensures ∙ ap tracksIn (c .before .before .axis-tracks .ensures)) _ _ (c .if1 .taken)
+returns c = count-all (c .before .before .before .args .grid) (c .before .track-count .result) (c .before .track-count .ensures ∙ ap tracksIn (c .before .before .axis-tracks .ensures)) _ _ (c .if1 .taken)
 
 returns-2 : tie.Need-returns-2
-returns-2 c = count-fit (c .before .before .before .args .state) (c .before .track-count .result) (c .before .track-count .ensures ∙ ap tracksIn (c .before .before .axis-tracks .ensures)) _ _ (c .if1 .left)
+returns-2 c = count-fit (c .before .before .before .args .grid) (c .before .track-count .result) (c .before .track-count .ensures ∙ ap tracksIn (c .before .before .axis-tracks .ensures)) _ _ (c .if1 .left)
 
 pub run-count-spec : {M : Type 1} → statement M
 run-count-spec =

@@ -18,16 +18,16 @@ add-if1 : tie.Need-add-if1
 add-if1 c = search needs
 
 returns : tie.Need-returns
-returns c = refused-first (c .before .before .before .args .state) (c .before .track-count .result) (c .before .track-count .ensures ∙ ap tracksIn (c .before .before .axis-tracks .ensures)) _ _ _ (c .if1 .taken)
+returns c = refused-first (c .before .before .before .args .grid) (c .before .track-count .result) (c .before .track-count .ensures ∙ ap tracksIn (c .before .before .axis-tracks .ensures)) _ _ _ (c .if1 .taken)
 
 cast-if2 : tie.Need-cast-if2
 cast-if2 c = search needs
 
 returns-2 : tie.Need-returns-2
-returns-2 c = refused-short (c .before .before .before .before .args .state) (c .before .before .track-count .result) (c .before .before .track-count .ensures ∙ ap tracksIn (c .before .before .before .axis-tracks .ensures)) _ _ _ (c .before .if1 .left) (c .if2 .taken)
+returns-2 c = refused-short (c .before .before .before .before .args .grid) (c .before .before .track-count .result) (c .before .before .track-count .ensures ∙ ap tracksIn (c .before .before .before .axis-tracks .ensures)) _ _ _ (c .before .if1 .left) (c .if2 .taken)
 
 returns-3 : tie.Need-returns-3
-returns-3 c = refused-not (c .before .before .before .before .args .state) (c .before .before .track-count .result) (c .before .before .track-count .ensures ∙ ap tracksIn (c .before .before .before .axis-tracks .ensures)) _ _ _ (c .before .if1 .left) (c .if2 .left)
+returns-3 c = refused-not (c .before .before .before .before .args .grid) (c .before .before .track-count .result) (c .before .before .track-count .ensures ∙ ap tracksIn (c .before .before .before .axis-tracks .ensures)) _ _ _ (c .before .if1 .left) (c .if2 .left)
 
 pub run-refusal-spec : {M : Type 1} → statement M
 run-refusal-spec =

@@ -2,8 +2,8 @@ use borrow.Author.Needs.{needs}
 use Rattle.library_records.proofs.write_run.Statement.{statement}
 use Rattle.library_records.proofs.write_run.Tie as tie
 
-state-in-requires : tie.Need-state-in-requires
-state-in-requires c κs = search needs
+grid-in-requires : tie.Need-grid-in-requires
+grid-in-requires c κs = search needs
 
 axis-words-requires : tie.Need-axis-words-requires
 axis-words-requires c κs = search needs
@@ -15,8 +15,8 @@ same-length : tie.Need-same-length
 same-length c = search needs
 
 returns : tie.Need-returns
-returns c = rw (← c .before .before .before .before .before .state-in .ensures, ← c .before .before .before .before .axis-words .ensures) (c .before .before .write-on .ensures)
+returns c = rw (← c .before .before .before .before .before .grid-in .ensures, ← c .before .before .before .before .axis-words .ensures) (c .before .before .write-on .ensures)
 
 pub write-run-spec : {M : Type 1} → statement M
 write-run-spec =
-    tie.close (tie.spec state-in-requires axis-words-requires write-on-requires same-length returns)
+    tie.close (tie.spec grid-in-requires axis-words-requires write-on-requires same-length returns)

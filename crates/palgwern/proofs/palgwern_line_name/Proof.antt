@@ -10,7 +10,7 @@ use Rattle.palgwern.proofs.palgwern_line_name.Tie as tie
 returns : tie.Need-returns
 returns c =
     let a = c .before .before .before .args in
-    shows-none (a .panel) (nameTablesIn (a .words .now) (a .columnstore .now) (a .rowstore .now)) (a .axis) (a .line) (a .place) (c .if1 .taken)
+    shows-none (a .grid) (nameTablesIn (a .words .now) (a .columnstore .now) (a .rowstore .now)) (a .axis) (a .line) (a .place) (c .if1 .taken)
 
 smaller-requires : tie.Need-smaller-requires
 smaller-requires c κs = search needs
@@ -18,7 +18,7 @@ smaller-requires c κs = search needs
 returns-2 : tie.Need-returns-2
 returns-2 c =
     let a = c .before .before .before .before .before .args in
-    shows-short (a .panel) (nameTablesIn (a .words .now) (a .columnstore .now) (a .rowstore .now)) (a .axis) (a .line) (a .place) (c .before .before .if1 .left)
+    shows-short (a .grid) (nameTablesIn (a .words .now) (a .columnstore .now) (a .rowstore .now)) (a .axis) (a .line) (a .place) (c .before .before .if1 .left)
     (rw (c .before .smaller .ensures) at (c .if2 .taken))
 
 axis-of-requires : tie.Need-axis-of-requires
@@ -39,7 +39,7 @@ name-part-requires c κs = search needs
 returns-3 : tie.Need-returns-3
 returns-3 c =
     let a = c .before .before .before .before .before .before .before .before .before .before .args in
-    shows-name (a .panel) (nameTablesIn (a .words .now) (a .columnstore .now) (a .rowstore .now)) (a .axis) (a .line) (a .place)
+    shows-name (a .grid) (nameTablesIn (a .words .now) (a .columnstore .now) (a .rowstore .now)) (a .axis) (a .line) (a .place)
     (c .before .store-length .result) (c .before .before .before .line-entry .result) (c .name-part .result) (c .before .before .before .before .before .before .before .if1 .left)
     (rw (c .before .before .before .before .before .before .smaller .ensures) at (c .before .before .before .before .before .if2 .left))
     (c .before .store-length .ensures ∙ rw (c .before .before .axis-of2 .ensures) (axis-length (axisOf (a .axis)) (a .columnstore .now) (a .rowstore .now)))

@@ -14,10 +14,10 @@ use Rattle.panel_program.proofs.print_answer.Statement.{statement}
 use Rattle.panel_program.proofs.print_answer.Tie as tie
 
 abbrev Inv-loop : tie.InvT-loop
-Inv-loop sheet words bytes columnstore rowstore panel next₀ out₀ next out = length out ≡ 65536
+Inv-loop sheet words bytes columnstore rowstore grid next₀ out₀ next out = length out ≡ 65536
 
 abbrev μ-loop : tie.MeasureT-loop
-μ-loop sheet words bytes columnstore rowstore panel next₀ out₀ next out = length (textFrom (record { panel = panel; tables = tablesIn words bytes columnstore rowstore }) next)
+μ-loop sheet words bytes columnstore rowstore grid next₀ out₀ next out = length (textFrom (record { grid = grid; tables = tablesIn words bytes columnstore rowstore }) next)
 
 slice-aggregate-begin-answer : tie.Need-slice-aggregate-begin-answer Inv-loop μ-loop
 slice-aggregate-begin-answer c = search needs

@@ -32,16 +32,20 @@ put-entries-requires c κs =
     let o = c .before .if1 .left in
     (count-is (a .state) (a .reading) (a .words .now) (x .result) (y .result) (z .result) (x .ensures) (y .ensures) (z .ensures) o, count-few (a .state) (a .reading) (a .words .now) (x .result) (y .result) (z .result) (x .ensures) (y .ensures) (z .ensures) o)
 
+with-size-requires : tie.Need-with-size-requires
+with-size-requires c κs = search needs
+
 same-length-2 : tie.Need-same-length-2
 same-length-2 c = search needs
 
 returns-2 : tie.Need-returns-2
 returns-2 c =
-    let a = c .before .before .before .before .before .before .before .before .before .before .before .args in
-    let x = c .before .before .before .before .before .before .before .before .size-in in
-    let y = c .before .before .before .before .before .before .count-entries in
-    let z = c .before .before .before .before .before .end-fault in
-    accepted-end (a .state) (a .reading) (a .words .now) (x .result) (y .result) (z .result) (x .ensures) (y .ensures) (z .ensures) (c .before .before .before .before .if1 .left) _ (c .before .before .put-entries .ensures)
+    let a = c .before .before .before .before .before .before .before .before .before .before .before .before .args in
+    let x = c .before .before .before .before .before .before .before .before .before .size-in in
+    let y = c .before .before .before .before .before .before .before .count-entries in
+    let z = c .before .before .before .before .before .before .end-fault in
+    rw (c .with-size .ensures)
+    (accepted-end (a .state) (a .reading) (a .words .now) (x .result) (y .result) (z .result) (x .ensures) (y .ensures) (z .ensures) (c .before .before .before .before .before .if1 .left) _ (c .before .before .before .put-entries .ensures))
 
 pub end-axis-spec : {M : Type 1} → statement M
 end-axis-spec =
@@ -53,5 +57,6 @@ end-axis-spec =
     same-length
     returns
     put-entries-requires
+    with-size-requires
     same-length-2
     returns-2)

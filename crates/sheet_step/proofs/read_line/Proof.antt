@@ -40,7 +40,7 @@ returns c =
     simp (c .at-stage .ensures)
     (line-by h (split 9 (a .line .now)) (there .ensures .0) (there .ensures .1) (there .ensures .2)
     (c .before .before .before .before .before .before .before .before .fault-here .ensures
-    ∙ ap (λ (n : List ℕ). beforeOf (a .panel .areas) (a .reading) (areaWordsIn (a .words .now)) (areaBytesIn (a .bytes .now)) n (there .result .said)) (c .before .before .before .before .before .before .before .before .before .part-at .ensures))
+    ∙ ap (λ (n : List ℕ). beforeOf (a .panel .grid .areas) (a .reading) (areaWordsIn (a .words .now)) (areaBytesIn (a .bytes .now)) n (there .result .said)) (c .before .before .before .before .before .before .before .before .before .part-at .ensures))
     (c .before .before .before .panel-record .ensures) (c .before .stage .ensures) (c .before .before .first-fault .ensures))
 
 pub read-line-spec : {M : Type 1} → statement M

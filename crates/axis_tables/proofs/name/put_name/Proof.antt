@@ -33,19 +33,19 @@ set-word-requires : tie.Need-set-word-requires
 set-word-requires c κs = search needs
 
 cast-copy-what-fits : tie.Need-cast-copy-what-fits
-cast-copy-what-fits c = search needs
+cast-copy-what-fits c = let a = c .before .before .before .before .before .before .before .before .before .before .before .before .args in let h = has-room 4096 32768 (a .state .room .names) (a .state .room .used) (length (a .name .now)) (c .before .before .before .before .before .before .before .before .no-room .result) (c .before .before .before .before .before .before .before .before .no-room .ensures) (c .before .before .before .before .before .before .before .if1 .left) in record { fits = omega arith }
 
 copy-what-fits-requires : tie.Need-copy-what-fits-requires
 copy-what-fits-requires c κs = search needs
 
-add-after : tie.Need-add-after
-add-after c = let a = c .before .before .before .before .before .before .before .before .before .before .before .before .before .before .before .args in let h = has-room 4096 32768 (a .state .names) (a .state .used) (length (a .name .now)) (c .before .before .before .before .before .before .before .before .before .before .before .no-room .result) (c .before .before .before .before .before .before .before .before .before .before .before .no-room .ensures) (c .before .before .before .before .before .before .before .before .before .before .if1 .left) in omega arith
+add-next : tie.Need-add-next
+add-next c = let a = c .before .before .before .before .before .before .before .before .before .before .before .before .before .before .before .args in let h = has-room 4096 32768 (a .state .room .names) (a .state .room .used) (length (a .name .now)) (c .before .before .before .before .before .before .before .before .before .before .before .no-room .result) (c .before .before .before .before .before .before .before .before .before .before .before .no-room .ensures) (c .before .before .before .before .before .before .before .before .before .before .if1 .left) in omega arith
 
-cast-after : tie.Need-cast-after
-cast-after c = let a = c .before .before .before .before .before .before .before .before .before .before .before .before .before .before .before .args in let h = has-room 4096 32768 (a .state .names) (a .state .used) (length (a .name .now)) (c .before .before .before .before .before .before .before .before .before .before .before .no-room .result) (c .before .before .before .before .before .before .before .before .before .before .before .no-room .ensures) (c .before .before .before .before .before .before .before .before .before .before .if1 .left) in omega arith
+cast-end : tie.Need-cast-end
+cast-end c = let a = c .before .before .before .before .before .before .before .before .before .before .before .before .before .before .before .args in let h = has-room 4096 32768 (a .state .room .names) (a .state .room .used) (length (a .name .now)) (c .before .before .before .before .before .before .before .before .before .before .before .no-room .result) (c .before .before .before .before .before .before .before .before .before .before .before .no-room .ensures) (c .before .before .before .before .before .before .before .before .before .before .if1 .left) in omega arith
 
-add-after-2 : tie.Need-add-after-2
-add-after-2 c = let a = c .before .before .before .before .before .before .before .before .before .before .before .before .before .before .before .args in let h = has-room 4096 32768 (a .state .names) (a .state .used) (length (a .name .now)) (c .before .before .before .before .before .before .before .before .before .before .before .no-room .result) (c .before .before .before .before .before .before .before .before .before .before .before .no-room .ensures) (c .before .before .before .before .before .before .before .before .before .before .if1 .left) in omega arith
+add-end : tie.Need-add-end
+add-end c = let a = c .before .before .before .before .before .before .before .before .before .before .before .before .before .before .before .args in let h = has-room 4096 32768 (a .state .room .names) (a .state .room .used) (length (a .name .now)) (c .before .before .before .before .before .before .before .before .before .before .before .no-room .result) (c .before .before .before .before .before .before .before .before .before .before .before .no-room .ensures) (c .before .before .before .before .before .before .before .before .before .before .if1 .left) in omega arith
 
 put-requires-2 : tie.Need-put-requires-2
 put-requires-2 c κs = search needs
@@ -58,7 +58,7 @@ same-length-2 c = search needs
 
 returns-2 : tie.Need-returns-2
 unfolding putName
-returns-2 c = rw (c .put2 .ensures, c .before .before .before .copy-what-fits .ensures, c .before .before .before .before .before .before .before .set-word .ensures, c .before .before .before .before .before .before .before .before .before .name-word .ensures, c .before .before .before .before .before .before .before .before .before .before .place-in .ensures, sym (c .before .before .before .before .before .before .before .before .before .before .before .before .no-room .ensures) ∙ c .before .before .before .before .before .before .before .before .before .before .before .if1 .left)
+returns-2 c = rw (c .put2 .ensures, c .before .before .before .before .before .copy-what-fits .ensures, c .before .before .before .before .before .before .before .before .before .set-word .ensures, c .before .before .before .before .before .before .before .before .before .before .before .name-word .ensures, c .before .before .before .before .before .before .before .before .before .before .before .before .place-in .ensures, sym (c .before .before .before .before .before .before .before .before .before .before .before .before .before .before .no-room .ensures) ∙ c .before .before .before .before .before .before .before .before .before .before .before .before .before .if1 .left)
 
 pub put-name-spec : {M : Type 1} → statement M
 put-name-spec =
@@ -74,9 +74,9 @@ put-name-spec =
     set-word-requires
     cast-copy-what-fits
     copy-what-fits-requires
-    add-after
-    cast-after
-    add-after-2
+    add-next
+    cast-end
+    add-end
     put-requires-2
     same-length
     same-length-2

@@ -29,8 +29,8 @@ add-set-word-2 c = search needs
 set-word-requires-2 : tie.Need-set-word-requires-2
 set-word-requires-2 c κs = search needs
 
-add-after : tie.Need-add-after
-add-after c = search needs
+add-next : tie.Need-add-next
+add-next c = search needs
 
 put-requires-2 : tie.Need-put-requires-2
 put-requires-2 c κs = search needs
@@ -40,7 +40,7 @@ same-length c = search needs
 
 returns-2 : tie.Need-returns-2
 unfolding putSpare
-returns-2 c = rw (c .put2 .ensures, c .before .before .before .set-word2 .ensures, c .before .before .before .before .before .before .before .set-word .ensures, le-ltb _ _ (c .before .before .before .before .before .before .before .before .before .if1 .left))
+returns-2 c = rw (c .put2 .ensures, c .before .before .before .before .set-word2 .ensures, c .before .before .before .before .before .before .before .before .set-word .ensures, le-ltb _ _ (c .before .before .before .before .before .before .before .before .before .before .if1 .left))
 
 pub put-spare-spec : {M : Type 1} → statement M
 put-spare-spec =
@@ -54,7 +54,7 @@ put-spare-spec =
     cast-set-word-2
     add-set-word-2
     set-word-requires-2
-    add-after
+    add-next
     put-requires-2
     same-length
     returns-2)

@@ -27,8 +27,8 @@ cast-set-word c = search needs
 set-word-requires : tie.Need-set-word-requires
 set-word-requires c κs = search needs
 
-add-after : tie.Need-add-after
-add-after c = search needs
+add-next : tie.Need-add-next
+add-next c = search needs
 
 put-requires-3 : tie.Need-put-requires-3
 put-requires-3 c κs = search needs
@@ -38,7 +38,7 @@ same-length c = search needs
 
 returns-3 : tie.Need-returns-3
 unfolding closeRepeat
-returns-3 c = rw (c .put3 .ensures, c .before .before .before .set-word .ensures, c .before .before .before .before .before .component-word .ensures, ne-eqb _ _ (c .before .before .before .before .before .before .before .if1 .left), le-ltb _ _ (c .before .before .before .before .before .before .if2 .left))
+returns-3 c = rw (c .put3 .ensures, c .before .before .before .before .set-word .ensures, c .before .before .before .before .before .before .component-word .ensures, ne-eqb _ _ (c .before .before .before .before .before .before .before .before .if1 .left), le-ltb _ _ (c .before .before .before .before .before .before .before .if2 .left))
 
 pub close-repeat-spec : {M : Type 1} → statement M
 close-repeat-spec =
@@ -51,7 +51,7 @@ close-repeat-spec =
     component-word-requires
     cast-set-word
     set-word-requires
-    add-after
+    add-next
     put-requires-3
     same-length
     returns-3)

@@ -36,8 +36,8 @@ add-set-word-2 c = search needs
 set-word-requires-2 : tie.Need-set-word-requires-2
 set-word-requires-2 c κs = search needs
 
-add-after : tie.Need-add-after
-add-after c = search needs
+add-next : tie.Need-add-next
+add-next c = search needs
 
 add-then : tie.Need-add-then
 add-then c = search needs
@@ -50,7 +50,7 @@ same-length c = search needs
 
 returns-3 : tie.Need-returns-3
 unfolding putRepeated
-returns-3 c = rw (c .put3 .ensures, c .before .before .before .set-word2 .ensures, c .before .before .before .before .before .before .before .set-word .ensures, le-ltb _ _ (c .before .before .before .before .before .before .before .before .before .before .if1 .left), le-ltb _ _ (c .before .before .before .before .before .before .before .before .before .if2 .left))
+returns-3 c = rw (c .put3 .ensures, c .before .before .before .before .set-word2 .ensures, c .before .before .before .before .before .before .before .before .set-word .ensures, le-ltb _ _ (c .before .before .before .before .before .before .before .before .before .before .before .if1 .left), le-ltb _ _ (c .before .before .before .before .before .before .before .before .before .before .if2 .left))
 
 pub put-repeated-spec : {M : Type 1} → statement M
 put-repeated-spec =
@@ -66,7 +66,7 @@ put-repeated-spec =
     cast-set-word-2
     add-set-word-2
     set-word-requires-2
-    add-after
+    add-next
     add-then
     put-requires-3
     same-length

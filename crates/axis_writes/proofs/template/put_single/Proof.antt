@@ -45,11 +45,11 @@ add-set-word-2 c = search needs
 set-word-requires-3 : tie.Need-set-word-requires-3
 set-word-requires-3 c κs = search needs
 
-add-after : tie.Need-add-after
-add-after c = search needs
+add-nextcomponent : tie.Need-add-nextcomponent
+add-nextcomponent c = search needs
 
-add-after-2 : tie.Need-add-after-2
-add-after-2 c = search needs
+add-nexttrack : tie.Need-add-nexttrack
+add-nexttrack c = search needs
 
 put-requires-3 : tie.Need-put-requires-3
 put-requires-3 c κs = search needs
@@ -59,7 +59,7 @@ same-length c = search needs
 
 returns-3 : tie.Need-returns-3
 unfolding putSingle
-returns-3 c = rw (c .put3 .ensures, c .before .before .before .set-word3 .ensures, c .before .before .before .before .before .before .before .set-word2 .ensures, c .before .before .before .before .before .before .before .before .before .before .before .set-word .ensures, c .before .before .before .before .before .before .before .before .before .before .before .before .before .component-word .ensures, le-ltb _ _ (c .before .before .before .before .before .before .before .before .before .before .before .before .before .before .before .if1 .left), le-ltb _ _ (c .before .before .before .before .before .before .before .before .before .before .before .before .before .before .if2 .left))
+returns-3 c = rw (c .put3 .ensures, c .before .before .before .before .before .set-word3 .ensures, c .before .before .before .before .before .before .before .before .before .set-word2 .ensures, c .before .before .before .before .before .before .before .before .before .before .before .before .before .set-word .ensures, c .before .before .before .before .before .before .before .before .before .before .before .before .before .before .before .component-word .ensures, le-ltb _ _ (c .before .before .before .before .before .before .before .before .before .before .before .before .before .before .before .before .before .if1 .left), le-ltb _ _ (c .before .before .before .before .before .before .before .before .before .before .before .before .before .before .before .before .if2 .left))
 
 pub put-single-spec : {M : Type 1} → statement M
 put-single-spec =
@@ -78,8 +78,8 @@ put-single-spec =
     cast-set-word-3
     add-set-word-2
     set-word-requires-3
-    add-after
-    add-after-2
+    add-nextcomponent
+    add-nexttrack
     put-requires-3
     same-length
     returns-3)

@@ -103,8 +103,8 @@ write-template-requires c κs =
     let written = c .before .before .before .before-end2 .result in
     let w = taken-fits written (negative + a .plan .written) (a .tracks .first + before) (a .tracks .count - before) (c .before .before .before .before-end2 .ensures) in
     let kept : length (c .before .before .before .before .before .before .before .before .write-negative .last .1 .1 .1 .1 .1 .1 .0) ≡ length (a .words .now) = ap length (c .before .before .before .before .before .before .before .before .write-negative .ensures) ∙ simp length-sets in
-    let same : axis ≡ axisTracks (a .state) = c .before .before .before .before .before .before .before .before .before .before .before .before .before .before .before .before .before .axis-tracks .ensures in (
-      λ h. template-room negative (a .plan .written) (a .tracks .first) (a .tracks .count) before written (c .before .past-end .result) (explicitOf (axisTracks (a .state))) (sumOf (wordTotals (a .state .repetitions) (partOf (a .tables .now) 0 (a .state .components))))
+    let same : axis ≡ axisTracks (a .grid) = c .before .before .before .before .before .before .before .before .before .before .before .before .before .before .before .before .before .axis-tracks .ensures in (
+      λ h. template-room negative (a .plan .written) (a .tracks .first) (a .tracks .count) before written (c .before .past-end .result) (explicitOf (axisTracks (a .grid))) (sumOf (wordTotals (a .grid .size .repetitions) (partOf (a .tables .now) 0 (a .grid .template .components))))
           (p .0) (c .before .before .before .before .before .before .before .before .before .before .before-end .ensures) (c .before .before .before .before-end2 .ensures) (c .before .past-end .ensures) h,
       (
         track-room (a .tracks .first) (a .tracks .count) before written b w (p .1 .0),
@@ -209,7 +209,7 @@ same-length c = search needs
 returns : tie.Need-returns
 returns c =
     let a = c .before .before .before .before .before .before .before .before .before .before .before .before .before .before .before .before .before .before .before .before .before .before .before .before .before .before .before .before .before .before .before .args in
-    pairs-written (a .state) (a .plan) (a .tables .now) (a .items .now) (c .before .before .before .before .before .before .before .before .before .before .before .before .before .before .before .before .before .before .before .before .before .before .before .before .before .before .before .axis-tracks .result) (c .before .before .before .before .before .before .before .before .before .before .before .before .before .before .before .before .before .before .before .before .before .before .spare-minimums-of .result .now) (c .before .before .before .before .before .before .before .before .before .before .before .before .before .before .before .before .before .before .before .before .before .spare-maximums-of .result .now) (c .before .before .before .before .before .before .before .before .before .before .before .before .before .before .before .before .before .before .before .before .before .before .before .gutters-of .result)
+    pairs-written (a .grid) (a .plan) (a .tables .now) (a .items .now) (c .before .before .before .before .before .before .before .before .before .before .before .before .before .before .before .before .before .before .before .before .before .before .before .before .before .before .before .axis-tracks .result) (c .before .before .before .before .before .before .before .before .before .before .before .before .before .before .before .before .before .before .before .before .before .before .spare-minimums-of .result .now) (c .before .before .before .before .before .before .before .before .before .before .before .before .before .before .before .before .before .before .before .before .before .spare-maximums-of .result .now) (c .before .before .before .before .before .before .before .before .before .before .before .before .before .before .before .before .before .before .before .before .before .before .before .gutters-of .result)
     (c .before .before .before .before .before .before .before .before .before .before .before .before .before .before .before .before .before .before .before .before .before-end .result) (c .before .before .before .before .before .before .before .before .before .before .before .before .before .before-end2 .result) (c .before .before .before .before .before .before .before .before .before .before .before .past-end .result) (c .before .before .before .before .past-end2 .result) (a .tracks .first) (a .tracks .count) (a .tracks .place)
     (a .words .now) (c .before .before .before .before .before .before .before .before .before .before .before .before .before .before .before .before .before .before .write-negative .last .1 .1 .1 .1 .1 .1 .0) (c .before .before .before .before .before .before .before .before .before .write-template .last .1 .1 .1 .1 .1 .1 .0) (c .before .before .write-spares .last .1 .1 .1 .1 .1 .1 .0)
     (c .before .before .before .before .before .before .before .before .before .before .before .before .before .before .before .before .before .before .before .before .before .before .before .before .before .before .before .axis-tracks .ensures) (c .before .before .before .before .before .before .before .before .before .before .before .before .before .before .before .before .before .before .before .before .before .before .spare-minimums-of .ensures) (c .before .before .before .before .before .before .before .before .before .before .before .before .before .before .before .before .before .before .before .before .before .spare-maximums-of .ensures) (c .before .before .before .before .before .before .before .before .before .before .before .before .before .before .before .before .before .before .before .before .before .before .before .gutters-of .ensures) (c .before .before .before .before .before .before .before .before .before .before .before .before .before .before .before .before .before .before .before .before .before .before .before .before .before .before .before .before .before .before .before .pre .0)

@@ -40,9 +40,9 @@ write-pairs-requires c κs =
     let p = c .before .before .before .before .before .before .before .before .before .before .pre in
     let head = c .before .before .before .before .before .head-count .result in
     let fits = head-fits (a .first) (a .count) head (c .before .before .before .before .before .head-count .ensures) in
-    let s = a .state in
+    let s = a .grid in
     let kept : length (c .before .before .before .write-edge .last .1 .1 .1 .1 .1 .0) ≡ length (a .words .now) = ap length (c .before .before .before .write-edge .ensures) ∙ simp length-sets in (
-      planned-count (axisTracks s) (partOf (a .tables .now) 0 (s .components)) (partOf (a .tables .now) 64 (s .tracks)) (partOf (a .tables .now) 2112 (s .tracks)) (itemAt (a .items .now)) (c .before .before .before .before .before .before .plan-on .result) (c .before .before .before .before .before .before .plan-on .ensures),
+      planned-count (axisTracks s) (partOf (a .tables .now) 0 (s .template .components)) (partOf (a .tables .now) 64 (s .template .tracks)) (partOf (a .tables .now) 2112 (s .template .tracks)) (itemAt (a .items .now)) (c .before .before .before .before .before .before .plan-on .result) (c .before .before .before .before .before .before .plan-on .ensures),
       (
         half-room (a .first) (a .count) head fits (p .0),
         subst (λ (n : ℕ). 3 * head + 6 * ((a .count - head) / 2) ≤ n) (sym kept) (pairs-room (length (a .words .now)) (a .count) head fits (p .1)),
@@ -87,7 +87,7 @@ returns : tie.Need-returns
 returns c =
     let a = c .before .before .before .before .before .before .before .before .before .before .before .before .before .before .before .before .before .args in
     let head = c .before .before .before .before .before .before .before .before .before .before .before .before .head-count .result in
-    axis-words (axisTracks (a .state)) (templateIn (a .state) (a .tables .now)) (sparesIn (a .state) (a .tables .now)) (a .items .now) (c .before .before .before .before .before .before .before .before .before .before .before .before .before .plan-on .result) (c .before .before .before .before .before .before .before .before .before .before .before .before .before .plan-on .ensures) (a .words .now) (c .before .before .before .before .before .before .before .before .before .before .write-edge .last .1 .1 .1 .1 .1 .0) (c .before .before .before .before .before .before .write-pairs .last .1 .1 .1 .1 .1 .0) (c .before .before .write-edge2 .last .1 .1 .1 .1 .1 .0)
+    axis-words (axisTracks (a .grid)) (templateIn (a .grid) (a .tables .now)) (sparesIn (a .grid) (a .tables .now)) (a .items .now) (c .before .before .before .before .before .before .before .before .before .before .before .before .before .plan-on .result) (c .before .before .before .before .before .before .before .before .before .before .before .before .before .plan-on .ensures) (a .words .now) (c .before .before .before .before .before .before .before .before .before .before .write-edge .last .1 .1 .1 .1 .1 .0) (c .before .before .before .before .before .before .write-pairs .last .1 .1 .1 .1 .1 .0) (c .before .before .write-edge2 .last .1 .1 .1 .1 .1 .0)
     (a .first) (a .count) head ((a .count - head) / 2) (c .before .before .before .before .before .before .before .before .before .before .before .before .head-count .ensures) refl (c .before .before .before .before .before .before .before .before .before .before .write-edge .ensures) (c .before .before .before .before .before .before .write-pairs .ensures) (c .before .before .write-edge2 .ensures)
 
 pub write-axis-spec : {M : Type 1} → statement M

@@ -34,7 +34,7 @@ same-length c = search needs
 returns : tie.Need-returns
 returns c =
     let a = c .before .before .before .before .before .before .before .before .before .before .before .before .before .before .before .args in
-    record-written (a .state) (a .tables .now) (a .items .now) (a .plan) (a .index) (c .before .before .before .before .before .before .before .before .before .before .before .axis-tracks .result) (c .before .before .before .before .before .before .before .before .before .before .components-of .result .now) (c .before .before .before .before .before .before .before .before .before .cursor-at .result) (c .before .before .before .before .before .before .before .before .carried-on .result) (c .before .before .before .before .before .kind-number .result) (c .before .before .before .before .size-word .result) (c .before .before .before .size-word2 .result)
+    record-written (a .grid) (a .tables .now) (a .items .now) (a .plan) (a .index) (c .before .before .before .before .before .before .before .before .before .before .before .axis-tracks .result) (c .before .before .before .before .before .before .before .before .before .before .components-of .result .now) (c .before .before .before .before .before .before .before .before .before .cursor-at .result) (c .before .before .before .before .before .before .before .before .carried-on .result) (c .before .before .before .before .before .kind-number .result) (c .before .before .before .before .size-word .result) (c .before .before .before .size-word2 .result)
     (a .words .now) (c .before .before .put-record .last .0) (a .place) (c .before .before .before .before .before .before .before .before .before .before .before .before .before .before .before .pre .0) (c .before .before .before .before .before .before .before .before .before .before .before .axis-tracks .ensures) (c .before .before .before .before .before .before .before .before .before .before .components-of .ensures) (c .before .before .before .before .before .before .before .before .before .cursor-at .ensures) (c .before .before .before .before .before .before .before .before .carried-on .ensures) (c .before .before .before .before .before .kind-number .ensures) (c .before .before .before .before .size-word .ensures) (c .before .before .before .size-word2 .ensures) (c .before .before .put-record .ensures)
 
 pub write-record-spec : {M : Type 1} → statement M

@@ -15,14 +15,14 @@ use Rattle.library_records.proofs.template.write_template.Statement.{st
 use Rattle.library_records.proofs.template.write_template.Tie as tie
 
 abbrev Inv-loop : tie.InvT-loop
-Inv-loop state tables items offset gutters tracks words₀ components minimums maximums component₀ at₀ done₀ words component at done =
-    (done ≤ tracks .count) × (0 < tracks .count - done → at + (tracks .count - done) ≤ sumOf (drop component (totals (state .repetitions) components)))
-    × Runs (state .repetitions) components (offset + done) component at (tracks .count - done) × (length words ≡ length words₀)
-    × (written (templatePair (totals (state .repetitions) components) (templateOf components minimums maximums) items offset (tracks .first) gutters) words (tracks .place) (tracks .first) (tracks .count) done
-    ≡ sets words₀ (tracks .place) (joined (templatePair (totals (state .repetitions) components) (templateOf components minimums maximums) items offset (tracks .first) gutters) (tracks .first) (tracks .count)))
+Inv-loop grid tables items offset gutters tracks words₀ components minimums maximums component₀ at₀ done₀ words component at done =
+    (done ≤ tracks .count) × (0 < tracks .count - done → at + (tracks .count - done) ≤ sumOf (drop component (totals (grid .size .repetitions) components)))
+    × Runs (grid .size .repetitions) components (offset + done) component at (tracks .count - done) × (length words ≡ length words₀)
+    × (written (templatePair (totals (grid .size .repetitions) components) (templateOf components minimums maximums) items offset (tracks .first) gutters) words (tracks .place) (tracks .first) (tracks .count) done
+    ≡ sets words₀ (tracks .place) (joined (templatePair (totals (grid .size .repetitions) components) (templateOf components minimums maximums) items offset (tracks .first) gutters) (tracks .first) (tracks .count)))
 
 abbrev μ-loop : tie.MeasureT-loop
-μ-loop state tables items offset gutters tracks words₀ components minimums maximums component₀ at₀ done₀ words component at done =
+μ-loop grid tables items offset gutters tracks words₀ components minimums maximums component₀ at₀ done₀ words component at done =
     length components - component
 
 components-of-requires : tie.Need-components-of-requires Inv-loop μ-loop
@@ -39,12 +39,12 @@ loop-holds c =
     let a = c .before .before .before .before .before .before .args in
     let p = c .before .before .before .before .before .before .pre in
     let ws = c .before .before .components-of .result .now in
-    let r = a .state .repetitions in (
+    let r = a .grid .size .repetitions in (
       omega arith,
       λ h. let g : a .offset + a .tracks .count ≤ sumOf (totals r ws) = subst (λ (x : List ℕ). a .offset + a .tracks .count ≤ sumOf (wordTotals r x)) (sym (c .before .before .components-of .ensures)) (p .0 (omega arith)) in omega arith,
       runs-first r ws (a .offset) (a .tracks .count - 0),
       refl,
-      written-none (templatePair (totals (a .state .repetitions) ws) (templateOf ws (c .before .minimums-of .result .now) (c .maximums-of .result .now)) (a .items .now) (a .offset) (a .tracks .first) (a .gutters)) (a .words .now) (a .tracks .place) (a .tracks .first) (a .tracks .count),
+      written-none (templatePair (totals (a .grid .size .repetitions) ws) (templateOf ws (c .before .minimums-of .result .now) (c .maximums-of .result .now)) (a .items .now) (a .offset) (a .tracks .first) (a .gutters)) (a .words .now) (a .tracks .place) (a .tracks .first) (a .tracks .count),
     )
 
 sub-left : tie.Need-sub-left Inv-loop μ-loop
@@ -58,8 +58,8 @@ part-at-requires c κs =
     let ws = c .before .before .before .before .before .before .components-of .result .now in
     let l = c .before .before .before .loop in
     let less = c .before .if1 .taken in
-    let small : l .component < length ws = component-left (a .state .repetitions) ws (l .component) (l .at) (a .tracks .count - l .done) (l .inv .1 (omega (arith, less))) (omega (arith, less)) in
-    let few : length ws ≤ a .state .components = subst (λ (x : List ℕ). length x ≤ a .state .components) (sym (c .before .before .before .before .before .before .components-of .ensures)) (part-few (a .tables .now) 0 (a .state .components)) in
+    let small : l .component < length ws = component-left (a .grid .size .repetitions) ws (l .component) (l .at) (a .tracks .count - l .done) (l .inv .1 (omega (arith, less))) (omega (arith, less)) in
+    let few : length ws ≤ a .grid .template .components = subst (λ (x : List ℕ). length x ≤ a .grid .template .components) (sym (c .before .before .before .before .before .before .components-of .ensures)) (part-few (a .tables .now) 0 (a .grid .template .components)) in
     (small, (omega (arith, few, c .before .before .before .before .before .before .before .before .before .before .good), omega (arith, p .1)))
 
 add-t21 : tie.Need-add-t21 Inv-loop μ-loop
@@ -81,11 +81,11 @@ write-part-requires c κs =
     let ws = c .before .before .before .before .before .before .before .before .before .before .before .before .components-of .result .now in
     let l = c .before .before .before .before .before .before .before .before .before .loop in
     let less = c .before .before .before .before .before .before .before .if1 .taken in
-    let small : l .component < length ws = component-left (a .state .repetitions) ws (l .component) (l .at) (a .tracks .count - l .done) (l .inv .1 (omega (arith, less))) (omega (arith, less)) in
+    let small : l .component < length ws = component-left (a .grid .size .repetitions) ws (l .component) (l .at) (a .tracks .count - l .done) (l .inv .1 (omega (arith, less))) (omega (arith, less)) in
     let x = c .before .before .before .before .before .part-at .result in
     let mi = c .before .before .before .before .before .before .before .before .before .before .before .minimums-of .result .now in
     let ma = c .before .before .before .before .before .before .before .before .before .before .maximums-of .result .now in
-    let t = taken (a .state .repetitions) ws mi ma (a .offset) (l .done) (a .tracks .count) (l .component) (l .at) small (l .inv .1) (l .inv .2) x (c .before .before .before .before .before .part-at .ensures .0) in
+    let t = taken (a .grid .size .repetitions) ws mi ma (a .offset) (l .done) (a .tracks .count) (l .component) (l .at) small (l .inv .1) (l .inv .2) x (c .before .before .before .before .before .part-at .ensures .0) in
     (t .some, (c .before .before .before .before .before .part-at .ensures .1, (omega (arith, p .1, less, t .fits), omega (arith, p .1, less, t .fits, l .inv .3))))
 
 add-done : tie.Need-add-done Inv-loop μ-loop
@@ -95,11 +95,11 @@ add-done c =
     let ws = c .before .before .before .before .before .before .before .before .before .before .before .before .before .before .before .before .components-of .result .now in
     let l = c .before .before .before .before .before .before .before .before .before .before .before .before .before .loop in
     let less = c .before .before .before .before .before .before .before .before .before .before .before .if1 .taken in
-    let small : l .component < length ws = component-left (a .state .repetitions) ws (l .component) (l .at) (a .tracks .count - l .done) (l .inv .1 (omega (arith, less))) (omega (arith, less)) in
+    let small : l .component < length ws = component-left (a .grid .size .repetitions) ws (l .component) (l .at) (a .tracks .count - l .done) (l .inv .1 (omega (arith, less))) (omega (arith, less)) in
     let x = c .before .before .before .before .before .before .before .before .before .part-at .result in
     let mi = c .before .before .before .before .before .before .before .before .before .before .before .before .before .before .before .minimums-of .result .now in
     let ma = c .before .before .before .before .before .before .before .before .before .before .before .before .before .before .maximums-of .result .now in
-    let t = taken (a .state .repetitions) ws mi ma (a .offset) (l .done) (a .tracks .count) (l .component) (l .at) small (l .inv .1) (l .inv .2) x (c .before .before .before .before .before .before .before .before .before .part-at .ensures .0) in
+    let t = taken (a .grid .size .repetitions) ws mi ma (a .offset) (l .done) (a .tracks .count) (l .component) (l .at) small (l .inv .1) (l .inv .2) x (c .before .before .before .before .before .before .before .before .before .part-at .ensures .0) in
     omega (arith, p .1, less, t .fits)
 
 loop-less : tie.Need-loop-less Inv-loop μ-loop
@@ -109,11 +109,11 @@ loop-less c =
     let ws = c .before .before .before .before .before .before .before .before .before .before .before .before .before .before .before .before .components-of .result .now in
     let l = c .before .before .before .before .before .before .before .before .before .before .before .before .before .loop in
     let less = c .before .before .before .before .before .before .before .before .before .before .before .if1 .taken in
-    let small : l .component < length ws = component-left (a .state .repetitions) ws (l .component) (l .at) (a .tracks .count - l .done) (l .inv .1 (omega (arith, less))) (omega (arith, less)) in
+    let small : l .component < length ws = component-left (a .grid .size .repetitions) ws (l .component) (l .at) (a .tracks .count - l .done) (l .inv .1 (omega (arith, less))) (omega (arith, less)) in
     let x = c .before .before .before .before .before .before .before .before .before .part-at .result in
     let mi = c .before .before .before .before .before .before .before .before .before .before .before .before .before .before .before .minimums-of .result .now in
     let ma = c .before .before .before .before .before .before .before .before .before .before .before .before .before .before .maximums-of .result .now in
-    let t = taken (a .state .repetitions) ws mi ma (a .offset) (l .done) (a .tracks .count) (l .component) (l .at) small (l .inv .1) (l .inv .2) x (c .before .before .before .before .before .before .before .before .before .part-at .ensures .0) in
+    let t = taken (a .grid .size .repetitions) ws mi ma (a .offset) (l .done) (a .tracks .count) (l .component) (l .at) small (l .inv .1) (l .inv .2) x (c .before .before .before .before .before .before .before .before .before .part-at .ensures .0) in
     omega (arith, small, t .on, t .held)
 
 loop-again : tie.Need-loop-again Inv-loop μ-loop
@@ -123,12 +123,12 @@ loop-again c =
     let ws = c .before .before .before .before .before .before .before .before .before .before .before .before .before .before .before .before .components-of .result .now in
     let l = c .before .before .before .before .before .before .before .before .before .before .before .before .before .loop in
     let less = c .before .before .before .before .before .before .before .before .before .before .before .if1 .taken in
-    let small : l .component < length ws = component-left (a .state .repetitions) ws (l .component) (l .at) (a .tracks .count - l .done) (l .inv .1 (omega (arith, less))) (omega (arith, less)) in
+    let small : l .component < length ws = component-left (a .grid .size .repetitions) ws (l .component) (l .at) (a .tracks .count - l .done) (l .inv .1 (omega (arith, less))) (omega (arith, less)) in
     let x = c .before .before .before .before .before .before .before .before .before .part-at .result in
     let mi = c .before .before .before .before .before .before .before .before .before .before .before .before .before .before .before .minimums-of .result .now in
     let ma = c .before .before .before .before .before .before .before .before .before .before .before .before .before .before .maximums-of .result .now in
-    let t = taken (a .state .repetitions) ws mi ma (a .offset) (l .done) (a .tracks .count) (l .component) (l .at) small (l .inv .1) (l .inv .2) x (c .before .before .before .before .before .before .before .before .before .part-at .ensures .0) in
-    let pair = templatePair (totals (a .state .repetitions) ws) (templateOf ws mi ma) (a .items .now) (a .offset) (a .tracks .first) (a .gutters) in
+    let t = taken (a .grid .size .repetitions) ws mi ma (a .offset) (l .done) (a .tracks .count) (l .component) (l .at) small (l .inv .1) (l .inv .2) x (c .before .before .before .before .before .before .before .before .before .part-at .ensures .0) in
+    let pair = templatePair (totals (a .grid .size .repetitions) ws) (templateOf ws mi ma) (a .items .now) (a .offset) (a .tracks .first) (a .gutters) in
     let part = partPair mi ma (a .items .now) (x .repeated) (l .at) (a .tracks .first + l .done) (a .gutters) in
     let put = c .before .before .before .write-part .ensures in (
       omega (arith, less, t .fits),
@@ -138,7 +138,7 @@ loop-again c =
       written-more pair (λ u. refl) (l .words) (c .before .before .before .write-part .last .1 .1 .1 .1 .1 .1 .1 .0) (a .tracks .place) (a .tracks .first) (a .tracks .count) (l .done) (x .count) (omega (arith, less, t .fits))
           (put ∙ ap (sets (l .words) (a .tracks .place + 6 * l .done))
           (joined-same part pair (a .tracks .first + l .done) (x .count)
-          (taken-pair (a .state .repetitions) ws mi ma (a .offset) (l .done) (a .tracks .count) (l .component) (l .at) small (l .inv .1) (l .inv .2) (a .items .now) (a .gutters) (a .tracks .first) x (c .before .before .before .before .before .before .before .before .before .part-at .ensures .0)))) ∙ l .inv .4,
+          (taken-pair (a .grid .size .repetitions) ws mi ma (a .offset) (l .done) (a .tracks .count) (l .component) (l .at) small (l .inv .1) (l .inv .2) (a .items .now) (a .gutters) (a .tracks .first) x (c .before .before .before .before .before .before .before .before .before .part-at .ensures .0)))) ∙ l .inv .4,
     )
 
 same-length : tie.Need-same-length Inv-loop μ-loop
@@ -153,10 +153,10 @@ returns c =
     let l = c .before .before .loop in
     let mi = c .before .before .before .before .minimums-of .result .now in
     let ma = c .before .before .before .maximums-of .result .now in
-    let pair = templatePair (totals (a .state .repetitions) ws) (templateOf ws mi ma) (a .items .now) (a .offset) (a .tracks .first) (a .gutters) in
+    let pair = templatePair (totals (a .grid .size .repetitions) ws) (templateOf ws mi ma) (a .items .now) (a .offset) (a .tracks .first) (a .gutters) in
     sym (written-all pair (l .words) (a .tracks .place) (a .tracks .first) (a .tracks .count) (l .done) (c .if1 .left)) ∙ l .inv .4
     ∙ ap (sets (a .words .now) (a .tracks .place))
-    (in-parts (a .state) (a .tables .now) ws mi ma (c .before .before .before .before .before .components-of .ensures) (c .before .before .before .before .minimums-of .ensures) (c .before .before .before .maximums-of .ensures) (a .items .now) (a .offset) (a .tracks .first) (a .tracks .count) (a .gutters))
+    (in-parts (a .grid) (a .tables .now) ws mi ma (c .before .before .before .before .before .components-of .ensures) (c .before .before .before .before .minimums-of .ensures) (c .before .before .before .maximums-of .ensures) (a .items .now) (a .offset) (a .tracks .first) (a .tracks .count) (a .gutters))
 
 pub write-template-spec : {M : Type 1} → statement M
 write-template-spec =

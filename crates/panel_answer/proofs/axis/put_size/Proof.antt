@@ -1,6 +1,6 @@
 use Rattle.panel_text.proofs.Puts.{line-as}
 use mathlib.Core.Path.{ap}
-use Rattle.panel_rules.specs.declared.AxisSize.{AxisSize}
+use Rattle.axis_tables.specs.declared.AxisSize.{AxisSize}
 use Rattle.panel_text.specs.Lines.{sizeLine}
 use borrow.Author.Needs.{needs}
 use Rattle.panel_answer.proofs.axis.put_size.Statement.{statement}

@@ -4,10 +4,10 @@ use mathlib.Core.Bool.{true, false}
 use mathlib.Core.List.{List}
 use native.Mathlib.Omega.{arith}
 use lib.ListN.{length, take, drop}
-use Rattle.panel_tables.specs.declared.Panel.{Panel}
+use Rattle.panel_tables.specs.declared.Grid.{Grid}
 use Rattle.sheet_rules.specs.Panels.{tablesIn}
-use Rattle.panel_rules.specs.Runs.{Held}
 use Rattle.panel_text.specs.Written.{WritesLine}
+use Rattle.panel_answer.specs.Answer.{GridHeld}
 use Rattle.panel_answer.specs.declared.AnswerLine.{AnswerLine}
 use Rattle.panel_answer.specs.Walk.{isEnd, lineText, lineAfter}
 use Rattle.panel_answer.specs.Text.{WritesUpTo}
@@ -18,19 +18,19 @@ use Rattle.panel_answer.proofs.fill.fill.Statement.{statement}
 use Rattle.panel_answer.proofs.fill.fill.Tie as tie
 
 -- what the lines are of
-abbrev held : Panel → List ℕ → List ℕ → List ℕ → List ℕ → Held
-held panel words bytes columnstore rowstore = record { panel = panel; tables = tablesIn words bytes columnstore rowstore }
+abbrev held : Grid → List ℕ → List ℕ → List ℕ → List ℕ → GridHeld
+held grid words bytes columnstore rowstore = record { grid = grid; tables = tablesIn words bytes columnstore rowstore }
 
 abbrev Inv-loop : tie.InvT-loop
-Inv-loop out₀ panel words bytes columnstore rowstore next₀ count₀ out next count = WritesUpTo out₀ (held panel words bytes columnstore rowstore) next₀ next out count
+Inv-loop out₀ grid words bytes columnstore rowstore next₀ count₀ out next count = WritesUpTo out₀ (held grid words bytes columnstore rowstore) next₀ next out count
 
 abbrev μ-loop : tie.MeasureT-loop
-μ-loop out₀ panel words bytes columnstore rowstore next₀ count₀ out next count = length out₀ - count
+μ-loop out₀ grid words bytes columnstore rowstore next₀ count₀ out next count = length out₀ - count
 
 loop-holds : tie.Need-loop-holds Inv-loop μ-loop
 loop-holds c =
     let a = c .before .before .before .args in
-    none-written (a .out .now) (held (a .panel) (a .words .now) (a .bytes .now) (a .columnstore .now) (a .rowstore .now)) (a .at)
+    none-written (a .out .now) (held (a .grid) (a .words .now) (a .bytes .now) (a .columnstore .now) (a .rowstore .now)) (a .at)
 
 is-end-requires : tie.Need-is-end-requires Inv-loop μ-loop
 is-end-requires c κs = search needs
@@ -39,7 +39,7 @@ sub-if2 : tie.Need-sub-if2 Inv-loop μ-loop
 sub-if2 c =
     let a = c .before .before .before .before .before .before .args in
     let l = c .before .before .loop in
-    let h : Held = held (a .panel) (a .words .now) (a .bytes .now) (a .columnstore .now) (a .rowstore .now) in
+    let h : GridHeld = held (a .grid) (a .words .now) (a .bytes .now) (a .columnstore .now) (a .rowstore .now) in
     let (same, within) = same-room (a .out .now) h (a .at) (l .next) (l .out) (l .count) (l .inv) in
     omega (arith, same, within)
 
@@ -47,7 +47,7 @@ same-length : tie.Need-same-length Inv-loop μ-loop
 same-length c =
     let a = c .before .before .before .before .before .before .before .args in
     let l = c .before .before .before .loop in
-    let h : Held = held (a .panel) (a .words .now) (a .bytes .now) (a .columnstore .now) (a .rowstore .now) in
+    let h : GridHeld = held (a .grid) (a .words .now) (a .bytes .now) (a .columnstore .now) (a .rowstore .now) in
     let (same, within) = same-room (a .out .now) h (a .at) (l .next) (l .out) (l .count) (l .inv) in
     same
 
@@ -55,7 +55,7 @@ returns : tie.Need-returns Inv-loop μ-loop
 returns c =
     let a = c .before .before .before .before .before .before .before .args in
     let l = c .before .before .before .loop in
-    let h : Held = held (a .panel) (a .words .now) (a .bytes .now) (a .columnstore .now) (a .rowstore .now) in
+    let h : GridHeld = held (a .grid) (a .words .now) (a .bytes .now) (a .columnstore .now) (a .rowstore .now) in
     let (same, within) = same-room (a .out .now) h (a .at) (l .next) (l .out) (l .count) (l .inv) in
     record { written = l .inv; some = λ (room : 128 ≤ length (a .out .now)) (e : isEnd (a .at) ≡ false). omega (arith, same, within, room, c .if2 .taken) }
 
@@ -63,7 +63,7 @@ sub-put-line : tie.Need-sub-put-line Inv-loop μ-loop
 sub-put-line c =
     let a = c .before .before .before .before .before .before .before .args in
     let l = c .before .before .before .loop in
-    let h : Held = held (a .panel) (a .words .now) (a .bytes .now) (a .columnstore .now) (a .rowstore .now) in
+    let h : GridHeld = held (a .grid) (a .words .now) (a .bytes .now) (a .columnstore .now) (a .rowstore .now) in
     let (same, within) = same-room (a .out .now) h (a .at) (l .next) (l .out) (l .count) (l .inv) in
     omega (arith, same, within)
 
@@ -71,7 +71,7 @@ part-put-line-start : tie.Need-part-put-line-start Inv-loop μ-loop
 part-put-line-start c =
     let a = c .before .before .before .before .before .before .before .args in
     let l = c .before .before .before .loop in
-    let h : Held = held (a .panel) (a .words .now) (a .bytes .now) (a .columnstore .now) (a .rowstore .now) in
+    let h : GridHeld = held (a .grid) (a .words .now) (a .bytes .now) (a .columnstore .now) (a .rowstore .now) in
     let (same, within) = same-room (a .out .now) h (a .at) (l .next) (l .out) (l .count) (l .inv) in
     omega (arith, same, within)
 
@@ -79,7 +79,7 @@ part-put-line-end : tie.Need-part-put-line-end Inv-loop μ-loop
 part-put-line-end c =
     let a = c .before .before .before .before .before .before .before .args in
     let l = c .before .before .before .loop in
-    let h : Held = held (a .panel) (a .words .now) (a .bytes .now) (a .columnstore .now) (a .rowstore .now) in
+    let h : GridHeld = held (a .grid) (a .words .now) (a .bytes .now) (a .columnstore .now) (a .rowstore .now) in
     let (same, within) = same-room (a .out .now) h (a .at) (l .next) (l .out) (l .count) (l .inv) in
     omega (arith, same, within)
 
@@ -90,7 +90,7 @@ add-count : tie.Need-add-count Inv-loop μ-loop
 add-count c =
     let a = c .before .before .before .before .before .before .before .before .before .before .before .args in
     let l = c .before .before .before .before .before .before .before .loop in
-    let h : Held = held (a .panel) (a .words .now) (a .bytes .now) (a .columnstore .now) (a .rowstore .now) in
+    let h : GridHeld = held (a .grid) (a .words .now) (a .bytes .now) (a .columnstore .now) (a .rowstore .now) in
     let (same, within) = same-room (a .out .now) h (a .at) (l .next) (l .out) (l .count) (l .inv) in
     let f = c .before .before .put-line .ensures .fits in
     let bound : l .count + c .before .before .put-line .result ≤ length (a .out .now) = omega (arith, same, within, f, c .before .before .before .before .if2 .left) in
@@ -103,7 +103,7 @@ loop-less : tie.Need-loop-less Inv-loop μ-loop
 loop-less c =
     let a = c .before .before .before .before .before .before .before .before .before .before .before .before .args in
     let l = c .before .before .before .before .before .before .before .before .loop in
-    let h : Held = held (a .panel) (a .words .now) (a .bytes .now) (a .columnstore .now) (a .rowstore .now) in
+    let h : GridHeld = held (a .grid) (a .words .now) (a .bytes .now) (a .columnstore .now) (a .rowstore .now) in
     let (same, within) = same-room (a .out .now) h (a .at) (l .next) (l .out) (l .count) (l .inv) in
     let p = c .before .before .before .put-line .ensures in
     let e : isEnd (l .next) ≡ false = sym (c .before .before .before .before .before .before .before .is-end .ensures) ∙ not-true (c .before .before .before .before .before .before .before .is-end .result) (c .before .before .before .before .before .before .if1 .taken) in
@@ -115,7 +115,7 @@ unfolding tablesIn
 loop-again c =
     let a = c .before .before .before .before .before .before .before .before .before .before .before .before .args in
     let l = c .before .before .before .before .before .before .before .before .loop in
-    let h : Held = held (a .panel) (a .words .now) (a .bytes .now) (a .columnstore .now) (a .rowstore .now) in
+    let h : GridHeld = held (a .grid) (a .words .now) (a .bytes .now) (a .columnstore .now) (a .rowstore .now) in
     let (same, within) = same-room (a .out .now) h (a .at) (l .next) (l .out) (l .count) (l .inv) in
     let k = c .before .before .before .put-line in
     let e : isEnd (l .next) ≡ false = sym (c .before .before .before .before .before .before .before .is-end .ensures) ∙ not-true (c .before .before .before .before .before .before .before .is-end .result) (c .before .before .before .before .before .before .if1 .taken) in
@@ -127,7 +127,7 @@ same-length-2 : tie.Need-same-length-2 Inv-loop μ-loop
 same-length-2 c =
     let a = c .before .before .before .before .before .before .args in
     let l = c .before .before .loop in
-    let h : Held = held (a .panel) (a .words .now) (a .bytes .now) (a .columnstore .now) (a .rowstore .now) in
+    let h : GridHeld = held (a .grid) (a .words .now) (a .bytes .now) (a .columnstore .now) (a .rowstore .now) in
     let (same, within) = same-room (a .out .now) h (a .at) (l .next) (l .out) (l .count) (l .inv) in
     same
 
@@ -135,7 +135,7 @@ returns-2 : tie.Need-returns-2 Inv-loop μ-loop
 returns-2 c =
     let a = c .before .before .before .before .before .before .args in
     let l = c .before .before .loop in
-    let h : Held = held (a .panel) (a .words .now) (a .bytes .now) (a .columnstore .now) (a .rowstore .now) in
+    let h : GridHeld = held (a .grid) (a .words .now) (a .bytes .now) (a .columnstore .now) (a .rowstore .now) in
     let (same, within) = same-room (a .out .now) h (a .at) (l .next) (l .out) (l .count) (l .inv) in
     let e : isEnd (l .next) ≡ true = sym (c .before .is-end .ensures) ∙ not-false (c .before .is-end .result) (c .if1 .left) in
     record { written = l .inv; some = λ (room : 128 ≤ length (a .out .now)) (g : isEnd (a .at) ≡ false). some-written (a .out .now) h (a .at) (l .out) (l .next) (l .count) (l .inv) e g }

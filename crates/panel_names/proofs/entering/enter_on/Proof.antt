@@ -43,20 +43,20 @@ cast-put-bytes c = search needs
 put-bytes-requires : tie.Need-put-bytes-requires
 put-bytes-requires c κs = search needs
 
-add-after : tie.Need-add-after
-add-after c = search needs
+add-next : tie.Need-add-next
+add-next c = search needs
 
-cast-after : tie.Need-cast-after
-cast-after c = search needs
+cast-end : tie.Need-cast-end
+cast-end c = search needs
 
-add-after-2 : tie.Need-add-after-2
-add-after-2 c = search needs
+add-end : tie.Need-add-end
+add-end c = search needs
 
 same-length : tie.Need-same-length
 same-length c = search needs
 
 returns : tie.Need-returns
-returns c = let a = c .before .before .before .before .before .before .before .args in let k = c .before .before .before .before .before .before .before .pre in rw (c .before .before .put-bytes .ensures, c .before .before .before .before .first-word .ensures .0) (rw (bytes-put (a .store .now) (a .state .used) (a .name .now) (omega (arith, k .fits, k .wide))))
+returns c = let a = c .before .before .before .before .before .before .before .before .before .args in let k = c .before .before .before .before .before .before .before .before .before .pre in rw (c .before .before .before .before .put-bytes .ensures, c .before .before .before .before .before .before .first-word .ensures .0) (rw (bytes-put (a .store .now) (a .state .room .used) (a .name .now) (omega (arith, k .fits, k .wide))))
 
 pub enter-on-spec : {M : Type 1} → statement M
 enter-on-spec =
@@ -75,8 +75,8 @@ enter-on-spec =
     element-write-words
     cast-put-bytes
     put-bytes-requires
-    add-after
-    cast-after
-    add-after-2
+    add-next
+    cast-end
+    add-end
     same-length
     returns)

@@ -48,13 +48,13 @@ resolve-one-requires-2 c κs = rw (c .before .before .whole-around2 .ensures) ((
 
 returns : tie.Need-returns
 returns c = let a = c .before .before .before .before .before .before .before .before .before .before .before .args in let place = c .before .before .before .before .before .before .before .placement-at in let cut = c .before .before .before .before .before .before .before .before .placement-words in
-    rw (← cut .ensures, ← place .ensures) (axis-resolution (a .panel) (nameTablesIn (a .words .now) (a .columnstore .now) (a .rowstore .now)) (areaTableIn (a .words .now) (a .bytes .now)) (place .result .axis) Column (c .before .before .before .before .before .enum-told .given .1) (placementBytesIn (a .bytes .now)) (linePlacement (place .result)) (c .resolve-one .result)
-    (whole-resolution (place .result .axis) (a .panel .columns .explicit) (a .panel .areas) (c .before .before .before .whole-around .result) (c .before .before .before .whole-around .ensures) (c .before .entries-of .result .now) (entryWordsIn (a .panel .columns) (axisWordsIn Column (a .words .now))) (a .columnstore .now) (rw (c .before .before .axis-words .ensures) at (c .before .entries-of .ensures)) (areaWordsIn (a .words .now)) (areaBytesIn (a .bytes .now)) (placementBytesIn (a .bytes .now)) (linePlacement (place .result)) (c .resolve-one .result) (rw (← cut .ensures, ← place .ensures) at (c .resolve-one .ensures))))
+    rw (← cut .ensures, ← place .ensures) (axis-resolution (a .grid) (nameTablesIn (a .words .now) (a .columnstore .now) (a .rowstore .now)) (areaTableIn (a .words .now) (a .bytes .now)) (place .result .axis) Column (c .before .before .before .before .before .enum-told .given .1) (placementBytesIn (a .bytes .now)) (linePlacement (place .result)) (c .resolve-one .result)
+    (whole-resolution (place .result .axis) (a .grid .columns .size .explicit) (a .grid .areas) (c .before .before .before .whole-around .result) (c .before .before .before .whole-around .ensures) (c .before .entries-of .result .now) (entryWordsIn (a .grid .columns) (axisWordsIn Column (a .words .now))) (a .columnstore .now) (rw (c .before .before .axis-words .ensures) at (c .before .entries-of .ensures)) (areaWordsIn (a .words .now)) (areaBytesIn (a .bytes .now)) (placementBytesIn (a .bytes .now)) (linePlacement (place .result)) (c .resolve-one .result) (rw (← cut .ensures, ← place .ensures) at (c .resolve-one .ensures))))
 
 returns-2 : tie.Need-returns-2
 returns-2 c = let a = c .before .before .before .before .before .before .before .before .before .before .before .args in let place = c .before .before .before .before .before .before .before .placement-at in let cut = c .before .before .before .before .before .before .before .before .placement-words in
-    rw (← cut .ensures, ← place .ensures) (axis-resolution (a .panel) (nameTablesIn (a .words .now) (a .columnstore .now) (a .rowstore .now)) (areaTableIn (a .words .now) (a .bytes .now)) (place .result .axis) Row (c .before .before .before .before .before .enum-told2 .given .1) (placementBytesIn (a .bytes .now)) (linePlacement (place .result)) (c .resolve-one2 .result)
-    (whole-resolution (place .result .axis) (a .panel .rows .explicit) (a .panel .areas) (c .before .before .before .whole-around2 .result) (c .before .before .before .whole-around2 .ensures) (c .before .entries-of2 .result .now) (entryWordsIn (a .panel .rows) (axisWordsIn Row (a .words .now))) (a .rowstore .now) (rw (c .before .before .axis-words2 .ensures) at (c .before .entries-of2 .ensures)) (areaWordsIn (a .words .now)) (areaBytesIn (a .bytes .now)) (placementBytesIn (a .bytes .now)) (linePlacement (place .result)) (c .resolve-one2 .result) (rw (← cut .ensures, ← place .ensures) at (c .resolve-one2 .ensures))))
+    rw (← cut .ensures, ← place .ensures) (axis-resolution (a .grid) (nameTablesIn (a .words .now) (a .columnstore .now) (a .rowstore .now)) (areaTableIn (a .words .now) (a .bytes .now)) (place .result .axis) Row (c .before .before .before .before .before .enum-told2 .given .1) (placementBytesIn (a .bytes .now)) (linePlacement (place .result)) (c .resolve-one2 .result)
+    (whole-resolution (place .result .axis) (a .grid .rows .size .explicit) (a .grid .areas) (c .before .before .before .whole-around2 .result) (c .before .before .before .whole-around2 .ensures) (c .before .entries-of2 .result .now) (entryWordsIn (a .grid .rows) (axisWordsIn Row (a .words .now))) (a .rowstore .now) (rw (c .before .before .axis-words2 .ensures) at (c .before .entries-of2 .ensures)) (areaWordsIn (a .words .now)) (areaBytesIn (a .bytes .now)) (placementBytesIn (a .bytes .now)) (linePlacement (place .result)) (c .resolve-one2 .result) (rw (← cut .ensures, ← place .ensures) at (c .resolve-one2 .ensures))))
 
 pub resolve-in-spec : {M : Type 1} → statement M
 resolve-in-spec =

@@ -33,7 +33,7 @@ placed-by-requires c κs = search needs
 
 returns-2 : tie.Need-returns-2
 returns-2 c = let a = c .before .before .before .before .before .before .before .before .before .args in let place = c .before .before .before .placement-at in let cut = c .before .before .before .before .placement-words in
-    placed (a .panel) (nameTablesIn (a .words .now) (a .columnstore .now) (a .rowstore .now)) (areaTableIn (a .words .now) (a .bytes .now)) (placementTableIn (a .words .now) (a .bytes .now)) (a .index) (c .before .before .before .before .before .if1 .left) (place .result) (linePlacement (place .result)) (c .before .before .resolve-in .result) (ltb (c .before .smaller .result) 32768) (c .placed-by .result) (rw (cut .ensures) at (place .ensures)) refl (rw (← cut .ensures, ← place .ensures) at (c .before .before .resolve-in .ensures)) (ap (λ (n : ℕ). ltb n 32768) (c .before .smaller .ensures)) (c .placed-by .ensures)
+    placed (a .grid) (nameTablesIn (a .words .now) (a .columnstore .now) (a .rowstore .now)) (areaTableIn (a .words .now) (a .bytes .now)) (placementTableIn (a .words .now) (a .bytes .now)) (a .index) (c .before .before .before .before .before .if1 .left) (place .result) (linePlacement (place .result)) (c .before .before .resolve-in .result) (ltb (c .before .smaller .result) 32768) (c .placed-by .result) (rw (cut .ensures) at (place .ensures)) refl (rw (← cut .ensures, ← place .ensures) at (c .before .before .resolve-in .ensures)) (ap (λ (n : ℕ). ltb n 32768) (c .before .smaller .ensures)) (c .placed-by .ensures)
 
 pub resolve-placement-spec : {M : Type 1} → statement M
 resolve-placement-spec =

@@ -34,7 +34,7 @@ same-length c = search needs
 
 returns : tie.Need-returns
 returns c = let a = c .before .before .before .before .before .before .before .before .before .before .before .before .before .before .before .before .args in
-    axes-written (a .panel) (nameTablesIn (a .words .now) (a .columnstore .now) (a .rowstore .now)) (areaTableIn (a .words .now) (a .bytes .now)) (placementTableIn (a .words .now) (a .bytes .now)) (a .first) (a .count) (a .numbers .now) (c .before .before .before .before .before .before .before .before .before .before .before .before .before .before .before .before .pre .0 .0) (c .before .before .before .before .before .before .before .before .before .before .before .before .before .before .before .before .pre .1) (c .before .before .before .before .before .before .before .before .before .before .before .run-of .result) (c .before .before .before .before .before .before .before .before .before .before .run-of2 .result) (c .before .before .before .before .before .before .before .before .entries-of .result .now) (c .before .before .before .before .before .before .entries-of2 .result .now) _ _
+    axes-written (a .grid) (nameTablesIn (a .words .now) (a .columnstore .now) (a .rowstore .now)) (areaTableIn (a .words .now) (a .bytes .now)) (placementTableIn (a .words .now) (a .bytes .now)) (a .first) (a .count) (a .numbers .now) (c .before .before .before .before .before .before .before .before .before .before .before .before .before .before .before .before .pre .0 .0) (c .before .before .before .before .before .before .before .before .before .before .before .before .before .before .before .before .pre .1) (c .before .before .before .before .before .before .before .before .before .before .before .run-of .result) (c .before .before .before .before .before .before .before .before .before .before .run-of2 .result) (c .before .before .before .before .before .before .before .before .entries-of .result .now) (c .before .before .before .before .before .before .entries-of2 .result .now) _ _
     (c .before .before .before .before .before .before .before .before .before .before .before .run-of .ensures) (rw (c .before .before .before .before .before .before .before .before .before .axis-words .ensures) at (c .before .before .before .before .before .before .before .before .entries-of .ensures)) (c .before .before .before .before .before .before .before .before .before .before .run-of2 .ensures) (rw (c .before .before .before .before .before .before .before .axis-words2 .ensures) at (c .before .before .before .before .before .before .entries-of2 .ensures)) (c .before .before .before .before .write-axis .ensures) (c .before .write-axis2 .ensures)
 
 pub write-numbers-spec : {M : Type 1} → statement M

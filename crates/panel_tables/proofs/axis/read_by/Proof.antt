@@ -2,17 +2,14 @@ use borrow.Author.Needs.{needs}
 use Rattle.panel_tables.proofs.axis.read_by.Statement.{statement}
 use Rattle.panel_tables.proofs.axis.read_by.Tie as tie
 
-enum-told : tie.Need-enum-told
-enum-told c = search needs
+with-state-requires : tie.Need-with-state-requires
+with-state-requires c κs = search needs
 
-enum-told-2 : tie.Need-enum-told-2
-enum-told-2 c = search needs
+with-reading-requires : tie.Need-with-reading-requires
+with-reading-requires c κs = search needs
 
 returns : tie.Need-returns
-returns c = rw (c .enum-told .given .1)
-
-returns-2 : tie.Need-returns-2
-returns-2 c = rw (c .enum-told2 .given .1)
+returns c = rw (c .with-reading .ensures, c .before .with-state .ensures)
 
 pub read-by-spec : {M : Type 1} → statement M
-read-by-spec = tie.close (tie.spec enum-told enum-told-2 returns returns-2)
+read-by-spec = tie.close (tie.spec with-state-requires with-reading-requires returns)

@@ -2,17 +2,14 @@ use borrow.Author.Needs.{needs}
 use Rattle.panel_tables.proofs.axis.state_in.Statement.{statement}
 use Rattle.panel_tables.proofs.axis.state_in.Tie as tie
 
-enum-told : tie.Need-enum-told
-enum-told c = search needs
+grid-in-requires : tie.Need-grid-in-requires
+grid-in-requires c κs = search needs
 
-enum-told-2 : tie.Need-enum-told-2
-enum-told-2 c = search needs
+room-in-requires : tie.Need-room-in-requires
+room-in-requires c κs = search needs
 
 returns : tie.Need-returns
-returns c = rw (c .before .enum-told .given .1)
-
-returns-2 : tie.Need-returns-2
-returns-2 c = rw (c .before .enum-told2 .given .1)
+returns c = rw (c .room-in .ensures, c .before .grid-in .ensures)
 
 pub state-in-spec : {M : Type 1} → statement M
-state-in-spec = tie.close (tie.spec enum-told enum-told-2 returns returns-2)
+state-in-spec = tie.close (tie.spec grid-in-requires room-in-requires returns)

@@ -40,34 +40,31 @@ set-word-requires : tie.Need-set-word-requires
 set-word-requires c κs = search needs
 
 cast-set-word-2 : tie.Need-cast-set-word-2
-cast-set-word-2 c = search needs
+cast-set-word-2 c = let a = c .before .before .before .before .before .before .before .before .before .before .before .before .before .before .args in let h = has-room 64 2048 (a .panel .grid .areas) (a .panel .room .areabytes) (length (a .name .now)) (c .before .before .before .before .before .before .before .before .no-room .result) (c .before .before .before .before .before .before .before .before .no-room .ensures) (c .before .before .before .before .before .before .before .if2 .left) in omega arith
 
 add-set-word : tie.Need-add-set-word
-add-set-word c = search needs
+add-set-word c = let a = c .before .before .before .before .before .before .before .before .before .before .before .before .before .before .args in let h = has-room 64 2048 (a .panel .grid .areas) (a .panel .room .areabytes) (length (a .name .now)) (c .before .before .before .before .before .before .before .before .no-room .result) (c .before .before .before .before .before .before .before .before .no-room .ensures) (c .before .before .before .before .before .before .before .if2 .left) in omega arith
 
 set-word-requires-2 : tie.Need-set-word-requires-2
 set-word-requires-2 c κs = search needs
 
 cast-put-bytes : tie.Need-cast-put-bytes
-cast-put-bytes c = search needs
+cast-put-bytes c = let a = c .before .before .before .before .before .before .before .before .before .before .before .before .before .before .before .before .before .before .args in let h = has-room 64 2048 (a .panel .grid .areas) (a .panel .room .areabytes) (length (a .name .now)) (c .before .before .before .before .before .before .before .before .before .before .before .before .no-room .result) (c .before .before .before .before .before .before .before .before .before .before .before .before .no-room .ensures) (c .before .before .before .before .before .before .before .before .before .before .before .if2 .left) in omega arith
 
 put-bytes-requires : tie.Need-put-bytes-requires
 put-bytes-requires c κs = search needs
 
-raised-to-requires : tie.Need-raised-to-requires
-raised-to-requires c κs = search needs
+raised-requires : tie.Need-raised-requires
+raised-requires c κs = search needs
 
-raised-to-requires-2 : tie.Need-raised-to-requires-2
-raised-to-requires-2 c κs = search needs
+add-next : tie.Need-add-next
+add-next c = let a = c .before .before .before .before .before .before .before .before .before .before .before .before .before .before .before .before .before .before .before .before .before .args in let h = has-room 64 2048 (a .panel .grid .areas) (a .panel .room .areabytes) (length (a .name .now)) (c .before .before .before .before .before .before .before .before .before .before .before .before .before .before .before .no-room .result) (c .before .before .before .before .before .before .before .before .before .before .before .before .before .before .before .no-room .ensures) (c .before .before .before .before .before .before .before .before .before .before .before .before .before .before .if2 .left) in omega arith
 
-add-after : tie.Need-add-after
-add-after c = let a = c .before .before .before .before .before .before .before .before .before .before .before .before .before .before .before .before .before .before .before .before .before .before .before .before .before .args in let h = has-room 64 2048 (a .panel .areas) (a .panel .areabytes) (length (a .name .now)) (c .before .before .before .before .before .before .before .before .before .before .before .before .before .before .before .before .before .before .before .no-room .result) (c .before .before .before .before .before .before .before .before .before .before .before .before .before .before .before .before .before .before .before .no-room .ensures) (c .before .before .before .before .before .before .before .before .before .before .before .before .before .before .before .before .before .before .if2 .left) in omega arith
+cast-end : tie.Need-cast-end
+cast-end c = let a = c .before .before .before .before .before .before .before .before .before .before .before .before .before .before .before .before .before .before .before .before .before .args in let h = has-room 64 2048 (a .panel .grid .areas) (a .panel .room .areabytes) (length (a .name .now)) (c .before .before .before .before .before .before .before .before .before .before .before .before .before .before .before .no-room .result) (c .before .before .before .before .before .before .before .before .before .before .before .before .before .before .before .no-room .ensures) (c .before .before .before .before .before .before .before .before .before .before .before .before .before .before .if2 .left) in omega arith
 
-cast-after : tie.Need-cast-after
-cast-after c = let a = c .before .before .before .before .before .before .before .before .before .before .before .before .before .before .before .before .before .before .before .before .before .before .before .before .before .args in let h = has-room 64 2048 (a .panel .areas) (a .panel .areabytes) (length (a .name .now)) (c .before .before .before .before .before .before .before .before .before .before .before .before .before .before .before .before .before .before .before .no-room .result) (c .before .before .before .before .before .before .before .before .before .before .before .before .before .before .before .before .before .before .before .no-room .ensures) (c .before .before .before .before .before .before .before .before .before .before .before .before .before .before .before .before .before .before .if2 .left) in omega arith
-
-add-after-2 : tie.Need-add-after-2
-add-after-2 c = let a = c .before .before .before .before .before .before .before .before .before .before .before .before .before .before .before .before .before .before .before .before .before .before .before .before .before .args in let h = has-room 64 2048 (a .panel .areas) (a .panel .areabytes) (length (a .name .now)) (c .before .before .before .before .before .before .before .before .before .before .before .before .before .before .before .before .before .before .before .no-room .result) (c .before .before .before .before .before .before .before .before .before .before .before .before .before .before .before .before .before .before .before .no-room .ensures) (c .before .before .before .before .before .before .before .before .before .before .before .before .before .before .before .before .before .before .if2 .left) in omega arith
+add-end : tie.Need-add-end
+add-end c = let a = c .before .before .before .before .before .before .before .before .before .before .before .before .before .before .before .before .before .before .before .before .before .args in let h = has-room 64 2048 (a .panel .grid .areas) (a .panel .room .areabytes) (length (a .name .now)) (c .before .before .before .before .before .before .before .before .before .before .before .before .before .before .before .no-room .result) (c .before .before .before .before .before .before .before .before .before .before .before .before .before .before .before .no-room .ensures) (c .before .before .before .before .before .before .before .before .before .before .before .before .before .before .if2 .left) in omega arith
 
 put-requires-3 : tie.Need-put-requires-3
 put-requires-3 c κs = search needs
@@ -80,7 +77,7 @@ same-length-2 c = search needs
 
 returns-3 : tie.Need-returns-3
 unfolding putArea
-returns-3 c = rw (c .put3 .ensures, c .before .raised-to2 .ensures, c .before .before .raised-to .ensures, c .before .before .before .before .before .before .before .put-bytes .ensures, c .before .before .before .before .before .before .before .before .before .before .before .set-word2 .ensures, c .before .before .before .before .before .before .before .before .before .before .before .before .before .before .before .set-word .ensures, c .before .before .before .before .before .before .before .before .before .before .before .before .before .before .before .before .before .name-word .ensures, c .before .before .before .before .before .before .before .before .before .before .before .before .before .before .before .before .before .before .edges-word .ensures, sym (c .before .before .before .before .before .before .before .before .before .before .before .before .before .before .before .before .before .before .before .before .before .before .edges-outside .ensures) ∙ c .before .before .before .before .before .before .before .before .before .before .before .before .before .before .before .before .before .before .before .before .before .if1 .left, sym (c .before .before .before .before .before .before .before .before .before .before .before .before .before .before .before .before .before .before .before .before .no-room .ensures) ∙ c .before .before .before .before .before .before .before .before .before .before .before .before .before .before .before .before .before .before .before .if2 .left)
+returns-3 c = rw (c .put3 .ensures, c .before .before .before .raised .ensures, c .before .before .before .before .before .before .before .put-bytes .ensures, c .before .before .before .before .before .before .before .before .before .before .before .set-word2 .ensures, c .before .before .before .before .before .before .before .before .before .before .before .before .before .before .before .set-word .ensures, c .before .before .before .before .before .before .before .before .before .before .before .before .before .before .before .before .before .name-word .ensures, c .before .before .before .before .before .before .before .before .before .before .before .before .before .before .before .before .before .before .edges-word .ensures, sym (c .before .before .before .before .before .before .before .before .before .before .before .before .before .before .before .before .before .before .before .before .before .before .edges-outside .ensures) ∙ c .before .before .before .before .before .before .before .before .before .before .before .before .before .before .before .before .before .before .before .before .before .if1 .left, sym (c .before .before .before .before .before .before .before .before .before .before .before .before .before .before .before .before .before .before .before .before .no-room .ensures) ∙ c .before .before .before .before .before .before .before .before .before .before .before .before .before .before .before .before .before .before .before .if2 .left)
 
 pub put-area-spec : {M : Type 1} → statement M
 put-area-spec =
@@ -101,11 +98,10 @@ put-area-spec =
     set-word-requires-2
     cast-put-bytes
     put-bytes-requires
-    raised-to-requires
-    raised-to-requires-2
-    add-after
-    cast-after
-    add-after-2
+    add-next
+    cast-end
+    add-end
+    raised-requires
     put-requires-3
     same-length
     same-length-2

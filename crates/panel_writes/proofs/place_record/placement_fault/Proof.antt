@@ -28,10 +28,10 @@ unfolding placementFault
 returns-3 c = rw (sym (c .before .before .before .before .before .end-outside .ensures) ∙ c .before .before .before .before .if1 .left, sym (c .before .before .before .end-outside2 .ensures) ∙ c .before .before .if2 .left, sym (c .before .no-room .ensures) ∙ c .if3 .taken)
 
 cast-no-room : tie.Need-cast-no-room
-cast-no-room c = let a = c .before .before .before .before .before .before .args in let h = has-room 256 16384 (a .panel .placements) (a .panel .placementbytes) (a .first) (c .before .no-room .result) (c .before .no-room .ensures) (c .if3 .left) in omega arith
+cast-no-room c = let a = c .before .before .before .before .before .before .args in let h = has-room 256 16384 (a .panel .grid .placements) (a .panel .room .placementbytes) (a .first) (c .before .no-room .result) (c .before .no-room .ensures) (c .if3 .left) in omega arith
 
 add-no-room : tie.Need-add-no-room
-add-no-room c = let a = c .before .before .before .before .before .before .args in let h = has-room 256 16384 (a .panel .placements) (a .panel .placementbytes) (a .first) (c .before .no-room .result) (c .before .no-room .ensures) (c .if3 .left) in omega arith
+add-no-room c = let a = c .before .before .before .before .before .before .args in let h = has-room 256 16384 (a .panel .grid .placements) (a .panel .room .placementbytes) (a .first) (c .before .no-room .result) (c .before .no-room .ensures) (c .if3 .left) in omega arith
 
 no-room-requires-2 : tie.Need-no-room-requires-2
 no-room-requires-2 c κs = search needs

@@ -3,6 +3,7 @@ use Rattle.panel_tables.proofs.Rooms.{placement-room}
 use lib.ListN.{length}
 use borrow.Author.Tests.{eq-eqb, ne-eqb}
 use Rattle.panel_tables.specs.Placements.{putPlacement}
+use mathlib.Core.Path.{_∙_}
 use borrow.Author.Needs.{needs}
 use Rattle.panel_writes.proofs.place_record.put_placement.Statement.{statement}
 use Rattle.panel_writes.proofs.place_record.put_placement.Tie as tie
@@ -36,7 +37,7 @@ end-word-requires-2 : tie.Need-end-word-requires-2
 end-word-requires-2 c κs = search needs
 
 add-set-word : tie.Need-add-set-word
-add-set-word c = search needs
+add-set-word c = let a = c .before .before .before .before .before .before .before .before .before .before .args in let h = placement-room (a .panel) (a .start) (length (a .first .now)) (a .end) (length (a .last .now)) (c .before .before .before .before .before .placement-fault .result) (c .before .before .before .before .before .placement-fault .ensures) (c .before .before .before .before .if1 .left) in omega (arith, h .start .free, h .start .short, h .start .bytes, h .end .short, h .end .bytes)
 
 set-word-requires : tie.Need-set-word-requires
 set-word-requires c κs = search needs
@@ -62,27 +63,27 @@ cast-put-bytes-2 c = let a = c .before .before .before .before .before .before .
 put-bytes-requires-2 : tie.Need-put-bytes-requires-2
 put-bytes-requires-2 c κs = search needs
 
-add-after : tie.Need-add-after
-add-after c = let a = c .before .before .before .before .before .before .before .before .before .before .before .before .before .before .before .before .before .before .before .before .before .before .before .before .before .args in let h = placement-room (a .panel) (a .start) (length (a .first .now)) (a .end) (length (a .last .now)) (c .before .before .before .before .before .before .before .before .before .before .before .before .before .before .before .before .before .before .before .before .placement-fault .result) (c .before .before .before .before .before .before .before .before .before .before .before .before .before .before .before .before .before .before .before .before .placement-fault .ensures) (c .before .before .before .before .before .before .before .before .before .before .before .before .before .before .before .before .before .before .before .if1 .left) in omega (arith, h .start .free, h .start .short, h .start .bytes, h .end .short, h .end .bytes)
+add-next : tie.Need-add-next
+add-next c = let a = c .before .before .before .before .before .before .before .before .before .before .before .before .before .before .before .before .before .before .before .before .before .before .before .before .before .args in let h = placement-room (a .panel) (a .start) (length (a .first .now)) (a .end) (length (a .last .now)) (c .before .before .before .before .before .before .before .before .before .before .before .before .before .before .before .before .before .before .before .before .placement-fault .result) (c .before .before .before .before .before .before .before .before .before .before .before .before .before .before .before .before .before .before .before .before .placement-fault .ensures) (c .before .before .before .before .before .before .before .before .before .before .before .before .before .before .before .before .before .before .before .if1 .left) in omega (arith, h .start .free, h .start .short, h .start .bytes, h .end .short, h .end .bytes)
 
-cast-after : tie.Need-cast-after
-cast-after c = let a = c .before .before .before .before .before .before .before .before .before .before .before .before .before .before .before .before .before .before .before .before .before .before .before .before .before .args in let h = placement-room (a .panel) (a .start) (length (a .first .now)) (a .end) (length (a .last .now)) (c .before .before .before .before .before .before .before .before .before .before .before .before .before .before .before .before .before .before .before .before .placement-fault .result) (c .before .before .before .before .before .before .before .before .before .before .before .before .before .before .before .before .before .before .before .before .placement-fault .ensures) (c .before .before .before .before .before .before .before .before .before .before .before .before .before .before .before .before .before .before .before .if1 .left) in omega (arith, h .start .free, h .start .short, h .start .bytes, h .end .short, h .end .bytes)
+cast-end : tie.Need-cast-end
+cast-end c = let a = c .before .before .before .before .before .before .before .before .before .before .before .before .before .before .before .before .before .before .before .before .before .before .before .before .before .args in let h = placement-room (a .panel) (a .start) (length (a .first .now)) (a .end) (length (a .last .now)) (c .before .before .before .before .before .before .before .before .before .before .before .before .before .before .before .before .before .before .before .before .placement-fault .result) (c .before .before .before .before .before .before .before .before .before .before .before .before .before .before .before .before .before .before .before .before .placement-fault .ensures) (c .before .before .before .before .before .before .before .before .before .before .before .before .before .before .before .before .before .before .before .if1 .left) in omega (arith, h .start .free, h .start .short, h .start .bytes, h .end .short, h .end .bytes)
 
-add-after-2 : tie.Need-add-after-2
-add-after-2 c = let a = c .before .before .before .before .before .before .before .before .before .before .before .before .before .before .before .before .before .before .before .before .before .before .before .before .before .args in let h = placement-room (a .panel) (a .start) (length (a .first .now)) (a .end) (length (a .last .now)) (c .before .before .before .before .before .before .before .before .before .before .before .before .before .before .before .before .before .before .before .before .placement-fault .result) (c .before .before .before .before .before .before .before .before .before .before .before .before .before .before .before .before .before .before .before .before .placement-fault .ensures) (c .before .before .before .before .before .before .before .before .before .before .before .before .before .before .before .before .before .before .before .if1 .left) in omega (arith, h .start .free, h .start .short, h .start .bytes, h .end .short, h .end .bytes)
+add-end : tie.Need-add-end
+add-end c = let a = c .before .before .before .before .before .before .before .before .before .before .before .before .before .before .before .before .before .before .before .before .before .before .before .before .before .args in let h = placement-room (a .panel) (a .start) (length (a .first .now)) (a .end) (length (a .last .now)) (c .before .before .before .before .before .before .before .before .before .before .before .before .before .before .before .before .before .before .before .before .placement-fault .result) (c .before .before .before .before .before .before .before .before .before .before .before .before .before .before .before .before .before .before .before .before .placement-fault .ensures) (c .before .before .before .before .before .before .before .before .before .before .before .before .before .before .before .before .before .before .before .if1 .left) in omega (arith, h .start .free, h .start .short, h .start .bytes, h .end .short, h .end .bytes)
 
 put-requires-2 : tie.Need-put-requires-2
 put-requires-2 c κs = search needs
 
 same-length : tie.Need-same-length
-same-length c = search needs
+same-length c = c .before .before .before .before .before .before .before .before .before .before .before .before .words2 .given ∙ c .before .before .before .before .before .before .before .before .before .before .before .before .before .before .before .before .words .given
 
 same-length-2 : tie.Need-same-length-2
-same-length-2 c = search needs
+same-length-2 c = c .before .before .before .before .bytes2 .given ∙ c .before .before .before .before .before .before .before .before .bytes .given
 
 returns-2 : tie.Need-returns-2
 unfolding putPlacement
-returns-2 c = rw (c .put2 .ensures, c .before .before .before .put-bytes2 .ensures, c .before .before .before .before .before .before .before .put-bytes .ensures, c .before .before .before .before .before .before .before .before .before .before .before .set-word2 .ensures, c .before .before .before .before .before .before .before .before .before .before .before .before .before .before .before .set-word .ensures, c .before .before .before .before .before .before .before .before .before .before .before .before .before .before .before .before .before .end-word2 .ensures, c .before .before .before .before .before .before .before .before .before .before .before .before .before .before .before .before .before .before .end-word .ensures, c .before .before .before .before .before .before .before .before .before .before .before .before .before .before .before .before .before .before .before .axis-number .ensures, ← (c .before .before .before .before .before .before .before .before .before .before .before .before .before .before .before .before .before .before .before .before .before .placement-fault .ensures), eq-eqb _ _ (c .before .before .before .before .before .before .before .before .before .before .before .before .before .before .before .before .before .before .before .before .if1 .left))
+returns-2 c = rw (c .put2 .ensures, c .before .before .before .before .before .put-bytes2 .ensures, c .before .before .before .before .before .before .before .before .before .put-bytes .ensures, c .before .before .before .before .before .before .before .before .before .before .before .before .before .set-word2 .ensures, c .before .before .before .before .before .before .before .before .before .before .before .before .before .before .before .before .before .set-word .ensures, c .before .before .before .before .before .before .before .before .before .before .before .before .before .before .before .before .before .before .before .end-word2 .ensures, c .before .before .before .before .before .before .before .before .before .before .before .before .before .before .before .before .before .before .before .before .end-word .ensures, c .before .before .before .before .before .before .before .before .before .before .before .before .before .before .before .before .before .before .before .before .before .axis-number .ensures, ← (c .before .before .before .before .before .before .before .before .before .before .before .before .before .before .before .before .before .before .before .before .before .before .before .placement-fault .ensures), eq-eqb _ _ (c .before .before .before .before .before .before .before .before .before .before .before .before .before .before .before .before .before .before .before .before .before .before .if1 .left))
 
 pub put-placement-spec : {M : Type 1} → statement M
 put-placement-spec =
@@ -106,9 +107,9 @@ put-placement-spec =
     put-bytes-requires
     cast-put-bytes-2
     put-bytes-requires-2
-    add-after
-    cast-after
-    add-after-2
+    add-next
+    cast-end
+    add-end
     put-requires-2
     same-length
     same-length-2

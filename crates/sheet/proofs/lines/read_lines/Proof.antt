@@ -36,16 +36,20 @@ loop-holds c = (search needs, search needs, search needs, rw (c .zero-panel-read
 find-requires : tie.Need-find-requires Inv-loop μ-loop
 find-requires c κs = omega arith
 
+stopped-requires : tie.Need-stopped-requires Inv-loop μ-loop
+stopped-requires c κs = search needs
+
 returns : tie.Need-returns Inv-loop μ-loop
 returns c =
-    let s = c .before .before .before .before .before .before .before .args .sheet .now in
-    let l = c .before .before .before .loop in
+    let s = c .before .before .before .before .before .before .before .before .args .sheet .now in
+    let l = c .before .before .before .before .loop in
     let h : PanelHeld = panelHeldOf (l .panel) (l .reading) (l .words) (l .bytes) (l .columnbytes) (l .rowbytes) in
-    let f = c .before .find in
-    sym
+    let f = c .before .before .find in
+    rw (c .stopped .ensures)
+    (sym
     (l .inv .3
-    ∙ ap (λ (ps : List (List ℕ)). heldRun (l .line) ps h) (split-no-more 10 s (l .at) (f .result) (omega arith) (f .ensures) (c .if1 .taken))
-    ∙ run-open (l .line) (take (f .result - l .at) (drop (l .at) s)) h (λ z. omega (arith, length-take (f .result - l .at) (drop (l .at) s), length-drop (l .at) s)))
+    ∙ ap (λ (ps : List (List ℕ)). heldRun (l .line) ps h) (split-no-more 10 s (l .at) (f .result) (omega arith) (f .ensures) (c .before .if1 .taken))
+    ∙ run-open (l .line) (take (f .result - l .at) (drop (l .at) s)) h (λ z. omega (arith, length-take (f .result - l .at) (drop (l .at) s), length-drop (l .at) s))))
 
 sub-read-line : tie.Need-sub-read-line Inv-loop μ-loop
 sub-read-line c = omega (arith, c .before .before .before .before .before .find .ensures)
@@ -59,18 +63,22 @@ part-read-line-end c = find-le 10 _ (c .before .before .before .before .before .
 read-line-requires : tie.Need-read-line-requires Inv-loop μ-loop
 read-line-requires c κs = search needs
 
+stopped-requires-2 : tie.Need-stopped-requires-2 Inv-loop μ-loop
+stopped-requires-2 c κs = search needs
+
 returns-2 : tie.Need-returns-2 Inv-loop μ-loop
 returns-2 c =
-    let s = c .before .before .before .before .before .before .before .before .before .before .before .before .before .before .before .before .args .sheet .now in
-    let l = c .before .before .before .before .before .before .before .before .before .before .before .before .loop in
+    let s = c .before .before .before .before .before .before .before .before .before .before .before .before .before .before .before .before .before .args .sheet .now in
+    let l = c .before .before .before .before .before .before .before .before .before .before .before .before .before .loop in
     let h : PanelHeld = panelHeldOf (l .panel) (l .reading) (l .words) (l .bytes) (l .columnbytes) (l .rowbytes) in
-    let f = c .before .before .before .before .before .before .before .before .before .before .find in
-    let k = c .before .before .before .read-line in
+    let f = c .before .before .before .before .before .before .before .before .before .before .before .find in
+    let k = c .before .before .before .before .read-line in
     let x : PanelStepped = record { fault = k .result .fault; held = panelHeldOf (k .result .panel) (k .result .reading) (k .last .1 .1 .0) (k .last .1 .1 .1 .0) (k .last .1 .1 .1 .1 .0) (k .last .1 .1 .1 .1 .1 .0) } in
-    sym
+    rw (c .stopped2 .ensures)
+    (sym
     (l .inv .3
-    ∙ ap (λ (ps : List (List ℕ)). heldRun (l .line) ps h) (split-more 10 s (l .at) (f .result) (omega arith) (f .ensures) (c .before .before .before .before .before .before .before .before .before .if1 .left))
-    ∙ run-stop (l .line) (take (f .result - l .at) (drop (l .at) s)) h 10 (drop (f .result + 1) s) x (k .ensures) (c .if2 .taken))
+    ∙ ap (λ (ps : List (List ℕ)). heldRun (l .line) ps h) (split-more 10 s (l .at) (f .result) (omega arith) (f .ensures) (c .before .before .before .before .before .before .before .before .before .before .if1 .left))
+    ∙ run-stop (l .line) (take (f .result - l .at) (drop (l .at) s)) h 10 (drop (f .result + 1) s) x (k .ensures) (c .before .if2 .taken)))
 
 add-at : tie.Need-add-at Inv-loop μ-loop
 add-at c =
@@ -101,15 +109,19 @@ loop-again c =
           ∙ run-next (l .line) (take (f .result - l .at) (drop (l .at) s)) h 10 (drop (f .result + 1) s) x (k .ensures) (c .if2 .left),
     )
 
+stopped-requires-3 : tie.Need-stopped-requires-3 Inv-loop μ-loop
+stopped-requires-3 c κs = search needs
+
 returns-3 : tie.Need-returns-3 Inv-loop μ-loop
 returns-3 c =
-    let s = c .before .before .before .before .before .args .sheet .now in
-    let l = c .before .loop in
+    let s = c .before .before .before .before .before .before .args .sheet .now in
+    let l = c .before .before .loop in
     let h : PanelHeld = panelHeldOf (l .panel) (l .reading) (l .words) (l .bytes) (l .columnbytes) (l .rowbytes) in
-    sym
+    rw (c .stopped3 .ensures)
+    (sym
     (l .inv .3
     ∙ ap (λ (ps : List (List ℕ)). heldRun (l .line) ps h) (split-end 10 s (l .at) (omega arith))
-    ∙ run-last (l .line) h)
+    ∙ run-last (l .line) h))
 
 pub read-lines-spec : {M : Type 1} → statement M
 read-lines-spec =
@@ -121,14 +133,17 @@ read-lines-spec =
     zero-panel-reading-requires
     loop-holds
     find-requires
+    stopped-requires
     returns
     sub-read-line
     part-read-line-start
     part-read-line-end
     read-line-requires
+    stopped-requires-2
     returns-2
     add-at
     add-line
     loop-less
     loop-again
+    stopped-requires-3
     returns-3)

@@ -82,7 +82,7 @@ returns-2 c =
     (rw (c .read-by .ensures)
     (columns-back (a .panel) (a .reading) (a .words .now) (a .bytes .now) (a .columnbytes .now) (a .rowbytes .now) (omega (arith, c .before .before .before .before .on-axis-arg .given)) (omega (arith, c .before .before .before .on-axis-arg2 .given)) _ first (a .there .said)
     (record { answer = k .result; words = k .last .1 .1 .1 .0; marks = k .last .1 .1 .1 .1 .0; bytes = k .last .1 .1 .1 .1 .1 .0 })
-    (k .ensures) (c .before .before .before .before .before .before .before .before .before .part-at .ensures) (omega (arith, c .before .before .before .before .on-axis-arg .given)) (omega (arith, c .before .before .before .on-axis-arg2 .given))))
+    (k .ensures) (c .before .before .before .before .before .before .before .before .before .part-at .ensures) (omega (arith, c .before .before .before .before .on-axis-arg .given, k .kept .1 .1 .1 .0)) (omega (arith, c .before .before .before .on-axis-arg2 .given, k .kept .1 .1 .1 .1 .0))))
 
 returns-3 : tie.Need-returns-3
 returns-3 c =
@@ -95,7 +95,7 @@ returns-3 c =
     (rw (c .read-by2 .ensures)
     (rows-back (a .panel) (a .reading) (a .words .now) (a .bytes .now) (a .columnbytes .now) (a .rowbytes .now) (omega (arith, c .before .before .before .before .on-axis-arg4 .given)) (omega (arith, c .before .before .before .on-axis-arg5 .given)) _ first (a .there .said)
     (record { answer = k .result; words = k .last .1 .1 .1 .0; marks = k .last .1 .1 .1 .1 .0; bytes = k .last .1 .1 .1 .1 .1 .0 })
-    (k .ensures) (c .before .before .before .before .before .before .before .before .before .part-at .ensures) (omega (arith, c .before .before .before .before .on-axis-arg4 .given)) (omega (arith, c .before .before .before .on-axis-arg5 .given))))
+    (k .ensures) (c .before .before .before .before .before .before .before .before .before .part-at .ensures) (omega (arith, c .before .before .before .before .on-axis-arg4 .given, k .kept .1 .1 .1 .0)) (omega (arith, c .before .before .before .on-axis-arg5 .given, k .kept .1 .1 .1 .1 .0))))
 
 returns-4 : tie.Need-returns-4
 returns-4 c =
@@ -106,9 +106,9 @@ returns-4 c =
     let k = c .before .on-areas in
     by-part h first second (a .there .said) _ (sym (c .before .before .before .before .before .before .before .part-of .ensures) ∙ c .before .before .before .before .before .edges .given .1)
     (rw (c .with-reading2 .ensures)
-    (areas-back (a .panel) (a .reading) (a .words .now) (a .bytes .now) (a .columnbytes .now) (a .rowbytes .now) (search needs) (search needs) _ first _
+    (areas-back (a .panel) (a .reading) (a .words .now) (a .bytes .now) (a .columnbytes .now) (a .rowbytes .now) (omega (arith, c .before .before .before .on-areas-arg .given)) (omega (arith, c .before .before .on-areas-arg2 .given)) _ first _
     (record { answer = k .result; words = k .last .1 .0; bytes = k .last .1 .1 .0 })
-    (k .ensures) (c .before .before .before .before .before .before .before .before .before .part-at .ensures) (search needs) (search needs)))
+    (k .ensures) (c .before .before .before .before .before .before .before .before .before .part-at .ensures) (omega (arith, c .before .before .before .on-areas-arg .given, k .kept .1 .0)) (omega (arith, c .before .before .on-areas-arg2 .given, k .kept .1 .1 .0))))
 
 returns-5 : tie.Need-returns-5
 returns-5 c =
@@ -119,9 +119,9 @@ returns-5 c =
     let k = c .before .on-placements in
     by-part h first second (a .there .said) _ (sym (c .before .before .before .before .before .before .before .part-of .ensures) ∙ c .before .before .before .before .before .axis .given .1)
     (rw (c .with-reading3 .ensures)
-    (placements-back (a .panel) (a .reading) (a .words .now) (a .bytes .now) (a .columnbytes .now) (a .rowbytes .now) (search needs) (search needs) _ _ _ first _ _ second
+    (placements-back (a .panel) (a .reading) (a .words .now) (a .bytes .now) (a .columnbytes .now) (a .rowbytes .now) (omega (arith, c .before .before .before .on-placements-arg .given)) (omega (arith, c .before .before .on-placements-arg2 .given)) _ _ _ first _ _ second
     (record { answer = k .result; words = k .last .1 .0; bytes = k .last .1 .1 .0 })
-    (k .ensures) (c .before .before .before .before .before .before .before .before .before .part-at .ensures) (c .before .before .before .before .before .before .before .before .part-at2 .ensures) (search needs) (search needs)))
+    (k .ensures) (c .before .before .before .before .before .before .before .before .before .part-at .ensures) (c .before .before .before .before .before .before .before .before .part-at2 .ensures) (omega (arith, c .before .before .before .on-placements-arg .given, k .kept .1 .0)) (omega (arith, c .before .before .on-placements-arg2 .given, k .kept .1 .1 .0))))
 
 pub panel-record-spec : {M : Type 1} → statement M
 panel-record-spec =

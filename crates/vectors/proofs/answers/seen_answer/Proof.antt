@@ -4,11 +4,11 @@ use Rattle.vectors.proofs.answers.seen_answer.Statement.{statement}
 use Rattle.vectors.proofs.answers.seen_answer.Tie as tie
 
 abbrev Inv-loop : tie.InvT-loop
-Inv-loop expected seen cut panel words bytes columnstore rowstore at₀ last₀ turns₀ at last turns =
+Inv-loop expected seen cut grid words bytes columnstore rowstore at₀ last₀ turns₀ at last turns =
     turns ≤ 120260
 
 abbrev μ-loop : tie.MeasureT-loop
-μ-loop expected seen cut panel words bytes columnstore rowstore at₀ last₀ turns₀ at last turns =
+μ-loop expected seen cut grid words bytes columnstore rowstore at₀ last₀ turns₀ at last turns =
     120260 - turns
 
 loop-holds : tie.Need-loop-holds Inv-loop μ-loop

@@ -4,11 +4,11 @@ use Rattle.vectors.proofs.names.seen_list.Statement.{statement}
 use Rattle.vectors.proofs.names.seen_list.Tie as tie
 
 abbrev Inv-loop : tie.InvT-loop
-Inv-loop expected seen panel words columnstore rowstore axis line last₀ place₀ t13 last place =
+Inv-loop expected seen grid words columnstore rowstore axis line last₀ place₀ t13 last place =
     place ≤ 4096
 
 abbrev μ-loop : tie.MeasureT-loop
-μ-loop expected seen panel words columnstore rowstore axis line last₀ place₀ t13 last place =
+μ-loop expected seen grid words columnstore rowstore axis line last₀ place₀ t13 last place =
     4096 - place
 
 loop-holds : tie.Need-loop-holds Inv-loop μ-loop

@@ -4,11 +4,11 @@ use Rattle.vectors.proofs.names.seen_lists.Statement.{statement}
 use Rattle.vectors.proofs.names.seen_lists.Tie as tie
 
 abbrev Inv-loop : tie.InvT-loop
-Inv-loop expected seen cut panel words columnstore rowstore axis count last₀ line₀ last line =
+Inv-loop expected seen cut grid words columnstore rowstore axis count last₀ line₀ last line =
     line ≤ count
 
 abbrev μ-loop : tie.MeasureT-loop
-μ-loop expected seen cut panel words columnstore rowstore axis count last₀ line₀ last line =
+μ-loop expected seen cut grid words columnstore rowstore axis count last₀ line₀ last line =
     count - line
 
 list-count-requires : tie.Need-list-count-requires Inv-loop μ-loop
