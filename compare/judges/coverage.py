@@ -185,8 +185,8 @@ def first_cases(rust):
         for block in blocks(read_list(file)):
             entries = entries_asked(block.sheet, [call_of(row) for row in block.rows])
             if entries is not None:
-                take_new(found, rust.ask(block.sheet, entries)[-1], f"{file}.txt: {block.name}")
-    take_new(found, rust.lines(3)[-1], "lines.txt")
+                take_new(found, rust.ask(block.sheet, entries)[-1], f"{file}/{block.name}")
+    take_new(found, rust.lines(3)[-1], "lines")
     return found
 
 

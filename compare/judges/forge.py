@@ -4,6 +4,7 @@ import os
 import subprocess
 
 import build
+import lists
 from judged import LIBRARY, build_library, find
 
 
@@ -23,9 +24,10 @@ def main():
         raise build.CannotCompare("no comparison: the library is not there, `rt staticlib palgwern` writes it")
     if options.n < 1:
         raise build.CannotCompare("no comparison: N has to be at least 1")
-    lists = os.path.join(build.COMPARE, "recorded")
+    folder = os.path.join(build.COMPARE, "target", "lists")
+    lists.write_apart(folder, ("accepted", "entries", "refused"))
     what = "--planted" if options.planted else "--forge"
-    done = subprocess.run([build_library(archive), what, lists, str(options.n), str(options.seed)])
+    done = subprocess.run([build_library(archive), what, folder, str(options.n), str(options.seed)])
     if done.returncode not in (0, 1):
         print(f"broken: a call ended the program (status {done.returncode})")
     return 1 if done.returncode else 0

@@ -1,19 +1,20 @@
-"""The recorded lists: read, counted, joined for the program `vectors`, and held to docs/DIFFERENCES.md."""
+"""The recorded lists: read, counted, written as the input of the program `vectors`, and held to docs/DIFFERENCES.md.
+
+They stand once in the repository, one after the other in the file that `vectors` is run on under the gate. Before each stands
+its head, a line `lines ROWS list NAME`: the number of its conversions of lines, which is 0 for a list of blocks."""
 import os
 import re
 
 import browser_sheets
 import build
 
-RECORDED = os.path.join(build.COMPARE, "recorded")
 REPLAYED = ("cases", "limits", "short", "entries", "accepted", "refused", "large", "differences", "lines")
 WRONG = "wrong"  # replayed after them: what is wrong on purpose
 DIFFERENCES = os.path.join(build.REPOSITORY, "docs", "DIFFERENCES.md")
 VECTORS = os.path.join(build.REPOSITORY, "crates", "vectors")
-
-
-def read_list(name):
-    return build.read_bytes(os.path.join(RECORDED, name + ".txt"))
+RECORDED = os.path.join(VECTORS, "stdin")
+HEAD = re.compile(rb"lines \d+ list (\w+)")
+held = {}  # the lists by name, once they are read or remade
 
 
 class Reading:
@@ -59,15 +60,34 @@ class Block:
 
 
 def parts(data):
-    """The first line of each part of a list, with its block, or else with the rows of its conversions."""
+    """The first line of each part of the lists, with its block, or else with the rows of its conversions."""
+    return ((first, block, rows) for _, first, block, rows in placed_parts(data))
+
+
+def placed_parts(data):
+    """The same, each after the place where it starts."""
     reading = Reading(data)
     while reading.at < len(data):
+        at = reading.at
         first = reading.line()
         word, rest = first.split(b" ", 1)
         if word == b"lines":
-            yield first, None, [reading.line() for _ in range(int(rest.split()[0]))]
+            yield at, first, None, [reading.line() for _ in range(int(rest.split()[0]))]
         else:
-            yield first, Block(rest.decode(), reading), []
+            yield at, first, Block(rest.decode(), reading), []
+
+
+def parted(data):
+    """The lists by name, without their heads."""
+    heads = [(at, first) for at, first, _, _ in placed_parts(data) if HEAD.fullmatch(first)]
+    ends = [at for at, _ in heads[1:]] + [len(data)]
+    return {HEAD.fullmatch(first)[1].decode(): data[at + len(first) + 1:end] for (at, first), end in zip(heads, ends)}
+
+
+def read_list(name):
+    if name not in held:
+        held.update(parted(build.read_bytes(RECORDED)) | held)
+    return held[name]
 
 
 def blocks(data):
@@ -81,11 +101,16 @@ def call_of(row):
     return letter.decode(), int(line), name
 
 
+def with_head(name):
+    """A list after its head."""
+    data = read_list(name)
+    rows = data.count(b"\n") if name == "lines" else 0
+    return b"lines %d list %s\n" % (rows, name.encode()) + data
+
+
 def replayed():
-    """All lists one after the other, the lines with their number before them: what `vectors` replays under the gate."""
-    data = {name: read_list(name) for name in REPLAYED}
-    data["lines"] = b"lines %d\n" % data["lines"].count(b"\n") + data["lines"]
-    return b"".join(data[name] for name in REPLAYED) + read_list(WRONG)
+    """All lists one after the other: what `vectors` replays under the gate."""
+    return b"".join(with_head(name) for name in REPLAYED + (WRONG,))
 
 
 def totals():
@@ -107,6 +132,14 @@ def write_replayed():
     for name, data in (("stdin", replayed()), ("stdout", totals())):
         with open(os.path.join(VECTORS, name), "wb") as file:
             file.write(data)
+
+
+def write_apart(folder, names):
+    """Some of the lists as files of a folder, for a program that reads them so."""
+    os.makedirs(folder, exist_ok=True)
+    for name in names:
+        with open(os.path.join(folder, name + ".txt"), "wb") as file:
+            file.write(read_list(name))
 
 
 # docs/DIFFERENCES.md names cases as `LIST/CASE`; a case of `lines` is its count and its grid line, or its count,
@@ -141,10 +174,10 @@ def unnamed_rows(text):
 def faults():
     """What is wrong between the lists, docs/DIFFERENCES.md and the files of `vectors`, a line each."""
     text = build.read_bytes(DIFFERENCES).decode()
-    held = {name: cases_of(name) for name in NAMED}
+    cases = {name: cases_of(name) for name in NAMED}
     found = [f"docs/DIFFERENCES.md names {name}/{case}, which is not recorded"
-             for name, case in names_in(text) if case not in held[name]]
-    found += [f"docs/DIFFERENCES.md doesn't name browser/{case}" for case in held["browser"] if ("browser", case) not in names_in(text)]
+             for name, case in names_in(text) if case not in cases[name]]
+    found += [f"docs/DIFFERENCES.md doesn't name browser/{case}" for case in cases["browser"] if ("browser", case) not in names_in(text)]
     found += [f"docs/DIFFERENCES.md has a difference without a recorded case: {row}" for row in unnamed_rows(text)]
     for name, data in (("stdin", replayed()), ("stdout", totals())):
         if build.read_bytes(os.path.join(VECTORS, name)) != data:

@@ -2,6 +2,7 @@
 import argparse
 import os
 import random
+import sys
 
 import build
 import damage
@@ -15,14 +16,13 @@ import rules
 import wrong_blocks
 from answer import calls_of
 from compare import Rust, compare, compare_lines
-from lists import RECORDED
 
 SEED = 1
 DEFAULT_CASES = os.path.join(build.REPOSITORY, "..", "shared", "cases")
-# Sheets of each family in accepted.txt, and the longest block that is kept.
+# Sheets of each family in `accepted`, and the longest block that is kept.
 ACCEPTED = {"general": 1300, "tie": 200, "full": 40, "writing_out": 60, "spoiled": 40}
 LONGEST_BLOCK = 3500
-# Sheets of the family `grouped` in large.txt, and the longest block that is kept.
+# Sheets of the family `grouped` in `large`, and the longest block that is kept.
 GROUPED = 40
 LONGEST_GROUPED = 15000
 CUT = {"large": 60, "far": 40, "over": 12, "writing_out": 20, "full": 4}
@@ -76,9 +76,9 @@ def cut_lines(lines):
             if not line[0].isdigit() and not (line.startswith("names") and line.count("\t") == 2)]
 
 
-def write(name, blocks):
-    with open(os.path.join(RECORDED, name), "wb") as file:
-        file.write(b"".join(blocks))
+def keep(name, blocks):
+    """A list that is remade; all are written together at the end."""
+    lists.held[name] = b"".join(blocks)
     print(f"{name}: {len(blocks)} blocks, {sum(map(len, blocks))} bytes")
 
 
@@ -134,13 +134,13 @@ def write_cases(folder, rust):
         raise build.CannotCompare(f"not recorded: the papers' cases are not in {folder}")
     names = sorted(name[:-3] for name in os.listdir(folder) if name.endswith(".in"))
     cases = [paper_case(folder, name, rust) for name in names] + [held_case(name, *edges.SHEETS[name], rust) for name in edges.SHEETS]
-    write("cases.txt", [case.block(cut=len(case.lines) > 3000) for case in cases])
+    keep("cases", [case.block(cut=len(case.lines) > 3000) for case in cases])
 
 
 def write_differences(rust):
     """The sheets of docs/DIFFERENCES.md."""
     cases = [held_case(*sheet, rust) for sheet in differences.sheets()]
-    write("differences.txt", [case.block(cut=len(case.lines) > 3000) for case in cases])
+    keep("differences", [case.block(cut=len(case.lines) > 3000) for case in cases])
 
 
 def limit_case(name, lines, refusal, rust):
@@ -158,7 +158,7 @@ def write_limits(rust):
     cases.append(Case("limits of entry calls", b"", [call for call, _ in calls], rust))
     if cases[-1].answer.numbers != [number for _, number in calls]:
         raise build.CannotCompare("not recorded: the limits of entry calls are answered otherwise")
-    write("limits.txt", [case.block(cut=len(case.lines) > 3000) for case in cases])
+    keep("limits", [case.block(cut=len(case.lines) > 3000) for case in cases])
 
 
 def write_accepted(rust):
@@ -166,7 +166,7 @@ def write_accepted(rust):
     cases = [case for family, count in ACCEPTED.items() for case in taken(made_cases(family, rust), count, small)]
     middle = lambda case: not case.refused and 20000 <= len(case.block()) <= 60000
     cases += taken(made_cases("general", rust, SEED + 1), 6, middle)
-    write("accepted.txt", [case.block() for case in cases])
+    keep("accepted", [case.block() for case in cases])
 
 
 def write_cut(rust):
@@ -175,7 +175,7 @@ def write_cut(rust):
     cases = [case for family, count in CUT.items() for case in taken(made_cases(family, rust), count, large)]
     short = lambda case: not case.refused and len(case.block(cut=True)) <= LONGEST_GROUPED
     cases += taken(made_cases("grouped", rust), GROUPED, short)
-    write("large.txt", [case.block(cut=True) for case in cases])
+    keep("large", [case.block(cut=True) for case in cases])
 
 
 def refusal_key(case):
@@ -201,7 +201,7 @@ def write_refused(rust):
             seen[key] = seen.get(key, 0) + 1
             if seen[key] <= REFUSED_FOR_EACH.get(case.refused.number, REFUSED_FOR_OTHERS):
                 cases.append(case)
-    write("refused.txt", [case.block() for case in cases])
+    keep("refused", [case.block() for case in cases])
 
 
 def write_entries(rust):
@@ -213,7 +213,7 @@ def write_entries(rust):
     filling = lambda case: not case.refused and reader.CROWDED in case.answer.numbers and len(case.lines) < 3000
     cases += taken(made_cases("store", rust), STORE_LISTS, filling)
     cases += taken(made_cases("writing_out", rust, SEED + 4), STORE_LISTS, filling)
-    write("entries.txt", [case.block() for case in cases])
+    keep("entries", [case.block() for case in cases])
 
 
 def short_block(name, sheet, stores, calls):
@@ -244,7 +244,7 @@ def write_short():
     blocks.append(short_block("short calls", good, (full, full), [(stores, call) for call in calls for stores in lent]))
     many = [((full, full), ("c", 2, b"m" * 32))] * 1024 + [((less, full), ("c", 2, b"m")), ((full, less), ("c", 2, b"m" * 31))]
     blocks.append(short_block("short and crowded", good, (full, full), many))
-    write("short.txt", blocks)
+    keep("short", blocks)
 
 
 def line_row(explicit, line):
@@ -281,19 +281,19 @@ def write_lines(rust):
     rows += [line_row(explicit, line) for explicit in (10001, 32767, 65535) for line in near]
     origins = [-32768, -10001, -10000, -9999, -1, 0, 1, 2, 3, 4, 9999, 10000, 10001, 32767]
     rows += [origin_row(explicit, line) for explicit in (0, 3, 9999, 10000, 10001, 65535) for line in origins]
-    write("lines.txt", rows)
+    keep("lines", rows)
 
 
 def write_wrong():
     """What is wrong on purpose, made from the lists."""
-    write("wrong.txt", wrong_blocks.made())
+    keep("wrong", wrong_blocks.made())
 
 
 def check():
     """The lists against docs/DIFFERENCES.md, the files of `vectors` and each other."""
     found = lists.faults()
     if lists.read_list(lists.WRONG) != b"".join(wrong_blocks.made()):
-        found.append("recorded/wrong.txt is not made from the lists")
+        found.append("the list `wrong` is not made from the others")
     for fault in found:
         print(fault)
     print(f"{len(found)} faults in the recorded lists")
@@ -305,11 +305,14 @@ def main():
     parser.add_argument("--rust", help="folder of the unchanged Rust files")
     parser.add_argument("--cases", default=DEFAULT_CASES, help="folder of the papers' cases")
     parser.add_argument("--check", action="store_true", help="remake nothing: only check what is recorded")
+    parser.add_argument("--list", choices=lists.REPLAYED + (lists.WRONG,), help="remake nothing: print one of the lists")
     options = parser.parse_args()
+    if options.list:
+        sys.stdout.buffer.write(lists.read_list(options.list))
+        return 0
     if options.check:
         return check()
     rust = Rust(build.build(options.rust))
-    os.makedirs(RECORDED, exist_ok=True)
     write_cases(options.cases, rust)
     write_limits(rust)
     write_lines(rust)

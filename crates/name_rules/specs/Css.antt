@@ -1,4 +1,5 @@
--- CSS Grid Level 2, 8.3, line-based placement: the line that each end of an item comes to. Nothing here says how a line is found.
+-- CSS Grid Level 2, 8.3, line-based placement: the line that each end of an item comes to. Nothing here says how a line is found
+-- (SHEET.md, Placements).
 -- Lines are origin-zero: 0 is the first explicit line, the explicit count is the last, all others are implicit. The number of a
 -- line in the name book is one more. Document 01 adds that each line is held within 10,000 of the first as it is found.
 use mathlib.Core.Path.{_≡_}
@@ -44,6 +45,7 @@ pub record AxisNames : Type 0 where
   pub areas : List Area
 
 -- 7.2 and 7.3: a line has a name by an entry, or as the edge of a drawn area: area foo gives foo-start and foo-end
+-- (SHEET.md, Area edges and suffixes)
 pub data Named (x : AxisNames) (nm : Bytes) (number : ℕ) : Type 0 where
   written : (e : Entry) → List·Memᴰ e (x .book) → e .line ≡ number → e .name ≡ nm → Named x nm number
   drawn : (a : Area) (s : Side) → List·Memᴰ a (x .areas) → edge a s ≡ number → a .name ++ suffix s ≡ nm → Named x nm number
@@ -84,7 +86,8 @@ pub record CountsTo (x : AxisNames) (nm : Bytes) (w : Way) (s : ℤ) (f n : ℕ)
 
 -- 8.3, `<custom-ident>` and `<integer> && <custom-ident>`: the line of a name with a number, held; 0 where no number is written.
 -- edged: a name alone is the first line of NAME-start for a start, NAME-end for an end. bare: if there is none, as with number 1.
--- index: a positive number counts from the start edge of the explicit grid. back: a negative one counts from its end edge.
+-- index: a positive number counts from the start edge of the explicit grid. back: a negative one counts from its end edge
+-- (SHEET.md, Lines by index).
 pub data CssLine (x : AxisNames) (nm : Bytes) (s : Side) : ℤ → ℤ → Type 0 where
   edged : (l : ℕ) → Nearest (λ k. Named x (nm ++ suffix s) (suc k)) 0 l → CssLine x nm s (pos zero) (held (pos l))
   bare : (l : ℤ) → ((k : ℕ) → Named x (nm ++ suffix s) (suc k) → ⊥) → CountsTo x nm endward (pos zero) 0 1 l → CssLine x nm s (pos zero) (held l)
@@ -92,6 +95,7 @@ pub data CssLine (x : AxisNames) (nm : Bytes) (s : Side) : ℤ → ℤ → Type 
   back : (i : ℕ) (l : ℤ) → CountsTo x nm startward (pos (x .explicit)) 0 (suc i) l → CssLine x nm s (negsuc i) (held l)
 
 -- 8.3, `span && <integer> && <custom-ident>`: the line of a named span beside line o, held; a span of 0 is read as 1
+-- (SHEET.md, Named spans)
 pub record CssSpan (x : AxisNames) (nm : Bytes) (w : Way) (o : ℤ) (n : ℕ) (h : ℤ) : Type 0 where
   pub line : ℤ
   pub counted : CountsTo x nm w o 1 (suc (pred n)) line

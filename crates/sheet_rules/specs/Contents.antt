@@ -1,4 +1,4 @@
--- What the lines of a sheet say, over their fields alone (document 01, panel sheet): which line, which axis, which field goes where, in which order.
+-- What the lines of a sheet say, over their fields alone (document 01, panel sheet; SHEET.md, Lines of a sheet): which line, which axis, which field goes where, in which order.
 -- They don't name the reader of a line or of a sheet; proofs/Contents.antt shows that the view of every accepted sheet is what its lines say.
 use Prim.Native.Nat.{ℕ, _-_, _<_, max}
 use mathlib.Core.Path.{_≡_}

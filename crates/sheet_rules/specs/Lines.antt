@@ -1,4 +1,5 @@
--- What one line of a sheet does to the panel that the lines before it describe (document 01, panel sheet and the table of refusals).
+-- What one line of a sheet does to the panel that the lines before it describe (document 01, panel sheet and the table of refusals;
+-- SHEET.md, Lines of a sheet).
 use Prim.Native.Nat.{ℕ}
 use mathlib.Core.List.{List, []}
 use mathlib.Core.Bool.{Bool, cond}

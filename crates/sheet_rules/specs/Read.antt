@@ -1,4 +1,5 @@
--- The answer of reading a sheet, and what everything lent holds then (document 01, panel sheet and the table of refusals).
+-- The answer of reading a sheet, and what everything lent holds then (document 01, panel sheet and the table of refusals;
+-- SHEET.md, Calls).
 use Prim.Native.Nat.{ℕ}
 use mathlib.Core.Bool.{Bool, cond, _||_}
 use mathlib.Core.List.{List}

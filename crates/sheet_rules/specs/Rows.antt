@@ -1,4 +1,5 @@
--- Rows 1 to 8 of document 01's table: at a line, over its fields and the panel that the lines before it describe, and after the last line.
+-- Rows 1 to 8 of document 01's table: at a line, over its fields and the panel that the lines before it describe, and after the last line
+-- (SHEET.md, Refusals).
 -- They don't name the reader; proofs/Theorem.antt shows that it follows them.
 use Prim.Native.Nat.{ℕ, zero, suc, _+_, _≤_, _<_}
 use mathlib.Core.Path.{_≡_}
@@ -72,7 +73,7 @@ TwiceBy extra v fs = ⊥
 TwiceBy item v fs = ⊥
 TwiceBy place v fs = ⊥
 
--- "kind order: `axis`, then `area`, then the rest, freely mixed"
+-- "kind order: `axis`, then `area`, then the rest, freely mixed" (SHEET.md, Order of kinds)
 abbrev pub orderOf : Kind → ℕ
 orderOf axis = 0
 orderOf area = 1
@@ -89,7 +90,7 @@ orderOf place = 2
 abbrev pub LateBy : Kind → PanelView → List (List ℕ) → Type 0
 LateBy k v fs = orderOf k < v .stage
 
--- "at most 64 components an axis, 32 tracks in a repeat"
+-- "at most 64 components an axis, 32 tracks in a repeat" (SHEET.md, Limits)
 abbrev pub FullFor : Unended → AxisView → Type 0
 FullFor none x = 64 ≤ length (componentsOf (x .template))
 FullFor (inside r) x = 32 ≤ length (tracksIn (r .pieces))

@@ -1,4 +1,5 @@
--- The panel that a sheet describes, or its refusal: a number and a line (document 01, panel sheet and the table of refusals).
+-- The panel that a sheet describes, or its refusal: a number and a line (document 01, panel sheet and the table of refusals;
+-- SHEET.md, Lines of a sheet; SHEET.md, Refusals).
 use Prim.Native.Nat.{ℕ, _+_, max}
 use mathlib.Core.List.{List, [], _∷_}
 use mathlib.Core.Bool.{cond}

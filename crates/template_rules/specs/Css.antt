@@ -1,4 +1,5 @@
--- CSS Grid Level 2, 7.2, automatic repeats: which templates are valid, and how often the repeat is written out, as predicates.
+-- CSS Grid Level 2, 7.2, automatic repeats: which templates are valid, and how often the repeat is written out, as predicates
+-- (SHEET.md, Template; SHEET.md, Repetitions).
 -- Sums, leftover and the quotient are document 01's f32 operations (layer 3); CssWhole.antt does without them, in whole numbers.
 use mathlib.Core.Path.{_≡_}
 use mathlib.Core.Logic.{_⊎_}

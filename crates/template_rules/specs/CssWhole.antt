@@ -1,4 +1,5 @@
--- CSS Grid Level 2, 7.2, automatic repeats, in whole numbers: the tracks as written out, added up with one gap between each two, against the inner size.
+-- CSS Grid Level 2, 7.2, automatic repeats, in whole numbers: the tracks as written out, added up with one gap between each two, against the inner size
+-- (SHEET.md, Repetitions).
 -- Of document 01's rule only the limit of 10,000 tracks stands here: no sum of a part, no count of gaps, no leftover, no quotient.
 use mathlib.Core.Path.{_≡_}
 use Prim.Native.Nat.{ℕ, zero, suc, _+_, _-_, _*_, _/_, _%_, _≤_, _<_, min, max}

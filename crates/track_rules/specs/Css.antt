@@ -1,4 +1,5 @@
--- CSS Grid's rules for collapse (Level 2, 7.2) and for implicit tracks (7.5, 7.6), over the tracks of an axis in order.
+-- CSS Grid's rules for collapse (Level 2, 7.2) and for implicit tracks (7.5, 7.6), over the tracks of an axis in order
+-- (SHEET.md, Items and collapse; SHEET.md, Implicit tracks).
 use Prim.Native.Nat.{ℕ, suc, _-_, _%_, _≤_, _<_}
 use mathlib.Core.Path.{_≡_}
 use mathlib.Core.Bool.{Bool, true, false}

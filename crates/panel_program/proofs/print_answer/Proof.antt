@@ -1,6 +1,6 @@
 use Prim.Native.Nat.{ℕ, _≤_, _<_}
 use mathlib.Core.Path.{_≡_, sym, ap, _∙_}
-use mathlib.Core.Bool.{false}
+use mathlib.Core.Bool.{true, false}
 use mathlib.Core.List.{List}
 use native.Mathlib.Omega.{arith}
 use lib.ListN.{length}
@@ -8,7 +8,7 @@ use lib.Seq.{length-take-le}
 use Rattle.sheet_rules.specs.Panels.{tablesIn}
 use Rattle.panel_answer.specs.Walk.{isEnd}
 use Rattle.panel_answer.specs.Text.{textFrom}
-use Rattle.panel_answer.proofs.Fills.{not-true, shorter, same-bytes}
+use Rattle.panel_answer.proofs.Fills.{not-true, not-false, shorter, same-bytes}
 use borrow.Author.Needs.{needs}
 use Rattle.panel_program.proofs.print_answer.Statement.{statement}
 use Rattle.panel_program.proofs.print_answer.Tie as tie
@@ -72,7 +72,7 @@ loop-again : tie.Need-loop-again Inv-loop μ-loop
 loop-again c = same-bytes (c .before .before .before .fill .ensures) ∙ c .before .before .before .before .before .before .before .before .before .before .before .loop .inv
 
 returns : tie.Need-returns Inv-loop μ-loop
-returns c = search needs
+returns c = sym (c .before .is-end .ensures) ∙ not-false (c .before .is-end .result) (c .if1 .left)
 
 pub print-answer-spec : {M : Type 1} → statement M
 print-answer-spec =
