@@ -51,7 +51,7 @@ fn record_words(track: &GridTrack) -> [u64; 3] {
 impl Theirs {
     pub(crate) fn new(text: &str) -> Theirs {
         let input = sheet::read(text);
-        let sizes = AXES.map(|axis| template_size(&input, axis));
+        let sizes = AXES.map(|axis| template_size(&input, &input.style, axis));
         let (resolver, explicit) = resolver(&input, sizes, &[]);
         let items = AXES.map(|axis| items(&input, axis));
         Theirs { input, sizes, explicit, resolver, items, tracks: [Vec::new(), Vec::new()] }
@@ -59,13 +59,13 @@ impl Theirs {
 
     pub(crate) fn sizes(&self) {
         for axis in AXES {
-            black_box(template_size(black_box(&self.input), axis));
+            black_box(template_size(black_box(&self.input), &self.input.style, axis));
         }
     }
 
     /// The size of the columns alone: repetitions and template count.
     pub(crate) fn column_size(&self) -> (u16, u16) {
-        black_box(template_size(black_box(&self.input), AXES[0]))
+        black_box(template_size(black_box(&self.input), &self.input.style, AXES[0]))
     }
 
     /// A resolver with all names of both templates.

@@ -36,21 +36,22 @@ fn read_entries(input: &mut impl BufRead, count: usize) -> Vec<Entry> {
     lines.map(|line| entry(&line.unwrap())).collect()
 }
 
-/// The rest of a block `sheet BYTES`: the sheet, `enter COUNT` and the entries.
-fn sheet_block(input: &mut impl BufRead, bytes: usize) -> String {
+/// The rest of a block `sheet BYTES` or `crate BYTES`: the sheet, `enter COUNT` and the entries.
+fn sheet_block(input: &mut impl BufRead, bytes: usize, unraised: bool) -> String {
     let mut sheet = vec![0; bytes];
     input.read_exact(&mut sheet).unwrap();
     let (_, count) = header(input).expect("the entries are due");
     let entries = read_entries(input, count);
     let sheet = String::from_utf8(sheet).unwrap();
-    answer_or_panic(&sheet, &entries, Wanted { names: true, counts: true })
+    answer_or_panic(&sheet, &entries, Wanted { names: true, counts: true, unraised })
 }
 
-/// For each block `sheet ..` or `lines EXPLICIT` an `answer BYTES` and the answer.
+/// For each block `sheet ..`, `crate ..` or `lines EXPLICIT` an `answer BYTES` and the answer.
 fn run_batch(mut input: impl BufRead, mut output: impl Write) {
     while let Some((word, number)) = header(&mut input) {
         let text = match word.as_str() {
-            "sheet" => sheet_block(&mut input, number),
+            "sheet" => sheet_block(&mut input, number, false),
+            "crate" => sheet_block(&mut input, number, true),
             "lines" => conversions(number as u16),
             _ => panic!("no such block"),
         };
@@ -65,7 +66,7 @@ fn run_one(names: bool, entries: Option<&String>) {
     std::io::stdin().read_to_string(&mut sheet).unwrap();
     let lines = entries.map_or(String::new(), |path| std::fs::read_to_string(path).unwrap());
     let entries: Vec<Entry> = lines.lines().map(entry).collect();
-    print!("{}", answer_or_panic(&sheet, &entries, Wanted { names, counts: false }));
+    print!("{}", answer_or_panic(&sheet, &entries, Wanted { names, counts: false, unraised: false }));
 }
 
 /// `--batch`, or `[--names] [--enter FILE]` for one sheet.

@@ -25,6 +25,8 @@ pub(crate) type Placement = (AbsoluteAxis, Line<GridPlacement<String>>);
 /// A sheet: the style for the Rust functions, and the arguments that are no style.
 pub(crate) struct Input {
     pub(crate) style: PanelStyle,
+    /// The style with raised sizes, for the number of repetitions alone.
+    pub(crate) raised: PanelStyle,
     pub(crate) columns: AxisInput,
     pub(crate) rows: AxisInput,
     pub(crate) placements: Vec<Placement>,
@@ -129,6 +131,31 @@ fn track(fields: &[&str]) -> TrackSizingFunction {
     }
 }
 
+/// Document 02, Req 05: inside the automatic repeat, each track below 1 is taken as 1 while counting repetitions.
+fn raised_track(track: TrackSizingFunction, inner: f32) -> TrackSizingFunction {
+    let max = track.max.definite_value(Some(inner), |_, _| 0.0);
+    let min = track.min.definite_value(Some(inner), |_, _| 0.0);
+    let measure = max.map(|max| min.map_or(max, |min| max.max(min))).or(min);
+    if measure.is_none_or(|measure| measure >= 1.0) {
+        return track;
+    }
+    let one = CompactLength::length(1.0);
+    TrackSizingFunction { min: MinTrackSizingFunction(one), max: MaxTrackSizingFunction(one) }
+}
+
+/// A template with the tracks of its automatic repeat raised; without an inner size there is nothing to measure.
+fn raised(components: &[GridTemplateComponent<String>], inner: Option<f32>) -> Vec<GridTemplateComponent<String>> {
+    let mut components = components.to_vec();
+    for component in &mut components {
+        if let (GridTemplateComponent::Repeat(repeat), Some(inner)) = (component, inner) {
+            if matches!(repeat.count, RepetitionCount::AutoFill | RepetitionCount::AutoFit) {
+                repeat.tracks.iter_mut().for_each(|track| *track = raised_track(*track, inner));
+            }
+        }
+    }
+    components
+}
+
 fn area(fields: &[&str]) -> GridTemplateArea<String> {
     let edge = |at: usize| fields[at].parse().unwrap();
     GridTemplateArea {
@@ -191,7 +218,8 @@ pub(crate) fn read(text: &str) -> Input {
         }
     }
     let style = PanelStyle::new(&mut columns, &mut rows, areas);
-    Input { style, columns, rows, placements }
+    let raised = style.raised(columns.inner, rows.inner);
+    Input { style, raised, columns, rows, placements }
 }
 
 /// A `Style` whose areas' extent is read by the defaults of the trait, as document 01 asks;
@@ -210,6 +238,14 @@ impl PanelStyle {
             grid_auto_rows: std::mem::take(&mut rows.spares),
             grid_template_areas: Some(GridTemplateAreas { areas, row_count: 0, column_count: 0 }),
             ..Style::DEFAULT
+        })
+    }
+
+    fn raised(&self, columns: Option<f32>, rows: Option<f32>) -> Self {
+        Self(Style {
+            grid_template_columns: raised(&self.0.grid_template_columns, columns),
+            grid_template_rows: raised(&self.0.grid_template_rows, rows),
+            ..self.0.clone()
         })
     }
 }

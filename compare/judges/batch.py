@@ -14,10 +14,10 @@ class Batch:
     def start(self):
         self.process = subprocess.Popen([self.path, "--batch"], stdin=subprocess.PIPE, stdout=subprocess.PIPE)
 
-    def send(self, sheet, calls):
+    def send(self, sheet, calls, word=b"sheet"):
         """A sheet and calls, each (axis, line, name as bytes)."""
         rows = b"".join(b"%s\t%d\t%s\n" % (letter.encode(), line, name) for letter, line, name in calls)
-        self.process.stdin.write(b"sheet %d\n%senter %d\n%s" % (len(sheet), sheet, len(calls), rows))
+        self.process.stdin.write(b"%s %d\n%senter %d\n%s" % (word, len(sheet), sheet, len(calls), rows))
 
     def read_answer(self):
         """The answer as lines."""

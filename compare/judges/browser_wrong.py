@@ -9,13 +9,21 @@ import rules
 import wrong
 from rules import Names
 
-# Readings of document 01 that the comparison with the Rust plants too, and that a panel of a browser shows.
+# Readings of documents 01 and 02 that the comparison with the Rust plants too, and that a panel of a browser shows.
 SHARED = [
     "negative spares aligned from the start",
     "a line counted twice where area and entry share it",
     "the drawn edge left out of a name's lines",
     "floor also for rule min",
     "the maximum not raised to the minimum",
+    "no thin track raised",
+    "the sum of a repetition raised instead of its tracks",
+    "only tracks of 0 raised",
+    "percentages not raised",
+    "thin tracks not raised in the first repetition",
+    "thin tracks outside the repeat raised",
+    "thin gaps raised",
+    "the records of thin tracks raised",
     "index 0 of a suffixed name is index 1",
     "index 0 takes the start edge at both ends",
     "the highest line of an edge wins",

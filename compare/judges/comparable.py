@@ -12,11 +12,13 @@ import model
 import rules
 from answered import position_of
 from compare import demand_lines
-from drawable import LEAST_REPEATED, drawable
+from drawable import drawable
 from maker import bits
 
 # Lengths that are exact in 1/64 and in 1/60 of a pixel, so that no browser rounds them.
 LENGTHS = [0, 1, 1.25, 2, 3.5, 5, 7.75, 10, 12, 16, 20, 25, 32.5, 50, 64, 100, 100, 150]
+# Of these and of thin ones an automatic repeat of the family `thin` is made.
+THIN_LENGTHS = [0, 0, 0.25, 0.5, 0.75, 1, 1.25, 2]
 # Inner sizes and fractions whose products are such lengths.
 INNER_STEP = 4
 MOST_INNER_STEPS = 200
@@ -36,19 +38,21 @@ class Comparable(maker.Maker):
         super().__init__(seed, number)
         self.extreme = False
         self.definite = False
-        self.least = 0
+        self.lengths = LENGTHS
+        self.most_steps = FRACTION_STEP
+        self.percentages = 0.2
         self.is_far = False
 
     # Sizes that CSS can write, for the axis at hand.
 
     def length(self):
-        return bits(float(self.pick([length for length in LENGTHS if length >= self.least])))
+        return bits(float(self.pick(self.lengths)))
 
     def fraction(self):
-        return bits(self.random.randint(1, FRACTION_STEP) / FRACTION_STEP)
+        return bits(self.random.randint(1, self.most_steps) / FRACTION_STEP)
 
     def fixed_size(self):
-        return ("pct\t" + self.fraction()) if self.definite and self.chance(0.2) else ("len\t" + self.length())
+        return ("pct\t" + self.fraction()) if self.definite and self.chance(self.percentages) else ("len\t" + self.length())
 
     def flexible(self):
         return "fr\t" + bits(self.pick([0.5, 1.0, 2.0, 3.0]))
@@ -78,10 +82,7 @@ class Comparable(maker.Maker):
         return f"axis\t{letter}\t{'-' if inner is None else bits(float(inner))}\t{rule}\t{gap}"
 
     def automatic_lines(self, letter, share):
-        self.least = LEAST_REPEATED
-        lines = self.repeat_lines(letter, self.pick(["fill", "fit", "fit"]), self.pick([1, 1, 1, 2, 2, 3]), True, share)
-        self.least = 0
-        return lines
+        return self.repeat_lines(letter, self.pick(["fill", "fit", "fit"]), self.pick([1, 1, 1, 2, 2, 3]), True, share)
 
     def template(self, letter):
         automatic = self.chance(0.65)
@@ -153,6 +154,28 @@ class Comparable(maker.Maker):
         lines += [f"track\t{letter}\tlen\t{written(size)}\tlen\t{written(size)}" for size in inside] + [f"end\t{letter}"]
         return lines + [f"track\t{letter}\tlen\t{written(size)}\tlen\t{written(size)}" for size in outside]
 
+    def thin(self):
+        """An automatic repeat with tracks below 1 px, in few pixels; thin tracks and thin gaps beside it."""
+        self.lengths, self.most_steps, self.percentages = THIN_LENGTHS, 3, 0.4
+        letter = self.pick("cr")
+        rule = self.pick(["max", "max", "min"])
+        inner = self.pick([0, 1, INNER_STEP * self.random.randint(1, 3), INNER_STEP * self.random.randint(0, 8), self.random.randint(0, 30)])
+        self.definite = rule == "max" and inner % INNER_STEP == 0
+        record = f"axis\t{letter}\t{bits(float(inner))}\t{rule}\tlen\t{self.length() if self.chance(0.6) else '00000000'}"
+        kinds = ["automatic"] + [self.pick(["track", "repeat"]) for _ in range(self.below(4))]
+        self.random.shuffle(kinds)
+        lines = []
+        for kind in kinds:
+            lines += self.name_lines(letter, 0.2)
+            if kind == "automatic":
+                lines += self.automatic_lines(letter, 0.2)
+            elif kind == "track":
+                lines.append(f"track\t{letter}\t{self.track(True)}")
+            else:
+                lines += self.repeat_lines(letter, self.pick([1, 2, 3]), self.pick([1, 2]), True, 0.2)
+        lines += self.name_lines(letter, 0.2)
+        return [record] + self.area_lines() + self.mixed(lines, self.loose_lines(letter), self.placement_lines())
+
     def far(self):
         """Lines around 10,000 on either side."""
         self.is_far = True
@@ -218,7 +241,8 @@ class Family:
 
 # Add a family by a method of its name that gives the lines of a sheet, and a row here.
 FAMILIES = {
-    "general": Family(940, [as_css]),
+    "general": Family(840, [as_css]),
+    "thin": Family(100, [as_css]),
     "fine": Family(50, [as_css, exact_in_one]),
     "far": Family(8, [as_css, all_unheld]),
     "many": Family(2, [as_css, all_unheld], FAR),

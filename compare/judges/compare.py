@@ -15,9 +15,11 @@ MOST_ENTRIES_ASKED = 100000
 class Rust(Batch):
     """The harness as a running process."""
 
-    def ask(self, sheet, entries):
-        """The answer as lines; the entries are those that the table accepts."""
-        self.send(sheet, [(letter, line, name.encode()) for letter, line, name in entries])
+    def ask(self, sheet, entries, word=b"sheet"):
+        """The answer as lines; the entries are those that the table accepts.
+
+        Its repetitions are by raised sizes, as document 02 has them; asked by the word `crate`, by its own."""
+        self.send(sheet, [(letter, line, name.encode()) for letter, line, name in entries], word)
         return self.answered()
 
     def lines(self, explicit):

@@ -176,7 +176,10 @@ def whole_measures(axis):
     gap = whole_number(axis.gap, axis.inner)
     if gap is None or any(size is None for sizes in measures for size in sizes):
         return None
-    return measures, gap
+    # "A track in the repeat may be floored; 1 px is suggested."
+    floored = [[max(size, 1) for size in sizes] if component.automatic() else sizes
+               for component, sizes in zip(axis.components, measures)]
+    return floored, gap
 
 
 def whole_repetitions(axis):
@@ -197,7 +200,7 @@ def whole_repetitions(axis):
         return used + (tracks(number) - 1) * gap
 
     one_more = size(2) - size(1)
-    if size(1) > 65535 or one_more == 0:
+    if size(1) > 65535:
         return None
     space = max(0, int(axis.inner) - size(1))
     number = 1 + (space // one_more if axis.rule == "max" else -(-space // one_more))

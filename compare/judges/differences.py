@@ -17,7 +17,8 @@ def placed(*ends):
 
 def rust_sheets():
     yield "counted above 10,000", repeat(10001, TRACK), ["refused\t4\t4"]
-    yield "filled above 10,000", [axis_line("41200000")] + repeat("fill", ZERO, ZERO, ZERO), ["refused\t4\t7"]
+    yield "filled above 10,000", [axis_line("477fff00")] + repeat("fill", ZERO, ZERO, ZERO), ["refused\t4\t7"]
+    yield "filled by length 0", [axis_line("3f800000")] + repeat("fill", ZERO), ["size\tc\t1\t1"]
     yield "4,097 entries", ["repeat\tc\t4097", "name\tc\tx", "end\tc"], ["refused\t8\t4"]
 
 
@@ -43,9 +44,7 @@ def worded_sheets():
     """Within the third demand's conditions, by the words of document 01."""
     yield "held before a span", ["area\ta\t1\t2\t1\t10001", place_line("nspan\ta-end\t1", "line\t-\t10002")], placed("line -10002 line 10002")
     yield "product above", [axis_line("41300000")] + repeat("fill", "pct\t3dcccccd\tpct\t3dcccccd"), ["size\tc\t9\t9"]
-    yield "quotient rounded up", [axis_line("4040ae82")] + repeat("fill", "len\t00000000\tlen\t3eab45c9"), ["size\tc\t9\t9"]
-    yield "quotient of 0", ["axis\tc\t00000001\tmin\tlen\t477fff00"] + repeat("fill", ZERO), ["size\tc\t1\t1"]
-    yield "filled by length 0", [axis_line("3f800000")] + repeat("fill", ZERO), ["size\tc\t10000\t10000"]
+    yield "quotient rounded up", [axis_line("4168d42b")] + repeat("fill", "len\t403a4356\tlen\t403a4356"), ["size\tc\t5\t5"]
     yield "span of 0", [place_line("nspan\tx\t0", "line\t-\t1")], placed("line -2 line 1")
     yield "plain span of 0", [place_line("span\t-\t0", "line\t-\t3")], placed("span 0 line 3")
     yield "areas that overlap", ["area\ta\t1\t2\t1\t3", "area\tb\t1\t2\t2\t4", place_line("named\ta\t0", "named\tb\t0")], \

@@ -1,8 +1,4 @@
 """Which panels CSS can write, so that a browser's answer is one to the same question."""
-import rules
-
-# A track of an automatic repeat is no thinner: CSS lets a browser take it to be one pixel wide.
-LEAST_REPEATED = 1
 
 
 def overlap(one, other):
@@ -24,16 +20,10 @@ def is_track(axis, track):
     return (not fits or track.minimum.kind == "auto") and (definite or not percentages)
 
 
-def is_thick(axis, track):
-    return axis.inner is None or rules.measure(track, axis.inner) >= LEAST_REPEATED
-
-
 def is_axis(axis):
     tracks = [track for component in axis.components for track in component.tracks]
-    repeated = [track for component in axis.components if component.automatic() for track in component.tracks]
     definite = axis.inner is not None and axis.rule == "max"
-    return (all(is_track(axis, track) for track in tracks + axis.spares) and all(is_thick(axis, track) for track in repeated)
-            and (definite or axis.gap.kind == "len"))
+    return all(is_track(axis, track) for track in tracks + axis.spares) and (definite or axis.gap.kind == "len")
 
 
 def is_end(end):

@@ -1,4 +1,4 @@
-"""Document 01's edges M1 to M12, with the answers that it writes beside them."""
+"""Document 01's edges M1 to M12, with the answers that it writes beside them; of M7 those of document 02, Req 05."""
 
 TRACK_100 = "track\tc\tlen\t42c80000\tlen\t42c80000"
 
@@ -23,7 +23,7 @@ SHEETS = {
     "M5 min": (repeated("439f8000", "min"), ["size\tc\t3\t3"]),
     "M6 small": (repeated("42c60000"), ["size\tc\t1\t1"]),
     "M6 none": (repeated("-"), ["size\tc\t1\t1"]),
-    "M7 inner 10": (repeated("41200000", "max", "00000000", "00000000"), ["size\tc\t10000\t10000"]),
+    "M7 inner 10": (repeated("41200000", "max", "00000000", "00000000"), ["size\tc\t10\t10"]),
     "M7 inner 0": (repeated("00000000", "max", "00000000", "00000000"), ["size\tc\t1\t1"]),
     "M8": (X_ON_1_AND_3 + ["place\tc\tnamed\tx\t2\tnamed\tx\t3", "place\tc\tnamed\tx\t-3\tauto\t-\t0"],
            ["place\tc\tline\t3\tline\t5", "place\tc\tline\t-5\tauto\t0"]),

@@ -1,4 +1,6 @@
-"""CSS's number of repetitions in exact arithmetic, and as each browser finds it in its own unit of length."""
+"""CSS's number of repetitions in exact arithmetic, and as each browser finds it in its own unit of length.
+
+A track in the repeat is at least 1 px."""
 import math
 from fractions import Fraction
 
@@ -17,7 +19,8 @@ def quotient(axis, repeat, kept):
         return kept(size.value()) if size.kind == "len" else Fraction(size.value()) * inner
 
     def measure(component):
-        return sum(max(fixed(size) for size in (track.minimum, track.maximum) if rules.fixed(size)) for track in component.tracks)
+        least = 1 if component.automatic() else 0
+        return sum(max([least, *(fixed(size) for size in (track.minimum, track.maximum) if rules.fixed(size))]) for track in component.tracks)
 
     outside = [component for component in axis.components if not component.automatic()]
     used = measure(repeat) + sum(measure(component) * rules.times(component, 0) for component in outside)

@@ -10,6 +10,8 @@ ENDINGS = ["", "", "", "-start", "-end", "-start", "-end", "-start-start", "-sta
            "-Start", "start", "-starts"]
 WHOLE = [0, 1, 2, 5, 10, 20, 50, 100, 100, 100, 150, 300, 1000, 65535]
 LENGTH_BITS = [0, 1, 2, 0x007fffff, 0x00800000, 0x3f800000, 0x3dcccccd, 0x477fff00, 0x477ffeff, 0x42c80000]
+# Lengths around 1, the least that a track of an automatic repeat counts as, by their bits.
+THIN_BITS = [0, 0, 0, 1, 0x3e800000, 0x3f000000, 0x3f7fffff, 0x3f800000, 0x3f800001, 0x3fc00000, 0x40000000]
 FRACTIONS = [0.0, 0.25, 0.5, 1.0, 0.1, 0.333, 10.0, 9.999999, 1e-40]
 
 
@@ -235,6 +237,50 @@ class Maker:
             lines += self.placement_lines()
         return lines, [], None
 
+    def thin_size(self):
+        """A length or a percentage that mostly comes to less than 1."""
+        if self.chance(0.25):
+            return "pct\t" + bits(binary32.rounded(self.pick([0.0, 0.01, 0.1, self.random.uniform(0, 0.2)])))
+        return "len\t" + (f"{self.pick(THIN_BITS):08x}" if self.chance(0.7) else bits(self.random.uniform(0, 1.5)))
+
+    def thin_track(self):
+        size = self.thin_size()
+        return self.pick([f"{size}\t{size}", f"{size}\t{self.thin_size()}", f"{size}\t{self.free_maximum()}", f"{self.keyword()}\t{size}"])
+
+    def thin_repeat(self, letter, count, tracks):
+        lines = [f"repeat\t{letter}\t{count}"]
+        for _ in range(tracks):
+            lines += self.name_lines(letter, 0.2) + [f"track\t{letter}\t{self.thin_track()}"]
+        return lines + self.name_lines(letter, 0.2) + [f"end\t{letter}"]
+
+    def thin_template(self, letter):
+        """An automatic repeat of thin tracks, with thin tracks beside it."""
+        kinds = ["automatic"] + [self.pick(["track", "repeat"]) for _ in range(self.below(4))]
+        self.random.shuffle(kinds)
+        lines = []
+        for kind in kinds:
+            lines += self.name_lines(letter, 0.2)
+            if kind == "track":
+                lines.append(f"track\t{letter}\t{self.thin_track()}")
+            else:
+                count = self.pick(["fill", "fit"]) if kind == "automatic" else self.pick([1, 2, 3, 7])
+                lines += self.thin_repeat(letter, count, self.pick([1, 1, 1, 2, 3, 4]))
+        return lines + self.name_lines(letter, 0.2)
+
+    def thin_inner(self):
+        if self.chance(0.04):
+            return bits(float(self.pick([9999, 10000, 10001, 30000, 65535])))
+        return bits(binary32.rounded(self.pick([0.0, 0.5, 1.0, 10.0, float(self.random.randrange(40)), self.random.uniform(0, 60)])))
+
+    def thin(self):
+        """Automatic repeats of tracks below 1, just 1 and just above; of some each rounding tells."""
+        letter = self.pick("cr")
+        if self.chance(0.3):
+            return ties.thin_lines(self.random, letter) + self.placement_lines(), [], None
+        gap = self.thin_size() if self.chance(0.5) else "len\t00000000"
+        lines = [f"axis\t{letter}\t{self.thin_inner()}\t{self.pick(['max', 'min'])}\t{gap}"] + self.area_lines()
+        return lines + self.mixed(self.thin_template(letter), self.loose_lines(letter), self.placement_lines()), self.calls(), None
+
     def large_template(self, letter):
         """Counts around 10,000 before, in and after an automatic repeat."""
         before = self.pick([0, 1, 9990, 9997, 9998, 9999, 10000, 10001, 65535])
@@ -402,7 +448,7 @@ class Maker:
         return damage.spoiled(self.random, self.sheet_lines()), self.calls(), None
 
 
-WEIGHTS = {"general": 600, "tie": 100, "large": 8, "over": 5, "far": 5, "writing_out": 12, "full": 12, "store": 2, "long": 3,
+WEIGHTS = {"general": 600, "tie": 100, "thin": 100, "large": 8, "over": 5, "far": 5, "writing_out": 12, "full": 12, "store": 2, "long": 3,
            "damaged": 220, "spoiled": 60, "grouped": 0}  # asked for by name alone: the sheets of a seed stay
 
 

@@ -20,7 +20,7 @@ from compare import Rust, compare, compare_lines
 SEED = 1
 DEFAULT_CASES = os.path.join(build.REPOSITORY, "..", "shared", "cases")
 # Sheets of each family in `accepted`, and the longest block that is kept.
-ACCEPTED = {"general": 1300, "tie": 200, "full": 40, "writing_out": 60, "spoiled": 40}
+ACCEPTED = {"general": 1300, "tie": 200, "full": 40, "writing_out": 60, "spoiled": 40, "thin": 150}
 LONGEST_BLOCK = 3500
 # Sheets of the family `grouped` in `large`, and the longest block that is kept.
 GROUPED = 40
@@ -104,14 +104,14 @@ def taken(cases, count, wanted):
 # The lists.
 
 def paper_case(folder, name, rust):
-    """A case of the papers; the Rust's answer has to be the one that lies beside it."""
+    """A case of the papers; the Rust's answer, by its own sizes, has to be the one that lies beside it."""
     sheet = build.read_bytes(os.path.join(folder, name + ".in"))
     path = os.path.join(folder, name + ".enter")
     calls = calls_of(path if os.path.exists(path) else None)
     case = Case(name, sheet, calls, rust)
     given = build.read_bytes(os.path.join(folder, name + ".out")).decode().splitlines()
     given = [line for line in given if not line.startswith("enter")]
-    own = rust.ask(sheet, [(letter, line, text.decode()) for letter, line, text in calls])[:-2]
+    own = rust.ask(sheet, [(letter, line, text.decode()) for letter, line, text in calls], b"crate")[:-2]
     if not any(line[0].isdigit() for line in given):
         own = cut_lines(own)
     if not any(line.startswith("names") for line in given):

@@ -1,4 +1,4 @@
-"""The rules of document 01, layer by layer, in its words. Columns and rows share every function."""
+"""The rules of document 01, layer by layer, in its words, as document 02 changes them. Columns and rows share every function."""
 import math
 from bisect import bisect_left, bisect_right
 
@@ -7,6 +7,7 @@ from reader import Size, Track
 
 FURTHEST = 10000
 LARGEST_COUNT = 4294967295
+THINNEST = 1.0
 ZERO = Size("len", 0)
 AUTO = Size("auto", 0)
 AUTO_TRACK = Track(AUTO, AUTO)
@@ -101,6 +102,16 @@ def sum_of(component, inner):
     return binary32.total(measure(track, inner) for track in component.tracks)
 
 
+def repeated_measure(track, inner):
+    """Document 02, Req 05: inside the automatic repeat, a track below 1 is taken as 1 while counting repetitions."""
+    return max(measure(track, inner), THINNEST)
+
+
+def repetition_used(repeat, inner):
+    """The sum of one repetition's tracks, in order."""
+    return binary32.total(repeated_measure(track, inner) for track in repeat.tracks)
+
+
 def used_outside(components, inner):
     """The space of the tracks outside the automatic repeat, in template order."""
     used = []
@@ -119,18 +130,18 @@ def gap_size(axis):
 def first_used(axis, repeat):
     """The tracks outside, one repetition and the gaps between them."""
     gaps = min(tracks_outside(axis.components), FURTHEST) + len(repeat.tracks) - 1
-    tracks = binary32.add(used_outside(axis.components, axis.inner), sum_of(repeat, axis.inner))
+    tracks = binary32.add(used_outside(axis.components, axis.inner), repetition_used(repeat, axis.inner))
     return binary32.add(tracks, binary32.multiply(float(gaps), gap_size(axis)))
 
 
 def further_used(axis, repeat):
     """One more repetition with its gaps."""
     gaps = binary32.multiply(float(len(repeat.tracks)), gap_size(axis))
-    return binary32.add(sum_of(repeat, axis.inner), gaps)
+    return binary32.add(repetition_used(repeat, axis.inner), gaps)
 
 
 def quotient(leftover, further):
-    """Leftover over one repetition; over 0 the largest count, or 0 where both are 0."""
+    """Leftover over one repetition; over 0, which no raised repetition is, the largest count, or 0 where both are 0."""
     if further == 0.0:
         return math.inf if leftover > 0.0 else 0.0
     return binary32.divide(leftover, further)

@@ -1,4 +1,6 @@
 """Templates whose repetitions depend on every rounding: found by search over random sizes."""
+from unittest import mock
+
 import binary32
 import rules
 from reader import Axis, Component, Size, Track
@@ -8,10 +10,10 @@ def other_readings(axis, repeat):
     """The quotient by readings that differ from document 01's in a rounding or an order."""
     inner = axis.inner
     outside = [component for component in axis.components if component.count is None or not component.automatic()]
-    one = rules.sum_of(repeat, inner)
+    one = rules.repetition_used(repeat, inner)
     gap = rules.gap_size(axis)
     gaps = rules.tracks_outside(axis.components) + len(repeat.tracks) - 1
-    measures = [rules.measure(track, inner) for track in repeat.tracks]
+    measures = [rules.repeated_measure(track, inner) for track in repeat.tracks]
     used = [rules.sum_of(component, inner) * rules.times(component, 0) for component in outside]
     backwards = binary32.total(binary32.rounded(value) for value in reversed(used))
     further = rules.further_used(axis, repeat)
@@ -43,9 +45,18 @@ def random_track(random):
     return Track(size, size if random.random() < 0.7 else random_size(random))
 
 
-def random_axis(random):
+def thin_track(random):
+    """A track that measures less than 1, or just 1, or as any other."""
+    bits = random.choice([0, 1, 0x3f7fffff, 0x3f800000, 0x3f800001, binary32.to_bits(random.uniform(0, 1)), binary32.to_bits(random.uniform(0, 1))])
+    size = Size("len", bits)
+    if random.random() < 0.3:
+        size = Size("pct", binary32.to_bits(random.uniform(0, 0.01)))
+    return Track(size, size if random.random() < 0.6 else random.choice([Size("len", 0), Size("auto", 0), size]))
+
+
+def random_axis(random, repeated=random_track):
     axis = Axis(rule=random.choice(["max", "min"]))
-    repeat = Component(random.choice(["fill", "fit"]), [random_track(random) for _ in range(random.choice([1, 1, 2, 3, 4]))], [[]])
+    repeat = Component(random.choice(["fill", "fit"]), [repeated(random) for _ in range(random.choice([1, 1, 2, 3, 4]))], [[]])
     outside = [Component(random.choice([None, None, 2, 3, 7]), [random_track(random)], [[]]) for _ in range(random.randrange(5))]
     axis.components = outside + [repeat]
     random.shuffle(axis.components)
@@ -53,10 +64,10 @@ def random_axis(random):
     return axis, repeat
 
 
-def search(random):
+def search(random, repeated=random_track):
     """An axis with a shaky number of repetitions, or the last one tried."""
     for _ in range(40):
-        axis, repeat = random_axis(random)
+        axis, repeat = random_axis(random, repeated)
         axis.inner = binary32.rounded(random.uniform(50, 2000))
         # The inner size at which the repetitions just fit, and its neighbours.
         fitting = random.randint(1, 40)
@@ -76,7 +87,17 @@ def size_fields(track):
 
 
 def lines(random, letter):
-    axis = search(random)
+    """Found by document 01's own sums, in which no track is raised: so the sheets of a seed stay."""
+    with mock.patch.object(rules, "repeated_measure", rules.measure):
+        return lines_of(search(random), letter)
+
+
+def thin_lines(random, letter):
+    """Found among repeats of thin tracks, by the sums in which they are raised."""
+    return lines_of(search(random, lambda random: thin_track(random) if random.random() < 0.7 else random_track(random)), letter)
+
+
+def lines_of(axis, letter):
     found = [f"axis\t{letter}\t{binary32.to_bits(axis.inner):08x}\t{axis.rule}\t{axis.gap.kind}\t{axis.gap.bits:08x}"]
     for component in axis.components:
         tracks = [f"track\t{letter}\t{size_fields(track)}" for track in component.tracks]

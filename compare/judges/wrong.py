@@ -1,12 +1,12 @@
-"""Wrong readings of document 01, each put into the model in place of one small function."""
+"""Wrong readings of documents 01 and 02, each put into the model in place of one small function."""
 import contextlib
-import math
 from unittest import mock
 
 import binary32
 import model
 import reader
 import rules
+from reader import Size, Track
 from rules import FURTHEST, Names
 
 
@@ -36,12 +36,12 @@ def used_by_adding(components, inner):
 def first_with_gaps_first(axis, repeat):
     gaps = min(rules.tracks_outside(axis.components), FURTHEST) + len(repeat.tracks) - 1
     used = binary32.add(rules.used_outside(axis.components, axis.inner), binary32.multiply(float(gaps), rules.gap_size(axis)))
-    return binary32.add(used, rules.sum_of(repeat, axis.inner))
+    return binary32.add(used, rules.repetition_used(repeat, axis.inner))
 
 
 def first_with_all_gaps(axis, repeat):
     gaps = rules.tracks_outside(axis.components) + len(repeat.tracks) - 1
-    tracks = binary32.add(rules.used_outside(axis.components, axis.inner), rules.sum_of(repeat, axis.inner))
+    tracks = binary32.add(rules.used_outside(axis.components, axis.inner), rules.repetition_used(repeat, axis.inner))
     return binary32.add(tracks, binary32.multiply(float(gaps), rules.gap_size(axis)))
 
 
@@ -49,8 +49,42 @@ def always_floor(value, rule):
     return right_whole_part(value, "max")
 
 
-def zero_over_zero_is_largest(leftover, further):
-    return math.inf if further == 0.0 else binary32.divide(leftover, further)
+def sum_raised(repeat, inner):
+    return max(rules.sum_of(repeat, inner), rules.THINNEST)
+
+
+def only_zero_raised(track, inner):
+    return rules.measure(track, inner) or rules.THINNEST
+
+
+def percentages_not_raised(track, inner):
+    by_percentage = "pct" in (track.minimum.kind, track.maximum.kind)
+    return rules.measure(track, inner) if by_percentage else right_repeated_measure(track, inner)
+
+
+def taken_as_one(track, inner):
+    return rules.THINNEST
+
+
+def first_not_raised(axis, repeat):
+    with mock.patch.object(rules, "repeated_measure", rules.measure):
+        return right_first_used(axis, repeat)
+
+
+def raised_outside(component, inner):
+    return binary32.total(right_repeated_measure(track, inner) for track in component.tracks)
+
+
+def gap_raised(axis):
+    return max(right_gap_size(axis), rules.THINNEST)
+
+
+def records_raised(axis):
+    """The tracks of the automatic repeat written into the records as 1 where they were taken as 1."""
+    one = Size("len", binary32.to_bits(rules.THINNEST))
+    thin = {id(track) for component in axis.components if component.automatic() for track in component.tracks
+            if axis.inner is not None and rules.has_fixed_kind(track) and rules.measure(track, axis.inner) < rules.THINNEST}
+    return [(Track(one, one) if id(track) in thin else track, fit) for track, fit in right_written_out(axis)]
 
 
 def minimum_ignored(track, inner):
@@ -168,6 +202,9 @@ def span_zero_is_zero(self, name, number, line, which):
 
 
 # What the wrong functions lean on, before any is put in place.
+right_repeated_measure = rules.repeated_measure
+right_first_used = rules.first_used
+right_gap_size = rules.gap_size
 right_used_outside = rules.used_outside
 right_whole_part = rules.whole_part
 right_definite = rules.definite
@@ -189,7 +226,15 @@ FOUND_BY_THE_RUST = {
     "the gaps of tracks past 10,000 counted": (rules, "first_used", first_with_all_gaps),
     "doubles instead of f32": (binary32, "rounded", float),
     "floor also for rule min": (rules, "whole_part", always_floor),
-    "0 over 0 the largest count": (rules, "quotient", zero_over_zero_is_largest),
+    "no thin track raised": (rules, "repeated_measure", rules.measure),
+    "the sum of a repetition raised instead of its tracks": (rules, "repetition_used", sum_raised),
+    "only tracks of 0 raised": (rules, "repeated_measure", only_zero_raised),
+    "percentages not raised": (rules, "repeated_measure", percentages_not_raised),
+    "every track of the repeat taken as 1": (rules, "repeated_measure", taken_as_one),
+    "thin tracks not raised in the first repetition": (rules, "first_used", first_not_raised),
+    "thin tracks outside the repeat raised": (rules, "sum_of", raised_outside),
+    "thin gaps raised": (rules, "gap_size", gap_raised),
+    "the records of thin tracks raised": (rules, "written_out", records_raised),
     "the maximum not raised to the minimum": (rules, "measure", minimum_ignored),
     "a fit-content limit taken as definite": (rules, "definite", limit_is_definite),
     "the most repetitions by floor": (rules, "most_repetitions", floor_of_limit),

@@ -30,8 +30,8 @@ use Rattle.template_rules.specs.Summary.{meaningOf}
 use Rattle.template_rules.specs.Whole.{floorOf, ceilingOf}
 use Rattle.template_rules.specs.Repetitions.{gapsOf, firstSpace, furtherSpace, leftover, quotient, oneMore, fittingOf, wantedOf, heldOf, repetitionsOf}
 use Rattle.template_rules.specs.Explicit.{innerValue, explicitSizeOf}
-use Rattle.template_rules.specs.Space.{whole32, trackSpace, singleSpace, countedSpace, spaceOf, outsideSpace, repetitionSpace}
-use Rattle.template_rules.specs.CssWhole.{numberOf, lengthIn, IsWholeIn, measureOf, timesOf, tracksTimes, writtenOut, gridExtent, MostThatFit, FewestThatReach, CssCount, heldTo, RepeatIn, tracksBefore, tracksIn, WholeRepetitions, InRange, WholeSizes, WholeIn}
+use Rattle.template_rules.specs.Space.{whole32, one32, trackSpace, repeatedTrackSpace, spaceIn, singleSpace, countedSpace, spaceOf, outsideSpace, repetitionSpace}
+use Rattle.template_rules.specs.CssWhole.{numberOf, lengthIn, IsWholeIn, measureOf, flooredIn, timesOf, tracksOf, tracksTimes, writtenOut, gridExtent, MostThatFit, FewestThatReach, CssCount, heldTo, RepeatIn, tracksBefore, tracksIn, WholeRepetitions, InRange, WholeSizes, WholeIn}
 use Rattle.template_rules.specs.declared.InnerSize.{InnerSize}
 use Rattle.template_rules.specs.declared.InnerSize.the-variants.{Definite as Known, Indefinite as Unknown}
 use Rattle.template_rules.specs.declared.AutoRepeatStrategy.{AutoRepeatStrategy}
@@ -42,8 +42,9 @@ use Rattle.template_rules.specs.declared.TemplateSummary.{TemplateSummar
 use Rattle.template_rules.proofs.Bounds.{of-word, single-one, length-tracks}
 use Rattle.template_rules.proofs.Valid.{in-count, one-at-most}
 use Rattle.template_rules.proofs.Answer.{accepted, accepted-few, size-repeated}
-use Rattle.template_rules.proofs.WholeNumbers.{Is, is-whole, zero-is, count-is, Measures, is-measures, measured-is, add-measures, product-measures, counted-measures, below-is, below-measures, difference-is, floor-quotient, ceiling-quotient}
-use Rattle.template_rules.proofs.WrittenOut.{totalOf, extent-total, total-append, total-times, length-times, outside-written, total-written, length-written, tracks-repeat, before-repeat, grid-grows}
+use Rattle.template_rules.proofs.Thin.{thin-floor}
+use Rattle.template_rules.proofs.WholeNumbers.{Is, is-whole, zero-is, one-is, count-is, Measures, is-measures, measured-is, add-measures, product-measures, counted-measures, below-is, below-measures, difference-is, floor-quotient, ceiling-quotient}
+use Rattle.template_rules.proofs.WrittenOut.{totalOf, extent-total, total-append, total-times, length-tracks-times, outside-written, total-written, length-written, tracks-repeat, before-repeat, grid-grows}
 
 -- ---- a track
 -- a definite size that is whole, and no definite size
@@ -78,6 +79,20 @@ track-is : (inner : Float) (t : MinMax) → IsWholeIn inner (t .min) × IsWholeI
 track-is inner t h =
     raised-is (definiteOf (t .max) inner) (definiteOf (t .min) inner) (lengthIn inner (t .max)) (lengthIn inner (t .min)) (isFixed (t .max)) (isFixed (t .min)) (sized inner (t .max) (h .1)) (sized inner (t .min) (h .0))
 
+-- what it counts as in its component
+raised-one : (inner : Float) (t : MinMax) (n : ℕ) → Is (trackSpace inner t) n → Is (repeatedTrackSpace inner t) (max 1 n)
+raised-one inner t n h = go (ltb n 1) refl
+  where
+    go : (b : Bool) → ltb n 1 ≡ b → Is (repeatedTrackSpace inner t) (max 1 n)
+    go true e = rw (thin-floor inner t .0 (below-is (trackSpace inner t) one32 n 1 h one-is ∙ e), max-eq-left (le-of-lt (ltb-true n 1 e))) one-is
+    go false e = rw (thin-floor inner t .1 (below-is (trackSpace inner t) one32 n 1 h one-is ∙ e), max-eq-right (ltb-false n 1 e)) h
+
+floored-is : (k : RepetitionCount) (inner : Float) (t : MinMax) (n : ℕ) → Is (trackSpace inner t) n → Is (spaceIn k (trackSpace inner t)) (flooredIn k n)
+floored-is Single inner t n h = h
+floored-is (Count times) inner t n h = h
+floored-is AutoFill inner t n h = raised-one inner t n h
+floored-is AutoFit inner t n h = raised-one inner t n h
+
 -- ---- tracks in order
 abbrev WholeTracks : Float → List MinMax → Type 0
 WholeTracks inner ts = (t : MinMax) → List·Memᴰ t ts → IsWholeIn inner (t .min) × IsWholeIn inner (t .max)
@@ -85,16 +100,22 @@ WholeTracks inner ts = (t : MinMax) → List·Memᴰ t ts → IsWholeIn inner (t
 abbrev RangeTracks : List MinMax → Type 0
 RangeTracks ts = (t : MinMax) → List·Memᴰ t ts → T (sizingInRange (t .min)) × T (sizingInRange (t .max))
 
-sum-measures : (inner : Float) (ts : List MinMax) → WholeTracks inner ts → (x : Float) (a : ℕ) → Measures x a → Measures (sumFrom x (map (trackSpace inner) ts)) (a + totalOf inner ts)
-unfolding sumFrom totalOf
-sum-measures inner [] w x a h = subst (Measures x) (omega arith) h
-sum-measures inner (t ∷ ts) w x a h =
-    subst (Measures (sumFrom (add binary32 x (trackSpace inner t)) (map (trackSpace inner) ts))) (omega arith)
-    (sum-measures inner ts (λ u m. w u (List·Memᴰ·tail m)) (add binary32 x (trackSpace inner t)) (a + measureOf inner t)
-    (add-measures x (trackSpace inner t) a (measureOf inner t) h (is-measures (trackSpace inner t) (measureOf inner t) (track-is inner t (w t (List·Memᴰ·head refl))))))
+-- what the tracks of a component count as
+abbrev spacesIn : RepetitionCount → Float → List MinMax → List Float
+spacesIn k inner ts = map (λ (t : MinMax). spaceIn k (trackSpace inner t)) ts
 
-tracks-measure : (inner : Float) (ts : List MinMax) → WholeTracks inner ts → Measures (sumFrom zero32 (map (trackSpace inner) ts)) (totalOf inner ts)
-tracks-measure inner ts w = subst (Measures (sumFrom zero32 (map (trackSpace inner) ts))) (omega arith) (sum-measures inner ts w zero32 0 (is-measures zero32 0 zero-is))
+sum-measures : (k : RepetitionCount) (inner : Float) (ts : List MinMax) → WholeTracks inner ts → (x : Float) (a : ℕ) → Measures x a → Measures (sumFrom x (spacesIn k inner ts)) (a + totalOf inner (tracksOf k ts))
+unfolding sumFrom totalOf
+sum-measures k inner [] w x a h = subst (Measures x) (omega arith) h
+sum-measures k inner (t ∷ ts) w x a h =
+    let space = spaceIn k (trackSpace inner t) in
+    let measure = flooredIn k (measureOf inner t) in
+    subst (Measures (sumFrom (add binary32 x space) (spacesIn k inner ts))) (omega arith)
+    (sum-measures k inner ts (λ u m. w u (List·Memᴰ·tail m)) (add binary32 x space) (a + measure)
+    (add-measures x space a measure h (is-measures space measure (floored-is k inner t (measureOf inner t) (track-is inner t (w t (List·Memᴰ·head refl)))))))
+
+tracks-measure : (k : RepetitionCount) (inner : Float) (ts : List MinMax) → WholeTracks inner ts → Measures (sumFrom zero32 (spacesIn k inner ts)) (totalOf inner (tracksOf k ts))
+tracks-measure k inner ts w = subst (Measures (sumFrom zero32 (spacesIn k inner ts))) (omega arith) (sum-measures k inner ts w zero32 0 (is-measures zero32 0 zero-is))
 
 tracks-small : (inner : Float) (ts : List MinMax) → T (upTo largestLength inner) → RangeTracks ts → Smalls (map (trackSpace inner) ts)
 tracks-small inner [] h r = tt
@@ -112,11 +133,12 @@ record Fine (inner : Float) (c : Component) : Type 0 where
   range : RangeTracks (c .tracks)
 
 component-measures : (inner : Float) (c : Component) → T (upTo largestLength inner) → Fine inner c → timesOf 0 (c .count) * length (c .tracks) ≤ 10000
-    → Measures (spaceOf inner (c .count) (c .tracks)) (totalOf inner (tracksTimes (timesOf 0 (c .count)) (c .tracks)))
+    → Measures (spaceOf inner (c .count) (c .tracks)) (totalOf inner (tracksTimes (timesOf 0 (c .count)) (tracksOf (c .count) (c .tracks))))
 unfolding totalOf
-component-measures inner c h f n = subst (Measures (spaceOf inner (c .count) (c .tracks))) (sym (total-times inner (timesOf 0 (c .count)) (c .tracks))) (go (c .count) (f .single) (f .filled) n)
+component-measures inner c h f n =
+    subst (Measures (spaceOf inner (c .count) (c .tracks))) (sym (total-times inner (timesOf 0 (c .count)) (tracksOf (c .count) (c .tracks)))) (go (c .count) (f .single) (f .filled) n)
   where
-    one : (ts : List MinMax) → length ts ≡ 1 → WholeTracks inner ts → Measures (singleSpace inner ts) (1 * totalOf inner ts)
+    one : (ts : List MinMax) → length ts ≡ 1 → WholeTracks inner ts → Measures (singleSpace inner ts) (1 * totalOf inner (tracksOf Single ts))
     one [] e w = absurd (never e)
       where
         never : _≡_ {A = ℕ} 0 1 → ⊥
@@ -137,15 +159,16 @@ component-measures inner c h f n = subst (Measures (spaceOf inner (c .count) (c 
     none a = omega arith
 
     go : (k : RepetitionCount) → (k ≡ Single → length (c .tracks) ≡ 1) → ((k ≡ Single → ⊥) → 0 < length (c .tracks)) → timesOf 0 k * length (c .tracks) ≤ 10000
-        → Measures (spaceOf inner k (c .tracks)) (timesOf 0 k * totalOf inner (c .tracks))
+        → Measures (spaceOf inner k (c .tracks)) (timesOf 0 k * totalOf inner (tracksOf k (c .tracks)))
     go Single s p n = one (c .tracks) (s refl) (f .whole)
     go (Count times) s p n =
-        subst (Measures (countedSpace (sumFrom zero32 (map (trackSpace inner) (c .tracks))) times)) (mul-comm (totalOf inner (c .tracks)) times)
-        (counted-measures (sumFrom zero32 (map (trackSpace inner) (c .tracks))) (totalOf inner (c .tracks)) times
+        let total = totalOf inner (tracksOf (Count times) (c .tracks)) in
+        subst (Measures (countedSpace (sumFrom zero32 (map (trackSpace inner) (c .tracks))) times)) (mul-comm total times)
+        (counted-measures (sumFrom zero32 (map (trackSpace inner) (c .tracks))) total times
         (times-few times (length (c .tracks)) (p (λ e. let z : _≡_ {A = ℕ} 0 1 = cc in omega arith)) n)
-        (tracks-finite inner (c .tracks) h (f .few) (f .range)) (tracks-measure inner (c .tracks) (f .whole)))
-    go AutoFill s p n = subst (Measures zero32) (none (totalOf inner (c .tracks))) (is-measures zero32 0 zero-is)
-    go AutoFit s p n = subst (Measures zero32) (none (totalOf inner (c .tracks))) (is-measures zero32 0 zero-is)
+        (tracks-finite inner (c .tracks) h (f .few) (f .range)) (tracks-measure (Count times) inner (c .tracks) (f .whole)))
+    go AutoFill s p n = subst (Measures zero32) (none (totalOf inner (tracksOf AutoFill (c .tracks)))) (is-measures zero32 0 zero-is)
+    go AutoFit s p n = subst (Measures zero32) (none (totalOf inner (tracksOf AutoFit (c .tracks)))) (is-measures zero32 0 zero-is)
 
 components-measure : (inner : Float) (cs : List Component) → T (upTo largestLength inner) → ((c : Component) → List·Memᴰ c cs → Fine inner c) → length (writtenOut 0 cs) ≤ 10000
     → (x : Float) (a : ℕ) → Measures x a → Measures (sumFrom x (map (λ (c : Component). spaceOf inner (c .count) (c .tracks)) cs)) (a + totalOf inner (writtenOut 0 cs))
@@ -153,8 +176,8 @@ unfolding sumFrom writtenOut totalOf
 components-measure inner [] h f n x a m = subst (Measures x) (omega arith) m
 components-measure inner (c ∷ cs) h f n x a m =
     let space = spaceOf inner (c .count) (c .tracks) in
-    let own = tracksTimes (timesOf 0 (c .count)) (c .tracks) in
-    let l : timesOf 0 (c .count) * length (c .tracks) + length (writtenOut 0 cs) ≤ 10000 = rw (length-append own (writtenOut 0 cs), length-times (timesOf 0 (c .count)) (c .tracks)) at n in
+    let own = tracksTimes (timesOf 0 (c .count)) (tracksOf (c .count) (c .tracks)) in
+    let l : timesOf 0 (c .count) * length (c .tracks) + length (writtenOut 0 cs) ≤ 10000 = rw (length-append own (writtenOut 0 cs), length-tracks-times (timesOf 0 (c .count)) (c .count) (c .tracks)) at n in
     subst (Measures (sumFrom (add binary32 x space) (map (λ (c : Component). spaceOf inner (c .count) (c .tracks)) cs)))
     (rw (total-append inner own (writtenOut 0 cs)) (omega arith))
     (components-measure inner cs h (λ d k. f d (List·Memᴰ·tail k)) (last (timesOf 0 (c .count) * length (c .tracks)) (length (writtenOut 0 cs)) l) (add binary32 x space) (a + totalOf inner own)
@@ -270,7 +293,7 @@ module _ (x : Float) (gap : Sizing) (before : List Component) (repeat : Componen
   outsideTotal = totalOf x (writtenOut 0 cs)
 
   abbrev repeatTotal : ℕ
-  repeatTotal = totalOf x (repeat .tracks)
+  repeatTotal = totalOf x (tracksOf (repeat .count) (repeat .tracks))
 
   -- the grid with one repetition, and what a further one adds
   abbrev first : ℕ
@@ -312,7 +335,13 @@ module _ (x : Float) (gap : Sizing) (before : List Component) (repeat : Componen
 
   once-measures : Measures (repetitionSpace x cs) repeatTotal
   unfolding repetitionSpace
-  once-measures = rw (tracks-repeat before repeat after automatic once) (tracks-measure x (repeat .tracks) (whole .sizes repeat member))
+  once-measures = rw (tracks-repeat before repeat after automatic once) (go (repeat .count) automatic)
+    where
+      go : (k : RepetitionCount) → isAutomatic k ≡ true → Measures (sumFrom zero32 (map (repeatedTrackSpace x) (repeat .tracks))) (totalOf x (tracksOf k (repeat .tracks)))
+      go Single a = absurd (true≢false (sym a))
+      go (Count times) a = absurd (true≢false (sym a))
+      go AutoFill a = tracks-measure AutoFill x (repeat .tracks) (whole .sizes repeat member)
+      go AutoFit a = tracks-measure AutoFit x (repeat .tracks) (whole .sizes repeat member)
 
   -- one gap between each two tracks
   gaps : gapsOf summary ≡ outside + repeated - 1
@@ -361,11 +390,26 @@ module _ (x : Float) (gap : Sizing) (before : List Component) (repeat : Componen
   first-is : extent 1 ≡ first
   first-is = extent-one (numberOf x) first further extent grows
 
+  -- one repetition has a track, and that counts as 1 or more
   positive : 0 < further
-  positive = go first further (rw (grows 0, grows 1) at (whole .further))
+  unfolding totalOf
+  positive = more repeatTotal (repeated * lengthIn x gap) (go (repeat .count) automatic (repeat .tracks) some)
     where
-      go : (a b : ℕ) → a + 0 * b < a + 1 * b → 0 < b
-      go a b h = omega arith
+      more : (a b : ℕ) → 0 < a → 0 < a + b
+      more a b h = omega arith
+
+      floored : (n m : ℕ) → 0 < max 1 n + m
+      floored n m = omega arith
+
+      never : 0 < 0 → ⊥
+      never h = omega arith
+
+      go : (k : RepetitionCount) → isAutomatic k ≡ true → (ts : List MinMax) → 0 < length ts → 0 < totalOf x (tracksOf k ts)
+      go k a [] h = absurd (never h)
+      go Single a (t ∷ ts) h = absurd (true≢false (sym a))
+      go (Count times) a (t ∷ ts) h = absurd (true≢false (sym a))
+      go AutoFill a (t ∷ ts) h = floored (measureOf x t) (totalOf x (tracksOf AutoFill ts))
+      go AutoFit a (t ∷ ts) h = floored (measureOf x t) (totalOf x (tracksOf AutoFit ts))
 
   below-first : lt x (firstSpace summary (gapOf gap x)) ≡ ltb (numberOf x) first
   below-first = below-measures x (firstSpace summary (gapOf gap x)) (numberOf x) first inner-is (under (numberOf x) inner-most) first-measures

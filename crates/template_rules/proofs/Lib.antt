@@ -10,6 +10,7 @@ pub mod Held
 pub mod Valid
 pub mod Css
 pub mod Answer
+pub mod Thin
 pub mod WrittenOut
 pub mod CssWhole
 pub mod WholeExample

@@ -1,4 +1,5 @@
--- The conditions of the law in whole numbers can be met: a single of 100, two tracks of 10 and a fill of 100, gap 10, in 359: one repetition fits, two reach. Assumes nothing.
+-- The conditions of the law in whole numbers can be met: a single of 100, two tracks of 10 and a fill, gap 10, in 359. Of a fill of 100 one repetition fits, two
+-- reach; of one of 0, which counts as 1, 19 fit, 20 reach. Assumes nothing.
 use mathlib.Core.Path.{_≡_, refl, sym, subst}
 use mathlib.Core.Logic.{⊎-elim}
 use Prim.Native.Nat.{_≤_}
@@ -6,7 +7,8 @@ use mathlib.Core.List.{List, [], _∷_, List·Memᴰ, List·Memᴰ·cases-cons, 
 use lib.Dec.{T, lit<, lit≤}
 use lib.ListN.{length}
 use lib.Ieee.{Float, binary32, ofBits, add, sub, mul, div, lt, ofInt}
-use Rattle.sizing.specs.Ranges.{upTo, sizingInRange}
+use Rattle.sizing.specs.Words.{zero32}
+use Rattle.sizing.specs.Ranges.{upTo, largestLength, sizingInRange}
 use Rattle.sizing.specs.declared.Sizing.{Sizing}
 use Rattle.sizing.specs.declared.Sizing.the-variants.{Length}
 use Rattle.sizing.specs.declared.MinMax.{MinMax}
@@ -14,7 +16,7 @@ use Rattle.template_rules.specs.Template.{Component}
 use Rattle.template_rules.specs.Counts.{automaticCount, anyEmpty, everyFixed}
 use Rattle.template_rules.specs.Explicit.{explicitSizeOf}
 use Rattle.template_rules.specs.Css.{Valid}
-use Rattle.template_rules.specs.CssWhole.{IsWholeIn, writtenOut, extentOf, gridExtent, RepeatIn, WholeRepetitions, InRange, WholeSizes}
+use Rattle.template_rules.specs.CssWhole.{IsWhole, IsWholeIn, writtenOut, extentOf, gridExtent, RepeatIn, WholeRepetitions, InRange, WholeSizes}
 use Rattle.template_rules.specs.declared.RepetitionCount.{RepetitionCount}
 use Rattle.template_rules.specs.declared.RepetitionCount.the-variants.{Single, Count, AutoFill}
 use Rattle.template_rules.specs.declared.InnerSize.the-variants.{Definite}
@@ -22,22 +24,25 @@ use Rattle.template_rules.specs.declared.AutoRepeatStrategy.the-variants
 use Rattle.template_rules.proofs.Valid.{valid-css}
 use Rattle.template_rules.proofs.CssWhole.{answer-whole}
 
--- 359, 10 and 100 by their bits
+-- 359, 0, 10 and 100 by their bits
 abbrev inner : Float
 inner = ofBits binary32 0x43b3_8000
 
 abbrev ten : Sizing
 ten = Length (ofBits binary32 0x4120_0000)
 
+abbrev wide : Float
+wide = ofBits binary32 0x42c8_0000
+
 abbrev hundred : Sizing
-hundred = Length (ofBits binary32 0x42c8_0000)
+hundred = Length wide
 
 -- components of one track of one size
 abbrev component : RepetitionCount → Sizing → Component
 component count size = record { count = count; tracks = record { min = size; max = size } ∷ [] }
 
-abbrev pub template : List Component
-template = component Single hundred ∷ component (Count 2) ten ∷ component AutoFill hundred ∷ []
+abbrev pub template : Float → List Component
+template v = component Single hundred ∷ component (Count 2) ten ∷ component AutoFill (Length v) ∷ []
 
 -- what holds of each component, and of its one track
 each : (P : Component → Type 0) (a b c : Component) → P a → P b → P c → (d : Component) → List·Memᴰ d (a ∷ b ∷ c ∷ []) → P d
@@ -59,48 +64,60 @@ whole-track count size h = only (λ (t : MinMax). IsWholeIn inner (t .min) × Is
 track-range : (count : RepetitionCount) (size : Sizing) → T (sizingInRange size) → tracks-in-range (component count size)
 track-range count size h = only (λ (t : MinMax). T (sizingInRange (t .min)) × T (sizingInRange (t .max))) (record { min = size; max = size }) (h, h)
 
-abbrev pub place : RepeatIn template
-place = record { before = component Single hundred ∷ component (Count 2) ten ∷ []; repeat = component AutoFill hundred; after = []; parts = refl; automatic = refl }
+abbrev pub place : (v : Float) → RepeatIn (template v)
+place v = record { before = component Single hundred ∷ component (Count 2) ten ∷ []; repeat = component AutoFill (Length v); after = []; parts = refl; automatic = refl }
 
-pub in-range : InRange template
+pub in-range : (v : Float) → T (upTo largestLength v) → InRange (template v)
 unfolding upTo ofBits
-in-range =
+in-range v h =
     record {
-      single = each (λ (c : Component). c .count ≡ Single → length (c .tracks) ≡ 1) (component Single hundred) (component (Count 2) ten) (component AutoFill hundred) (λ e. refl) (λ e. refl) (λ e. refl);
-      few = each (λ (c : Component). length (c .tracks) ≤ 65535) (component Single hundred) (component (Count 2) ten) (component AutoFill hundred) (lit≤ tt) (lit≤ tt) (lit≤ tt);
+      single = each (λ (c : Component). c .count ≡ Single → length (c .tracks) ≡ 1) (component Single hundred) (component (Count 2) ten) (component AutoFill (Length v)) (λ e. refl) (λ e. refl) (λ e. refl);
+      few = each (λ (c : Component). length (c .tracks) ≤ 65535) (component Single hundred) (component (Count 2) ten) (component AutoFill (Length v)) (lit≤ tt) (lit≤ tt) (lit≤ tt);
       sizes =
-          each tracks-in-range (component Single hundred) (component (Count 2) ten) (component AutoFill hundred)
-          (track-range Single hundred tt) (track-range (Count 2) ten tt) (track-range AutoFill hundred tt);
+          each tracks-in-range (component Single hundred) (component (Count 2) ten) (component AutoFill (Length v))
+          (track-range Single hundred tt) (track-range (Count 2) ten tt) (track-range AutoFill (Length v) h);
     }
 
-pub whole-sizes : WholeSizes inner ten template
-unfolding upTo ofBits writtenOut extentOf
-whole-sizes =
+pub whole-sizes : (v : Float) → IsWhole v → WholeSizes inner ten (template v)
+unfolding upTo ofBits
+whole-sizes v h =
     record {
       inner = (refl, refl);
       innerInRange = tt;
       gap = (refl, refl);
       gapInRange = tt;
       sizes =
-          each tracks-whole (component Single hundred) (component (Count 2) ten) (component AutoFill hundred)
-          (whole-track Single hundred (refl, refl)) (whole-track (Count 2) ten (refl, refl)) (whole-track AutoFill hundred (refl, refl));
-      further = lit< tt;
+          each tracks-whole (component Single hundred) (component (Count 2) ten) (component AutoFill (Length v))
+          (whole-track Single hundred (refl, refl)) (whole-track (Count 2) ten (refl, refl)) (whole-track AutoFill (Length v) h);
     }
 
-pub valid : Valid template
+pub valid : (v : Float) → Valid (template v)
 unfolding anyEmpty automaticCount everyFixed
-valid = valid-css inner template .0 refl
+valid v = valid-css inner (template v) .0 refl
 
--- 100 + 2 * 10 + 100 and three gaps, and one repetition more
-pub extents : (gridExtent inner ten template 1 ≡ 250) × (gridExtent inner ten template 2 ≡ 360)
+-- 100 + 2 * 10 + 100 and three gaps, and one repetition more; the fill of 0 counts as 1
+pub extents : (gridExtent inner ten (template wide) 1 ≡ 250) × (gridExtent inner ten (template wide) 2 ≡ 360)
 unfolding ofBits writtenOut extentOf
 extents = (refl, refl)
 
--- so the law gives the repetitions that document 01's rule answers: 1 by max, 2 by min
-pub one-fits : WholeRepetitions (Definite inner) MaxRepetitionsThatDoNotOverflow ten template place 1
-unfolding explicitSizeOf writtenOut ofBits lt add mul ofInt div sub
-one-fits = answer-whole (Definite inner) MaxRepetitionsThatDoNotOverflow ten 0 template place valid in-range whole-sizes (lit< tt) refl
+pub thin-extents : (gridExtent inner ten (template zero32) 1 ≡ 151) × (gridExtent inner ten (template zero32) 2 ≡ 162)
+unfolding ofBits writtenOut extentOf
+thin-extents = (refl, refl)
 
-pub two-reach : WholeRepetitions (Definite inner) MinRepetitionsThatDoOverflow ten template place 2
-unfolding explicitSizeOf writtenOut ofBits lt add mul ofInt div sub
-two-reach = answer-whole (Definite inner) MinRepetitionsThatDoOverflow ten 0 template place valid in-range whole-sizes (lit< tt) refl
+-- so the law gives the repetitions that the rule answers: 1 by max, 2 by min
+pub one-fits : WholeRepetitions (Definite inner) MaxRepetitionsThatDoNotOverflow ten (template wide) (place wide) 1
+unfolding explicitSizeOf writtenOut upTo ofBits lt add mul ofInt div sub
+one-fits = answer-whole (Definite inner) MaxRepetitionsThatDoNotOverflow ten 0 (template wide) (place wide) (valid wide) (in-range wide tt) (whole-sizes wide (refl, refl)) (lit< tt) refl
+
+pub two-reach : WholeRepetitions (Definite inner) MinRepetitionsThatDoOverflow ten (template wide) (place wide) 2
+unfolding explicitSizeOf writtenOut upTo ofBits lt add mul ofInt div sub
+two-reach = answer-whole (Definite inner) MinRepetitionsThatDoOverflow ten 0 (template wide) (place wide) (valid wide) (in-range wide tt) (whole-sizes wide (refl, refl)) (lit< tt) refl
+
+-- and of the fill of 0, 19 by max, 20 by min
+pub nineteen-fit : WholeRepetitions (Definite inner) MaxRepetitionsThatDoNotOverflow ten (template zero32) (place zero32) 19
+unfolding explicitSizeOf writtenOut upTo ofBits lt add mul ofInt div sub
+nineteen-fit = answer-whole (Definite inner) MaxRepetitionsThatDoNotOverflow ten 0 (template zero32) (place zero32) (valid zero32) (in-range zero32 tt) (whole-sizes zero32 (refl, refl)) (lit< tt) refl
+
+pub twenty-reach : WholeRepetitions (Definite inner) MinRepetitionsThatDoOverflow ten (template zero32) (place zero32) 20
+unfolding explicitSizeOf writtenOut upTo ofBits lt add mul ofInt div sub
+twenty-reach = answer-whole (Definite inner) MinRepetitionsThatDoOverflow ten 0 (template zero32) (place zero32) (valid zero32) (in-range zero32 tt) (whole-sizes zero32 (refl, refl)) (lit< tt) refl

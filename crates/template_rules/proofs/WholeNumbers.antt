@@ -25,7 +25,7 @@ use Rattle.sizing.proofs.Operations.{nonneg, own, add-at, mul-at}
 use Rattle.sizing.proofs.Rounding.{values-of-le, round-kind}
 use Rattle.template_rules.specs.Exact.{AtMost, AtLeast}
 use Rattle.template_rules.specs.Whole.{floorOf, ceilingOf}
-use Rattle.template_rules.specs.Space.{whole32, countedSpace}
+use Rattle.template_rules.specs.Space.{whole32, one32, countedSpace}
 use Rattle.template_rules.specs.CssWhole.{IsWhole, numberOf}
 use Rattle.template_rules.proofs.Exact.{floor-greatest, ceiling-least}
 use Rattle.template_rules.proofs.Rounding.{floor-lt}
@@ -45,6 +45,10 @@ is-whole (fin s m e) h = (h .0, exact (m * up e) (down e) (h .1))
 pub zero-is : Is zero32 0
 unfolding ofBits
 zero-is = (refl, refl)
+
+pub one-is : Is one32 1
+unfolding ofBits
+one-is = (refl, refl)
 
 round-one : (n : ℕ) → n ≤ 16777216 → Is (round binary32 false n 1) n
 round-one n h = round-whole binary32 false n h

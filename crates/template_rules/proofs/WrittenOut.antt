@@ -5,33 +5,33 @@ use native.Mathlib.Nat.{add-assoc}
 use native.Mathlib.Omega.{arith}
 use mathlib.Core.Bool.{Bool, true, false, cond, true≢false}
 use mathlib.Core.List.{List, [], _∷_, _++_, append-assoc, List·Memᴰ, List·Memᴰ·head, List·Memᴰ·tail}
-use lib.ListN.{length, length-append}
+use lib.ListN.{length, length-append, length-map}
 use lib.Ieee.{Float}
 use Rattle.sizing.specs.declared.Sizing.{Sizing}
 use Rattle.sizing.specs.declared.MinMax.{MinMax}
 use Rattle.template_rules.specs.Template.{Component}
 use Rattle.template_rules.specs.Counts.{isAutomatic, outsideOf, outsideCount, automaticCount, beforeCount, automaticTracks}
 use Rattle.template_rules.specs.Css.{Automatic}
-use Rattle.template_rules.specs.CssWhole.{lengthIn, measureOf, timesOf, tracksTimes, writtenOut, extentOf, gridExtent}
+use Rattle.template_rules.specs.CssWhole.{lengthIn, timesOf, TrackIn, tracksOf, tracksTimes, writtenOut, measureIn, extentOf, gridExtent}
 use Rattle.template_rules.specs.declared.RepetitionCount.{RepetitionCount}
 use Rattle.template_rules.specs.declared.RepetitionCount.the-variants.{Single, Count, AutoFill, AutoFit}
 
 -- ---- tracks without gaps
-unfoldable pub totalOf : Float → List MinMax → ℕ
+unfoldable pub totalOf : Float → List TrackIn → ℕ
 totalOf inner [] = 0
-totalOf inner (t ∷ ts) = measureOf inner t + totalOf inner ts
+totalOf inner (t ∷ ts) = measureIn inner t + totalOf inner ts
 
-pub extent-total : (inner : Float) (gap : ℕ) (ts : List MinMax) → extentOf inner gap ts ≡ totalOf inner ts + gap * (length ts - 1)
+pub extent-total : (inner : Float) (gap : ℕ) (ts : List TrackIn) → extentOf inner gap ts ≡ totalOf inner ts + gap * (length ts - 1)
 unfolding extentOf totalOf
 extent-total inner gap [] = none gap
   where
     none : (g : ℕ) → 0 ≡ 0 + g * 0
     none g = omega arith
-extent-total inner gap (t ∷ []) = one (measureOf inner t) gap
+extent-total inner gap (t ∷ []) = one (measureIn inner t) gap
   where
     one : (a g : ℕ) → a ≡ a + 0 + g * 0
     one a g = omega arith
-extent-total inner gap (t ∷ (u ∷ ts)) = rw (extent-total inner gap (u ∷ ts)) (more (measureOf inner t) (measureOf inner u + totalOf inner ts) gap (length ts))
+extent-total inner gap (t ∷ (u ∷ ts)) = rw (extent-total inner gap (u ∷ ts)) (more (measureIn inner t) (measureIn inner u + totalOf inner ts) gap (length ts))
   where
     more : (a b g n : ℕ) → a + g + (b + g * (suc n - 1)) ≡ a + b + g * (suc (suc n) - 1)
     more a b g n = rw (first n, second n) (omega arith)
@@ -42,12 +42,12 @@ extent-total inner gap (t ∷ (u ∷ ts)) = rw (extent-total inner gap (u ∷ ts
         second : (n : ℕ) → suc (suc n) - 1 ≡ n + 1
         second n = omega arith
 
-pub total-append : (inner : Float) (ss ts : List MinMax) → totalOf inner (ss ++ ts) ≡ totalOf inner ss + totalOf inner ts
+pub total-append : (inner : Float) (ss ts : List TrackIn) → totalOf inner (ss ++ ts) ≡ totalOf inner ss + totalOf inner ts
 unfolding totalOf
 total-append inner [] ts = omega arith
 total-append inner (s ∷ ss) ts = rw (total-append inner ss ts, add-assoc)
 
-pub total-times : (inner : Float) (n : ℕ) (ts : List MinMax) → totalOf inner (tracksTimes n ts) ≡ n * totalOf inner ts
+pub total-times : (inner : Float) (n : ℕ) (ts : List TrackIn) → totalOf inner (tracksTimes n ts) ≡ n * totalOf inner ts
 unfolding tracksTimes totalOf
 total-times inner zero ts = omega arith
 total-times inner (suc n) ts = total-append inner ts (tracksTimes n ts) ∙ rw (total-times inner n ts) (more (totalOf inner ts) n)
@@ -55,13 +55,17 @@ total-times inner (suc n) ts = total-append inner ts (tracksTimes n ts) ∙ rw (
     more : (a n : ℕ) → a + n * a ≡ suc n * a
     more a n = omega arith
 
-pub length-times : (n : ℕ) (ts : List MinMax) → length (tracksTimes n ts) ≡ n * length ts
+pub length-times : (n : ℕ) (ts : List TrackIn) → length (tracksTimes n ts) ≡ n * length ts
 unfolding tracksTimes
 length-times zero ts = omega arith
 length-times (suc n) ts = length-append ts (tracksTimes n ts) ∙ rw (length-times n ts) (more (length ts) n)
   where
     more : (a n : ℕ) → a + n * a ≡ suc n * a
     more a n = omega arith
+
+-- the tracks of a component so often
+pub length-tracks-times : (n : ℕ) (count : RepetitionCount) (ts : List MinMax) → length (tracksTimes n (tracksOf count ts)) ≡ n * length ts
+length-tracks-times n count ts = length-times n (tracksOf count ts) ∙ ap (λ (l : ℕ). n * l) (length-map ts (λ (t : MinMax). record { count = count; track = t }))
 
 -- ---- a template in two parts, and without an automatic repeat
 written-append : (n : ℕ) (cs ds : List Component) → writtenOut n (cs ++ ds) ≡ writtenOut n cs ++ writtenOut n ds
@@ -81,9 +85,9 @@ written-none n (c ∷ cs) e = go (c .count) e (written-none n cs)
     rest n e = omega arith
 
     go : (k : RepetitionCount) → cond (isAutomatic k) 1 0 + automaticCount cs ≡ 0 → (automaticCount cs ≡ 0 → writtenOut n cs ≡ writtenOut 0 cs)
-        → tracksTimes (timesOf n k) (c .tracks) ++ writtenOut n cs ≡ tracksTimes (timesOf 0 k) (c .tracks) ++ writtenOut 0 cs
-    go Single e ih = ap (λ (l : List MinMax). tracksTimes 1 (c .tracks) ++ l) (ih (rest (automaticCount cs) e))
-    go (Count times) e ih = ap (λ (l : List MinMax). tracksTimes times (c .tracks) ++ l) (ih (rest (automaticCount cs) e))
+        → tracksTimes (timesOf n k) (tracksOf k (c .tracks)) ++ writtenOut n cs ≡ tracksTimes (timesOf 0 k) (tracksOf k (c .tracks)) ++ writtenOut 0 cs
+    go Single e ih = ap (λ (l : List TrackIn). tracksTimes 1 (tracksOf Single (c .tracks)) ++ l) (ih (rest (automaticCount cs) e))
+    go (Count times) e ih = ap (λ (l : List TrackIn). tracksTimes times (tracksOf (Count times) (c .tracks)) ++ l) (ih (rest (automaticCount cs) e))
     go AutoFill e ih = absurd (never (automaticCount cs) e)
     go AutoFit e ih = absurd (never (automaticCount cs) e)
 
@@ -95,7 +99,11 @@ pub outside-written : (cs : List Component) → Singles cs → outsideCount cs �
 unfolding outsideCount writtenOut
 outside-written [] s = refl
 outside-written (c ∷ cs) s =
-    rw (length-append (tracksTimes (timesOf 0 (c .count)) (c .tracks)) (writtenOut 0 cs), length-times (timesOf 0 (c .count)) (c .tracks), outside-written cs (λ d m. s d (List·Memᴰ·tail m)))
+    rw (
+      length-append (tracksTimes (timesOf 0 (c .count)) (tracksOf (c .count) (c .tracks))) (writtenOut 0 cs),
+      length-tracks-times (timesOf 0 (c .count)) (c .count) (c .tracks),
+      outside-written cs (λ d m. s d (List·Memᴰ·tail m)),
+    )
     (go (c .count) (λ e. s c (List·Memᴰ·head refl) e))
   where
     same : (a n : ℕ) → a ≡ 1 → 1 + n ≡ 1 * a + n
@@ -133,29 +141,33 @@ module _ (before : List Component) (repeat : Component) (after : List Component)
       go : (a b : ℕ) → a + (1 + b) ≡ 1 → b ≡ 0
       go a b e = omega arith
 
-  written-repeat : (n : ℕ) → writtenOut n (repeat ∷ after) ≡ tracksTimes n (repeat .tracks) ++ writtenOut n after
+  -- the tracks of the repeat
+  abbrev pub own : List TrackIn
+  own = tracksOf (repeat .count) (repeat .tracks)
+
+  written-repeat : (n : ℕ) → writtenOut n (repeat ∷ after) ≡ tracksTimes n own ++ writtenOut n after
   unfolding writtenOut
   written-repeat n = go (repeat .count) automatic
     where
-      go : (k : RepetitionCount) → isAutomatic k ≡ true → tracksTimes (timesOf n k) (repeat .tracks) ++ writtenOut n after ≡ tracksTimes n (repeat .tracks) ++ writtenOut n after
+      go : (k : RepetitionCount) → isAutomatic k ≡ true → tracksTimes (timesOf n k) (tracksOf k (repeat .tracks)) ++ writtenOut n after ≡ tracksTimes n (tracksOf k (repeat .tracks)) ++ writtenOut n after
       go Single a = absurd (true≢false (sym a))
       go (Count times) a = absurd (true≢false (sym a))
       go AutoFill a = refl
       go AutoFit a = refl
 
   -- with n repetitions: what stands before, the repeat n times, what stands after
-  written-parts : automaticCount template ≡ 1 → (n : ℕ) → writtenOut n template ≡ writtenOut 0 before ++ (tracksTimes n (repeat .tracks) ++ writtenOut 0 after)
+  written-parts : automaticCount template ≡ 1 → (n : ℕ) → writtenOut n template ≡ writtenOut 0 before ++ (tracksTimes n own ++ writtenOut 0 after)
   written-parts e n = written-append n before (repeat ∷ after) ∙ rw (written-repeat n, written-none n before (none-before e), written-none n after (none-after e))
 
-  pub total-written : (inner : Float) → automaticCount template ≡ 1 → (n : ℕ) → totalOf inner (writtenOut n template) ≡ totalOf inner (writtenOut 0 template) + n * totalOf inner (repeat .tracks)
+  pub total-written : (inner : Float) → automaticCount template ≡ 1 → (n : ℕ) → totalOf inner (writtenOut n template) ≡ totalOf inner (writtenOut 0 template) + n * totalOf inner own
   total-written inner e n =
-      parts n ∙ sym (ap (λ (a : ℕ). a + n * totalOf inner (repeat .tracks)) (parts 0) ∙ more (totalOf inner (writtenOut 0 before)) (totalOf inner (repeat .tracks)) (totalOf inner (writtenOut 0 after)) n)
+      parts n ∙ sym (ap (λ (a : ℕ). a + n * totalOf inner own) (parts 0) ∙ more (totalOf inner (writtenOut 0 before)) (totalOf inner own) (totalOf inner (writtenOut 0 after)) n)
     where
-      parts : (n : ℕ) → totalOf inner (writtenOut n template) ≡ totalOf inner (writtenOut 0 before) + (n * totalOf inner (repeat .tracks) + totalOf inner (writtenOut 0 after))
+      parts : (n : ℕ) → totalOf inner (writtenOut n template) ≡ totalOf inner (writtenOut 0 before) + (n * totalOf inner own + totalOf inner (writtenOut 0 after))
       parts n =
           ap (totalOf inner) (written-parts e n)
-          ∙ total-append inner (writtenOut 0 before) (tracksTimes n (repeat .tracks) ++ writtenOut 0 after)
-          ∙ rw (total-append inner (tracksTimes n (repeat .tracks)) (writtenOut 0 after), total-times inner n (repeat .tracks))
+          ∙ total-append inner (writtenOut 0 before) (tracksTimes n own ++ writtenOut 0 after)
+          ∙ rw (total-append inner (tracksTimes n own) (writtenOut 0 after), total-times inner n own)
 
       more : (a b c n : ℕ) → a + (0 * b + c) + n * b ≡ a + (n * b + c)
       more a b c n = omega arith
@@ -166,8 +178,8 @@ module _ (before : List Component) (repeat : Component) (after : List Component)
       parts : (n : ℕ) → length (writtenOut n template) ≡ length (writtenOut 0 before) + (n * length (repeat .tracks) + length (writtenOut 0 after))
       parts n =
           ap length (written-parts e n)
-          ∙ length-append (writtenOut 0 before) (tracksTimes n (repeat .tracks) ++ writtenOut 0 after)
-          ∙ rw (length-append (tracksTimes n (repeat .tracks)) (writtenOut 0 after), length-times n (repeat .tracks))
+          ∙ length-append (writtenOut 0 before) (tracksTimes n own ++ writtenOut 0 after)
+          ∙ rw (length-append (tracksTimes n own) (writtenOut 0 after), length-tracks-times n (repeat .count) (repeat .tracks))
 
       more : (a b c n : ℕ) → a + (0 * b + c) + n * b ≡ a + (n * b + c)
       more a b c n = omega arith
@@ -213,13 +225,13 @@ module _ (before : List Component) (repeat : Component) (after : List Component)
 
   -- one repetition more adds its tracks and a gap for each of them
   pub grid-grows : (inner : Float) (gap : Sizing) → automaticCount template ≡ 1 → 0 < length (repeat .tracks) → (n : ℕ)
-      → gridExtent inner gap template (suc n) ≡ gridExtent inner gap template 1 + n * (totalOf inner (repeat .tracks) + length (repeat .tracks) * lengthIn inner gap)
+      → gridExtent inner gap template (suc n) ≡ gridExtent inner gap template 1 + n * (totalOf inner own + length (repeat .tracks) * lengthIn inner gap)
   grid-grows inner gap e some n =
-      wide (suc n) ∙ more (totalOf inner (writtenOut 0 template)) (totalOf inner (repeat .tracks)) (length (writtenOut 0 template)) (length (repeat .tracks)) (lengthIn inner gap) n some
-      ∙ sym (ap (λ (a : ℕ). a + n * (totalOf inner (repeat .tracks) + length (repeat .tracks) * lengthIn inner gap)) (wide 1))
+      wide (suc n) ∙ more (totalOf inner (writtenOut 0 template)) (totalOf inner own) (length (writtenOut 0 template)) (length (repeat .tracks)) (lengthIn inner gap) n some
+      ∙ sym (ap (λ (a : ℕ). a + n * (totalOf inner own + length (repeat .tracks) * lengthIn inner gap)) (wide 1))
     where
       wide : (n : ℕ) → gridExtent inner gap template n
-          ≡ totalOf inner (writtenOut 0 template) + n * totalOf inner (repeat .tracks) + lengthIn inner gap * (length (writtenOut 0 template) + n * length (repeat .tracks) - 1)
+          ≡ totalOf inner (writtenOut 0 template) + n * totalOf inner own + lengthIn inner gap * (length (writtenOut 0 template) + n * length (repeat .tracks) - 1)
       wide n = extent-total inner (lengthIn inner gap) (writtenOut n template) ∙ rw (total-written inner e n, length-written e n)
 
       more : (u o l k g n : ℕ) → 0 < k → u + suc n * o + g * (l + suc n * k - 1) ≡ u + 1 * o + g * (l + 1 * k - 1) + n * (o + k * g)

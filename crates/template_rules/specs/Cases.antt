@@ -1,4 +1,4 @@
--- Document 01's edges M4 to M7, its worked case, and what its layer 3 says of other templates: one list under one theorem.
+-- Document 01's edges M4 to M7, M7 as document 02's Req 05 has it, the worked case, and what these say of other templates: one list under one theorem.
 -- A size is given by its bits.
 use Prim.Native.Nat.{ℕ}
 use mathlib.Core.Bool.{Bool, true, _&&_}
@@ -20,9 +20,18 @@ use Rattle.template_rules.specs.declared.AutoRepeatStrategy.the-variants
 abbrev f32 : ℕ → Float
 f32 b = ofBits binary32 b
 
--- lengths by their bits: 0, 10, 99, 100, 200, 319, 320, and the percentage a tenth
+-- lengths by their bits, and the percentage a tenth
 abbrev zero : ℕ
 zero = 0x0000_0000
+
+abbrev half : ℕ
+half = 0x3f00_0000
+
+abbrev two : ℕ
+two = 0x4000_0000
+
+abbrev five : ℕ
+five = 0x40a0_0000
 
 abbrev ten : ℕ
 ten = 0x4120_0000
@@ -80,14 +89,26 @@ cases =
     -- M6: inner 99, or none: 1
     ∷ case (inner 0x42c6_0000) rule-max (Length (f32 ten)) 0 (fill wide) (0, 1, 1, 1)
     ∷ case Indefinite rule-max (Length (f32 ten)) 0 (fill wide) (0, 1, 1, 1)
-    -- M7: length 0, gap 0, inner 10: 10,000; inner 0: 1
-    ∷ case (inner ten) rule-max (Length (f32 zero)) 0 (fill (Length (f32 zero))) (0, 10000, 10000, 10000)
+    -- M7: length 0, gap 0, inner 10: 10; inner 0: 1
+    ∷ case (inner ten) rule-max (Length (f32 zero)) 0 (fill (Length (f32 zero))) (0, 10, 10, 10)
     ∷ case (inner zero) rule-max (Length (f32 zero)) 0 (fill (Length (f32 zero))) (0, 1, 1, 1)
     -- the worked case: 100-wide fill, no gap, inner 200: 2
     ∷ case (inner 0x4348_0000) rule-max (Length (f32 zero)) 0 (fill wide) (0, 2, 2, 2)
     -- a tenth of the inner size fits ten times in 10 and nine times in 11: the count does not grow with the inner size
     ∷ case (inner ten) rule-max (Length (f32 zero)) 0 (fill (Percent (f32 tenth))) (0, 10, 10, 10)
     ∷ case (inner eleven) rule-max (Length (f32 zero)) 0 (fill (Percent (f32 tenth))) (0, 9, 9, 9)
+    -- two tracks of 0 are 1 each: 5 repetitions in 10; of a half, also as a tenth of 5, there are 5 in 5 and 6 reach 5.5; of 1 and a half 6 in 10
+    ∷ case (inner ten) rule-max (Length (f32 zero)) 0 (component AutoFit (same (Length (f32 zero)) ∷ same (Length (f32 zero)) ∷ []) ∷ []) (0, 5, 10, 10)
+    ∷ case (inner five) rule-max (Length (f32 zero)) 0 (fill (Length (f32 half))) (0, 5, 5, 5)
+    ∷ case (inner five) rule-max (Length (f32 zero)) 0 (fill (Percent (f32 tenth))) (0, 5, 5, 5)
+    ∷ case (inner 0x40b0_0000) rule-min (Length (f32 zero)) 0 (fill (Length (f32 half))) (0, 6, 6, 6)
+    ∷ case (inner ten) rule-max (Length (f32 zero)) 0 (fill (Length (f32 0x3fc0_0000))) (0, 6, 6, 6)
+    -- the floor is under what a track measures, its maximum raised to its minimum: a minimum of a half below a maximum of 2
+    ∷ case (inner ten) rule-max (Length (f32 zero)) 0 (component AutoFill (record { min = Length (f32 half); max = Length (f32 two) } ∷ []) ∷ []) (0, 5, 5, 5)
+    -- neither under gaps nor under tracks outside the repeat: gaps of a half, a single of 0 and three of a half
+    ∷ case (inner ten) rule-max (Length (f32 half)) 0 (fill (Length (f32 zero))) (0, 7, 7, 7)
+    ∷ case (inner ten) rule-max (Length (f32 zero)) 0 (component Single (same (Length (f32 zero)) ∷ []) ∷ fill (Length (f32 zero))) (0, 10, 11, 11)
+    ∷ case (inner ten) rule-max (Length (f32 zero)) 0 (component (Count 3) (same (Length (f32 half)) ∷ []) ∷ fill (Length (f32 zero))) (0, 8, 11, 11)
     -- a single and a counted repeat beside it: 320 less 100 and two times 10, gaps 10
     ∷ case (inner 0x43a0_0000) rule-max (Length (f32 ten)) 0 (component Single (same wide ∷ []) ∷ component (Count 2) (same (Length (f32 ten)) ∷ []) ∷ fill wide) (0, 1, 4, 4)
     -- areas with more tracks

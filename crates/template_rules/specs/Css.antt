@@ -1,6 +1,7 @@
 -- CSS Grid Level 2, 7.2, automatic repeats: which templates are valid, and how often the repeat is written out, as predicates
 -- (SHEET.md, Template; SHEET.md, Repetitions).
--- Sums, leftover and the quotient are document 01's f32 operations (layer 3); CssWhole.antt does without them, in whole numbers.
+-- Sums, leftover and the quotient are document 01's f32 operations (layer 3), and a track in the repeat measures at least 1 px, the floor that CSS
+-- suggests and document 02 takes (Req 05); CssWhole.antt does without the f32 operations, in whole numbers.
 use mathlib.Core.Path.{_≡_}
 use mathlib.Core.Logic.{_⊎_}
 use Prim.Native.Nat.{ℕ, _+_, _-_, _*_, _≤_, _<_}

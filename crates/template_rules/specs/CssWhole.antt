@@ -4,7 +4,7 @@
 use mathlib.Core.Path.{_≡_}
 use Prim.Native.Nat.{ℕ, zero, suc, _+_, _-_, _*_, _/_, _%_, _≤_, _<_, min, max}
 use mathlib.Core.Bool.{false, cond}
-use mathlib.Core.List.{List, [], _∷_, _++_, List·Memᴰ}
+use mathlib.Core.List.{List, [], _∷_, _++_, map, List·Memᴰ}
 use lib.Dec.{T}
 use lib.ListN.{length}
 use lib.Ieee.{Float, nan, inf, fin, binary32, up, down, mul}
@@ -60,6 +60,14 @@ IsWholeIn inner (FitContentPercent p) = Unit {0}
 abbrev pub measureOf : Float → MinMax → ℕ
 measureOf inner t = cond (isFixed (t .max)) (max (lengthIn inner (t .max)) (lengthIn inner (t .min))) (lengthIn inner (t .min))
 
+-- "to keep from dividing by zero a track in the repeat may be floored; 1 px is suggested", and document 02 takes that (Req 05): what a track counts as, by
+-- how often its component is written out and what it measures
+abbrev pub flooredIn : RepetitionCount → ℕ → ℕ
+flooredIn Single n = n
+flooredIn (Count times) n = n
+flooredIn AutoFill n = max 1 n
+flooredIn AutoFit n = max 1 n
+
 -- how often a component is written out: a single once, "a repeat as often as its count says", the automatic one n times
 abbrev pub timesOf : ℕ → RepetitionCount → ℕ
 timesOf n Single = 1
@@ -67,22 +75,35 @@ timesOf n (Count times) = times
 timesOf n AutoFill = n
 timesOf n AutoFit = n
 
+-- a track as written out, beside how often its component is
+pub record TrackIn : Type 0 where
+  pub count : RepetitionCount
+  pub track : MinMax
+
+-- the tracks of a component
+abbrev pub tracksOf : RepetitionCount → List MinMax → List TrackIn
+tracksOf count ts = map (λ (t : MinMax). record { count = count; track = t }) ts
+
 -- tracks written out so often
-unfoldable pub tracksTimes : ℕ → List MinMax → List MinMax
+unfoldable pub tracksTimes : ℕ → List TrackIn → List TrackIn
 tracksTimes zero ts = []
 tracksTimes (suc n) ts = ts ++ tracksTimes n ts
 
 -- the tracks of a template as written out, with n automatic repetitions
-unfoldable pub writtenOut : ℕ → List Component → List MinMax
+unfoldable pub writtenOut : ℕ → List Component → List TrackIn
 unfolding tracksTimes
 writtenOut n [] = []
-writtenOut n (c ∷ cs) = tracksTimes (timesOf n (c .count)) (c .tracks) ++ writtenOut n cs
+writtenOut n (c ∷ cs) = tracksTimes (timesOf n (c .count)) (tracksOf (c .count) (c .tracks)) ++ writtenOut n cs
+
+-- what a track counts as where it is written
+abbrev pub measureIn : Float → TrackIn → ℕ
+measureIn inner t = flooredIn (t .count) (measureOf inner (t .track))
 
 -- tracks side by side, "gaps counted": one between each two
-unfoldable pub extentOf : Float → ℕ → List MinMax → ℕ
+unfoldable pub extentOf : Float → ℕ → List TrackIn → ℕ
 extentOf inner gap [] = 0
-extentOf inner gap (t ∷ []) = measureOf inner t
-extentOf inner gap (t ∷ (u ∷ ts)) = measureOf inner t + gap + extentOf inner gap (u ∷ ts)
+extentOf inner gap (t ∷ []) = measureIn inner t
+extentOf inner gap (t ∷ (u ∷ ts)) = measureIn inner t + gap + extentOf inner gap (u ∷ ts)
 
 -- the grid with n automatic repetitions
 abbrev pub gridExtent : Float → Sizing → List Component → ℕ → ℕ
@@ -135,7 +156,7 @@ pub record InRange (cs : List Component) : Type 0 where
   pub few : (c : Component) → List·Memᴰ c cs → length (c .tracks) ≤ 65535
   pub sizes : (c : Component) → List·Memᴰ c cs → (t : MinMax) → List·Memᴰ t (c .tracks) → T (sizingInRange (t .min)) × T (sizingInRange (t .max))
 
--- inner size, gap and every size are whole numbers, and one further repetition measures more than 0. Sums need no bound of their own: where one repetition
+-- inner size, gap and every size are whole numbers, 0 included. Sums need no bound of their own: where one repetition
 -- fits they are below 2 ^ 24, up to which f32 is exact, and where it overflows the f32 sum does too
 pub record WholeSizes (x : Float) (g : Sizing) (cs : List Component) : Type 0 where
   pub inner : IsWhole x
@@ -143,7 +164,6 @@ pub record WholeSizes (x : Float) (g : Sizing) (cs : List Component) : Type 0 wh
   pub gap : IsWholeIn x g
   pub gapInRange : T (sizingInRange g)
   pub sizes : (c : Component) → List·Memᴰ c cs → (t : MinMax) → List·Memᴰ t (c .tracks) → IsWholeIn x (t .min) × IsWholeIn x (t .max)
-  pub further : gridExtent x g cs 1 < gridExtent x g cs 2
 
 -- without an inner size no size counts
 abbrev pub WholeIn : InnerSize → Sizing → List Component → Type 0

@@ -53,8 +53,11 @@ abbrev pub innerValue : InnerSize → Float
 innerValue (Definite inner) = inner
 innerValue Indefinite = zero32
 
--- the explicit size of an axis; "at most 64 components"
+-- the explicit size from so many components and what is gathered of them; "at most 64 components"
+abbrev pub sizeFrom : InnerSize → AutoRepeatStrategy → Sizing → ℕ → ℕ → TemplateSummary → ExplicitSize
+sizeFrom inner strategy gap areas components s = cond (leb components 64) (withAreas areas (templateSizeOf inner strategy gap s)) (refusedSize crowded)
+
+-- the explicit size of an axis
 unfoldable pub explicitSizeOf : InnerSize → AutoRepeatStrategy → Sizing → ℕ → List Component → ExplicitSize
 unfolding templateSizeOf withAreas outsideCount automaticCount beforeCount automaticTracks anyEmpty everyFixed outsideSpace repetitionSpace
-explicitSizeOf inner strategy gap areas cs =
-    cond (leb (length cs) 64) (withAreas areas (templateSizeOf inner strategy gap (meaningOf (innerValue inner) cs))) (refusedSize crowded)
+explicitSizeOf inner strategy gap areas cs = sizeFrom inner strategy gap areas (length cs) (meaningOf (innerValue inner) cs)

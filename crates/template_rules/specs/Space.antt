@@ -1,8 +1,9 @@
--- The space that a template uses (document 01, layer 3): all sums are f32, in template order, each operation rounded once.
+-- The space that a template uses (document 01, layer 3; document 02, Req 05): all sums are f32, in template order, each operation rounded once.
 use Prim.Native.Nat.{ℕ}
+use mathlib.Core.Bool.{cond}
 use mathlib.Core.List.{List, [], _∷_, map}
 use lib.IntN.{pos}
-use lib.Ieee.{Float, binary32, mul, ofInt}
+use lib.Ieee.{Float, binary32, mul, lt, ofBits, ofInt}
 use Rattle.sizing.specs.Words.{zero32}
 use Rattle.sizing.specs.Sums.{sumFrom}
 use Rattle.sizing.specs.Definite.{trackValueOf, orZero}
@@ -21,9 +22,13 @@ whole32 n = ofInt binary32 (pos n)
 abbrev pub trackSpace : Float → MinMax → Float
 trackSpace inner t = orZero (trackValueOf t inner)
 
--- what a track inside the automatic repeat counts as, by what it measures
-abbrev pub repeatedSpace : Float → Float
-repeatedSpace space = space
+-- 1 pixel
+abbrev pub one32 : Float
+one32 = ofBits binary32 0x3f80_0000
+
+-- "inside the automatic repeat, each track below 1 is taken as 1 while counting repetitions" (Req 05), by what it measures
+unfoldable pub repeatedSpace : Float → Float
+repeatedSpace space = cond (lt space one32) one32 space
 
 abbrev pub repeatedTrackSpace : Float → MinMax → Float
 repeatedTrackSpace inner t = repeatedSpace (trackSpace inner t)
@@ -56,7 +61,7 @@ unfoldable pub outsideSpace : Float → List Component → Float
 unfolding sumFrom
 outsideSpace inner cs = sumFrom zero32 (map (λ (c : Component). spaceOf inner (c .count) (c .tracks)) cs)
 
--- the space of one repetition
+-- the space of one repetition, the first one and each further one
 unfoldable pub repetitionSpace : Float → List Component → Float
-unfolding sumFrom automaticTracks
+unfolding sumFrom automaticTracks repeatedSpace
 repetitionSpace inner cs = sumFrom zero32 (map (repeatedTrackSpace inner) (automaticTracks cs))

@@ -30,10 +30,13 @@ fn track_totals(min: u64, max: u64, inner: f32) -> TrackTotals
     }
 }
 
-// What a track inside the automatic repeat counts as, by what it measures.
+// What a track inside the automatic repeat counts as, by what it measures: less than 1 is taken as 1.
 fn repeated_space(space: f32) -> f32
     ensures { λ r. ⌜ r ≡ repeatedSpace space ⌝ }
 {
+    if space < 1.0 {
+        return 1.0;
+    }
     space
 }
 

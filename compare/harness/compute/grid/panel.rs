@@ -2,7 +2,7 @@
 use super::explicit_grid::{compute_explicit_grid_size_in_axis, initialize_grid_tracks, AutoRepeatStrategy};
 use super::types::{GridLine, GridTrack, GridTrackKind, NamedLineResolver, OriginZeroLine, TrackCounts};
 use crate::geometry::{AbsoluteAxis, Line};
-use crate::sheet::{self, Input};
+use crate::sheet::{self, Input, PanelStyle};
 use crate::style::{CompactLength, GridAreaAxis, NonNamedGridPlacement};
 use std::fmt::Write;
 
@@ -13,6 +13,8 @@ pub(crate) struct Wanted {
     pub(crate) names: bool,
     /// The number of name entries on each axis.
     pub(crate) counts: bool,
+    /// The crate's own repetitions, its sizes not raised.
+    pub(crate) unraised: bool,
 }
 
 /// A direct entry: axis, line and name.
@@ -34,14 +36,14 @@ fn area_axis(axis: AbsoluteAxis) -> GridAreaAxis {
     }
 }
 
-/// Repetitions and template count of an axis.
-fn template_size(input: &Input, axis: AbsoluteAxis) -> (u16, u16) {
+/// Repetitions and template count of an axis, by the sizes of a style.
+fn template_size(input: &Input, style: &PanelStyle, axis: AbsoluteAxis) -> (u16, u16) {
     let of_axis = input.axis(axis);
     let strategy = match of_axis.rule_is_min {
         false => AutoRepeatStrategy::MaxRepetitionsThatDoNotOverflow,
         true => AutoRepeatStrategy::MinRepetitionsThatDoOverflow,
     };
-    compute_explicit_grid_size_in_axis(&input.style, of_axis.inner, strategy, |_, _| 0.0, axis)
+    compute_explicit_grid_size_in_axis(style, of_axis.inner, strategy, |_, _| 0.0, axis)
 }
 
 /// A resolver with its explicit counts, the larger of template count and areas, and the direct entries.
@@ -121,7 +123,8 @@ fn print_names(out: &mut String, axis: AbsoluteAxis, resolver: &NamedLineResolve
 /// Document 01's output for a sheet after direct entries, and what else is wanted.
 pub(crate) fn answer(text: &str, entries: &[Entry], wanted: Wanted) -> String {
     let input = sheet::read(text);
-    let sizes = AXES.map(|axis| template_size(&input, axis));
+    let counted = if wanted.unraised { &input.style } else { &input.raised };
+    let sizes = AXES.map(|axis| template_size(&input, counted, axis));
     let (resolver, explicit) = resolver(&input, sizes, entries);
     let mut out = String::new();
     for (at, axis) in AXES.into_iter().enumerate() {
