@@ -17,6 +17,9 @@ class Asked:
         entered = [(line, name) for of, line, name in self.state.accepted if of == letter]
         return css.book(self.panel.axes[letter], self.answered.repetitions[letter], entered)
 
+    def is_invalid(self, letter):
+        return not css.template_is_valid(self.panel.axes[letter])
+
     def has_entries(self, letter):
         return any(of == letter for of, _, _ in self.state.accepted)
 
@@ -26,5 +29,5 @@ class Asked:
 
     def automatic(self, letter):
         """The automatic repeat of an axis, None where it has none."""
-        repeats = [component for component in self.panel.axes[letter].components if component.automatic()]
+        repeats = [component for component in css.counted(self.panel.axes[letter]).components if component.automatic()]
         return repeats[0] if repeats else None

@@ -1,6 +1,6 @@
 """Makes panels that CSS can be asked about, the same ones for the same seed and number.
 
-They meet the third demand's conditions, and CSS can write them (`drawable`)."""
+They meet the third demand's conditions, but that a template may be invalid, and CSS can write them (`drawable`)."""
 from dataclasses import dataclass
 
 import binary32
@@ -138,6 +138,16 @@ class Comparable(maker.Maker):
             runs += loose
         return records + self.area_lines() + self.mixed(*runs, self.placement_lines())
 
+    def invalid(self):
+        """A template that CSS drops on one axis or both, beside areas, names, placements and, where areas make tracks, entries."""
+        letters = self.pick(["c", "r", "cr"])
+        records, runs = [], []
+        for letter in model.LETTERS:
+            record, (template, loose) = self.axis_lines(letter)
+            records.append(record)
+            runs += [self.invalid_template(letter) if letter in letters else template, loose]
+        return records + self.area_lines() + self.mixed(*runs, self.placement_lines())
+
     def fine(self):
         """A repeat that just fits or just doesn't, in 1/64 of a pixel, which Firefox rounds, or in 1/60, which Chromium cuts.
 
@@ -207,8 +217,12 @@ class Comparable(maker.Maker):
 
 
 def as_css(state):
-    """The third demand's conditions hold, and CSS can write the panel."""
+    """The third demand's conditions hold, but that a template may be invalid, and CSS can write the panel."""
     return demand_lines(state) is not None and drawable(state.panel)
+
+
+def some_invalid(state):
+    return any(not css.template_is_valid(axis) for axis in state.panel.axes.values())
 
 
 def exact_in_one(state):
@@ -241,8 +255,9 @@ class Family:
 
 # Add a family by a method of its name that gives the lines of a sheet, and a row here.
 FAMILIES = {
-    "general": Family(840, [as_css]),
+    "general": Family(780, [as_css]),
     "thin": Family(100, [as_css]),
+    "invalid": Family(60, [as_css, some_invalid]),
     "fine": Family(50, [as_css, exact_in_one]),
     "far": Family(8, [as_css, all_unheld]),
     "many": Family(2, [as_css, all_unheld], FAR),

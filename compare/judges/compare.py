@@ -12,6 +12,25 @@ from build import CannotCompare
 MOST_ENTRIES_ASKED = 100000
 
 
+TEMPLATE_WORDS = (b"name", b"track", b"repeat", b"end")
+
+
+def invalid_letters(panel):
+    """The axes whose template is invalid in CSS's words."""
+    return [letter for letter in model.LETTERS if not css.template_is_valid(panel.axes[letter])]
+
+
+def without_templates(sheet, letters):
+    """The sheet without the template lines of these axes."""
+    dropped = {(word, letter.encode()) for word in TEMPLATE_WORDS for letter in letters}
+    return b"\n".join(line for line in sheet.split(b"\n") if tuple(line.split(b"\t")[:2]) not in dropped)
+
+
+def asked_of_the_rust(sheet, panel):
+    """The Rust half uses an invalid template: it is asked without the template lines of such an axis."""
+    return without_templates(sheet, invalid_letters(panel))
+
+
 class Rust(Batch):
     """The harness as a running process."""
 
@@ -80,7 +99,7 @@ def compare_refused(refused, rust, sheet):
     counts = [rules.entry_count(panel.axes[letter]) for letter in model.LETTERS]
     if max(counts) > MOST_ENTRIES_ASKED:
         return Comparison(f"refused {refused.number} after the last line, entries too many to ask", [])
-    lines = rust.ask(sheet, [])
+    lines = rust.ask(asked_of_the_rust(sheet, panel), [])
     entries = [f"entries\t{letter}\t{count}" for letter, count in zip(model.LETTERS, counts)]
     differences = [first_difference("entry count", entries, lines[-2:])]
     if refused.number == reader.COUNT:
@@ -111,12 +130,12 @@ def css_any_placement(state, letter):
 
 
 def demand_lines(state):
-    """The lines of both axes over the name book where the third demand's conditions hold, else None."""
+    """The lines of both axes over the name book where the third demand's conditions hold but that a template may be invalid, else None."""
     lines = {}
     for letter in model.LETTERS:
         axis = state.panel.axes[letter]
         repetitions = rules.repetitions(axis)
-        if not css.template_is_valid(axis) or not css.writes_in_bounds(axis, repetitions):
+        if not css.writes_in_bounds(axis, repetitions):
             return None
         entered = [(line, name) for of, line, name in state.accepted if of == letter]
         book = css.book(axis, repetitions, entered)
@@ -139,6 +158,22 @@ def css_records(state, letter, records):
     return None
 
 
+def css_invalid(state, letter):
+    """An invalid template gives nothing: no repetition, no track and no name, and areas still count, their tracks by the implicit sizes."""
+    axis = state.panel.axes[letter]
+    if css.template_is_valid(axis):
+        return None
+    spanned = css.area_tracks(state.panel, letter)
+    entered = [(line, name) for of, line, name in state.accepted if of == letter]
+    if (rules.repetitions(axis), state.explicit[letter], state.entries[letter]) != (0, spanned, entered):
+        return f"CSS: the invalid template of {letter} counts"
+    for place in range(spanned + axis.positive):
+        index = 2 * (axis.negative + place) + 1
+        if state.records[letter][index] != rules.record(index, "track", False, css.implicit_size(axis, place) or rules.AUTO_TRACK):
+            return f"CSS: record {index} of {letter}, beside an invalid template: {state.records[letter][index]!r}"
+    return None
+
+
 def css_repetitions(axis):
     """The rule's repetitions against whole-number arithmetic."""
     if axis.inner is None or not css.template_is_valid(axis) or not any(c.automatic() for c in axis.components):
@@ -153,6 +188,7 @@ def css_differences(state):
     """Every comparison with CSS's counting that applies, and whether the third demand's does."""
     differences = [css_repetitions(state.panel.axes[letter]) for letter in model.LETTERS]
     differences += [css_any_placement(state, letter) for letter in model.LETTERS]
+    differences += [css_invalid(state, letter) for letter in model.LETTERS]
     differences += [None if css.gutters_fall_into_one(state.records[letter]) else f"CSS: gutters of {letter}"
                     for letter in model.LETTERS]
     demand = demand_lines(state)
@@ -218,12 +254,12 @@ def calls_difference(answer, sheet, lines):
 def compare_accepted(answer, rust, sheet):
     state = answer.state
     full = answer.output + answer.names + model.count_lines(state)
-    lines = rust.ask(sheet, state.accepted)
+    lines = rust.ask(asked_of_the_rust(sheet, state.panel), state.accepted)
     differences = [first_difference("Rust", full, lines)]
     if not differences[0]:
         differences.append(calls_difference(answer, sheet, lines))
     css_found, demanded = css_differences(state)
-    kind = "accepted, third demand's conditions hold" if demanded else "accepted"
+    kind = "accepted" + (", an invalid template" if invalid_letters(state.panel) else "") + (", third demand's conditions hold" if demanded else "")
     return Comparison(kind, differences + css_found)
 
 

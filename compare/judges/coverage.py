@@ -8,7 +8,7 @@ import re
 import build
 import model
 import rules
-from compare import MOST_ENTRIES_ASKED, Rust
+from compare import MOST_ENTRIES_ASKED, Rust, asked_of_the_rust
 from lists import blocks, call_of, read_list
 
 # Files with every function measured, or (from, to): the functions between these lines of text.
@@ -24,7 +24,8 @@ ARM = re.compile(r"^(\s*)(.*?) => ([^{].*),$")
 LONG_ARM = re.compile(r"^(\s*)(.*?) => ([^{].*[^,{(])$")
 INLINE = re.compile(r"\bif (.+?) \{ (.+?) \} else \{ (.+?) \}")
 
-# Branches that no panel can reach, with the reason.
+INVALID = "a template that is not valid counts as none here, and the Rust is asked without it"
+# Branches that no panel can reach, with the reason: by their text, or by their file, line and text.
 UNREACHABLE = {
     "let Some(template) = template else {": "`Style` always has a template",
     "_ => unreachable!(),": "named lines are resolved before this match",
@@ -38,6 +39,8 @@ UNREACHABLE = {
     "pub(crate) fn resolve_row_names": "calls `resolve_line_names`, which is driven itself",
     "pub(crate) fn resolve_column_names": "calls `resolve_line_names`, which is driven itself",
     "fn add_assign": "no compared function adds so",
+    "explicit_grid.rs:54 if template_has_repetitions_with_zero_tracks": INVALID,
+    "explicit_grid.rs:87 if !template_is_valid": INVALID,
 }
 
 HEADING = """# Branches of the Rust functions and the recorded case that reaches each first
@@ -167,14 +170,14 @@ def chosen_lines(lines, bounds):
     return wanted
 
 
-def entries_asked(sheet, calls):
-    """The accepted entries of a sheet that the Rust can be asked, None for the others."""
+def asked_by(sheet, calls):
+    """The sheet as the Rust is asked on it, with the accepted entries; None where it isn't."""
     answer = model.Answer(sheet, calls)
     if not answer.refused:
-        return answer.state.accepted
+        return asked_of_the_rust(sheet, answer.state.panel), answer.state.accepted
     panel = getattr(answer.refused, "panel", None)
     if panel and max(rules.entry_count(axis) for axis in panel.axes.values()) <= MOST_ENTRIES_ASKED:
-        return []
+        return asked_of_the_rust(sheet, panel), []
     return None
 
 
@@ -183,9 +186,9 @@ def first_cases(rust):
     found = {}
     for file in ("cases", "limits", "entries", "accepted", "large", "refused"):
         for block in blocks(read_list(file)):
-            entries = entries_asked(block.sheet, [call_of(row) for row in block.rows])
-            if entries is not None:
-                take_new(found, rust.ask(block.sheet, entries)[-1], f"{file}/{block.name}")
+            asked = asked_by(block.sheet, [call_of(row) for row in block.rows])
+            if asked is not None:
+                take_new(found, rust.ask(*asked)[-1], f"{file}/{block.name}")
     take_new(found, rust.lines(3)[-1], "lines")
     return found
 
@@ -196,14 +199,15 @@ def take_new(found, line, name):
             found[int(number)] = name
 
 
-def reason(text):
-    return next((why for start, why in UNREACHABLE.items() if start in text), None)
+def reason(file, line, text):
+    known = f"{file}:{line} {text}"
+    return next((why for start, why in UNREACHABLE.items() if start in known), None)
 
 
 def row(branch, by):
     """A row of the table, and whether the branch is missed without a reason."""
     file, line, text = branch
-    why = reason(text)
+    why = reason(file, line, text)
     missed = by is None and why is None
     by = by or (f"not reached: {why}" if why else "NOT REACHED")
     text = text.replace("|", "\\|")

@@ -3,11 +3,14 @@
 Lines have positions here: 0 at the start edge of the explicit grid, `explicit` at its end edge.
 Lines are walked one by one; each line is held within 10,000 of the first as it is found."""
 
+from dataclasses import replace
+
 FURTHEST = 10000
 
 
 def book(axis, repetitions, entered):
-    """The name book of an axis: each name on line 1 plus the tracks before it, then the entries."""
+    """The name book of an axis: each name of what counts as its template on line 1 plus the tracks before it, then the entries."""
+    axis = counted(axis)
     lines = []
     tracks = 0
     for place, names in enumerate(axis.sets):
@@ -27,12 +30,18 @@ def times(component, repetitions):
     return repetitions if component.automatic() else component.count
 
 
+def counted(axis):
+    """The axis with what counts as its template: "otherwise the declaration is invalid, and the template counts as none"."""
+    return axis if template_is_valid(axis) else replace(axis, components=[], sets=[[]])
+
+
 def template_is_valid(axis):
-    """Document 01's validity: an empty template without names is valid."""
+    """"A repeat has at least one track, a written count is at least 1, and names without any track are no template"; "at most one
+    automatic repeat in a template, and then every track in the template has a fixed part". An empty template without names is valid."""
     components = axis.components
     if not components:
         return not axis.sets[0]
-    if any(len(component.tracks) == 0 for component in components):
+    if any(len(component.tracks) == 0 or component.count == 0 for component in components):
         return False
     automatic = [component for component in components if component.automatic()]
     if not automatic:
@@ -44,6 +53,7 @@ def template_is_valid(axis):
 
 def writes_in_bounds(axis, repetitions):
     """Each repeat at least once, at most 10,000 tracks in all."""
+    axis = counted(axis)
     counts = [times(component, repetitions) for component in axis.components]
     tracks = sum(count * len(component.tracks) for count, component in zip(counts, axis.components))
     return all(count >= 1 for count in counts) and tracks <= FURTHEST
@@ -133,12 +143,22 @@ def writes_line_zero(placement):
 
 
 def template_tracks(axis, repetitions):
-    """The tracks of the template in order with, for each, whether `fit` wrote it."""
+    """The tracks of what counts as the template in order with, for each, whether `fit` wrote it."""
     tracks = []
-    for component in axis.components:
+    for component in counted(axis).components:
         for _ in range(times(component, repetitions)):
             tracks += [(track, component.count == "fit") for track in component.tracks]
     return tracks
+
+
+def area_tracks(panel, letter):
+    """The tracks that the areas span."""
+    return max((area.edges(letter)[1] - 1 for area in panel.areas.values()), default=0)
+
+
+def implicit_size(axis, place):
+    """The size of the track at a place after the template's end: the list for implicit tracks, over and over; None for auto."""
+    return axis.spares[place % len(axis.spares)] if axis.spares else None
 
 
 def gutters_fall_into_one(records):

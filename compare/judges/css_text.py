@@ -75,8 +75,8 @@ def between(sets, parts, first=(), last=()):
 
 
 def bounded(sets, parts):
-    """A template of parts between our two names."""
-    return between(sets, parts, [FIRST], [LAST]) if parts else "none"
+    """A template of parts between our two names; without parts the names alone, which are no template."""
+    return between(sets, parts, [FIRST], [LAST]) if parts else between(sets, parts) or "none"
 
 
 def repeat(component, written, count=None):

@@ -19,25 +19,29 @@ def rust_sheets():
     yield "counted above 10,000", repeat(10001, TRACK), ["refused\t4\t4"]
     yield "filled above 10,000", [axis_line("477fff00")] + repeat("fill", ZERO, ZERO, ZERO), ["refused\t4\t7"]
     yield "filled by length 0", [axis_line("3f800000")] + repeat("fill", ZERO), ["size\tc\t1\t1"]
-    yield "4,097 entries", ["repeat\tc\t4097", "name\tc\tx", "end\tc"], ["refused\t8\t4"]
+    yield "4,097 entries", ["repeat\tc\t4097", "name\tc\tx", f"track\tc\t{TRACK}", "end\tc"], ["refused\t8\t5"]
 
 
 def invalid_sheets():
-    """Templates that CSS has not, and placements outside the third demand's conditions."""
-    shifted = repeat(0, TRACK) + ["name\tc\tx"]
-    yield "repeated no times", shifted + [place_line(X + "1")], placed("line 2 auto 0")
-    yield "filled by no fixed part", repeat("fill", TRACK) + ["name\tc\tx", place_line(X + "1")], ["size\tc\t0\t0"] + placed("line 2 auto 0")
-    yield "filled twice", repeat("fill", ONE) * 2 + ["name\tc\tx", place_line(X + "1")], ["size\tc\t0\t0"] + placed("line 3 auto 0")
-    yield "area over no template", ["area\ta\t1\t2\t1\t2", f"track\tc\t{ONE}"] + repeat("fill", TRACK), ["size\tc\t0\t1", f"1\ttrack\tn\t{ONE}"]
-    yield "names without a track", ["name\tc\tx", place_line(X + "-1")], placed("line 1 auto 0")
-    yield "repeat without a track", ["repeat\tc\t2", "name\tc\tx", "end\tc", place_line(X + "-1")], placed("line 1 auto 0")
-    yield "span back from past the end", shifted + [place_line("nspan\tx\t1", "line\t-\t3")], placed("line -2 line 3")
-    yield "index not rising", repeat(0, TRACK) + shifted + [place_line(X + "1", X + "2")], placed("line 3 line 2")
+    """Templates that CSS has not: here they count as none, where the Rust uses their singles and names."""
+    drawn = ["area\ta\t1\t2\t1\t2"]
+    yield "repeated no times", repeat(0, TRACK) + ["name\tc\tx", f"track\tc\t{TRACK}", place_line(X + "-1")], ["size\tc\t0\t0"] + placed("line -2 auto 0")
+    yield "filled by no fixed part", drawn + repeat("fill", TRACK) + ["name\tc\tx", place_line(X + "1")], ["size\tc\t0\t1"] + placed("line 3 auto 0")
+    yield "filled twice", repeat("fill", ONE) * 2 + ["name\tc\tx", place_line(X + "1")], ["size\tc\t0\t0"] + placed("line 2 auto 0")
+    yield "area over no template", drawn + [f"track\tc\t{ONE}"] + repeat("fill", TRACK), ["size\tc\t0\t1", f"1\ttrack\tn\t{TRACK}"]
+    yield "names without a track", ["name\tc\tx", place_line(X + "-1")], placed("line -2 auto 0")
+    yield "repeat without a track", ["repeat\tc\t2", "name\tc\tx", "end\tc", place_line(X + "-1")], placed("line -2 auto 0")
+    yield "bench four", [axis_line("43a00000"), "area\tlevel\t1\t2\t2\t3"] + repeat("fill", "len\t42c80000\tlen\t42c80000") + \
+        ["name\tc\toffset", f"track\tc\t{TRACK}", place_line("named\toffset\t1")], ["size\tc\t0\t2"] + placed("line 4 auto 0")
+
+
+def outside_sheets():
+    """Placements outside the third demand's conditions."""
+    yield "span back from past the end", [place_line("nspan\tx\t1", "line\t-\t3")], placed("line -2 line 3"), [("c", 2, b"x")]
+    yield "index not rising", [place_line(X + "1", X + "2")], placed("line 3 line 2"), [("c", 3, b"x")]
     yield "two named spans", [place_line("nspan\tx\t1", "nspan\ty\t1")], placed("span 1 span 1")
     yield "ends out of order", [place_line("line\t-\t3", "line\t-\t1"), place_line("line\t-\t2", "line\t-\t2")], \
         placed("line 3 line 1", "line 2 line 2")
-    yield "bench four", [axis_line("43a00000"), "area\tlevel\t1\t2\t2\t3"] + repeat("fill", "len\t42c80000\tlen\t42c80000") + \
-        ["name\tc\toffset", f"track\tc\t{TRACK}", place_line("named\toffset\t1")], ["size\tc\t0\t2"] + placed("line 2 auto 0")
 
 
 def worded_sheets():
@@ -58,7 +62,8 @@ def worded_sheets():
 
 
 def sheets():
-    """(name, lines, what the answer has to hold)."""
+    """(name, lines, what the answer has to hold, and entry calls where there are any)."""
     yield from rust_sheets()
     yield from invalid_sheets()
+    yield from outside_sheets()
     yield from worded_sheets()

@@ -53,8 +53,20 @@ def unit_axis(asked, letter):
     own = PROPERTIES[WAYS[letter]]
     axis = asked.panel.axes[letter]
     written = asked.has_entries(letter)
-    template = written_out(asked, letter) if written else css_text.template(axis, lambda track: UNIT, "auto-fill")
+    # An invalid template is drawn as it stands: the browser has to drop it.
+    plain = css_text.template(axis) if asked.is_invalid(letter) else css_text.template(axis, lambda track: UNIT, "auto-fill")
+    template = written_out(asked, letter) if written else plain
     return {own["template"]: template, own["spares"]: UNIT, own["size"]: f"{asked.template_tracks(letter)}px"}
+
+
+def dropped_in_lines(asked):
+    """The declarations of the drawing of lines that a browser has to drop."""
+    return [PROPERTIES[WAYS[letter]]["template"] for letter in WAYS if asked.is_invalid(letter) and not asked.has_entries(letter)]
+
+
+def dropped_in_tracks(asked, letter, way):
+    """Those of the drawing of an axis's tracks."""
+    return [PROPERTIES[way]["template"]] if asked.is_invalid(letter) else []
 
 
 def area_style(asked, way):
@@ -85,7 +97,7 @@ def inner_style(axis, way):
 
 def automatic_tracks(asked, letter):
     """The tracks that an automatic repeat wrote, each with whether it was `fit`, from the first negative one."""
-    axis = asked.panel.axes[letter]
+    axis = css.counted(asked.panel.axes[letter])
     tracks, at = {}, axis.negative
     for component in axis.components:
         count = css.times(component, asked.answered.repetitions[letter]) * len(component.tracks)

@@ -41,6 +41,7 @@ SHEETS = {
 # Limits: each just met, and just passed with the refusal (number, line) of document 01's table.
 
 TRACK = "auto\t00000000\tauto\t00000000"
+ZERO_TRACK = "len\t00000000\tlen\t00000000"
 
 
 def axis_line(inner="-", kind="len", gap="00000000"):
@@ -99,7 +100,8 @@ def open_and_closed():
 def limit_sheets():
     """(name, lines, refusal or None)."""
     for name, met, passed, number in just_met_and_passed():
-        yield f"{name} met", [met], None
+        # A name counts beside a track alone.
+        yield f"{name} met", [met] + [f"track\tc\t{TRACK}"] * met.startswith("name"), None
         yield f"{name} passed", [passed], (number, 1)
     for name, met, more, number in open_and_closed():
         yield f"{name} met", met, None
@@ -109,15 +111,22 @@ def limit_sheets():
     yield "tracks in a repeat passed", ["repeat\tc\t2"] + [track] * 33 + ["end\tc"], (8, 34)
     yield "repeat count met", ["repeat\tc\t65535", "end\tc"], None
     yield "repeat count passed", ["repeat\tc\t65536", "end\tc"], (4, 1)
-    yield "entries met", ["repeat\tr\t4096", "name\tr\tx", "end\tr"], None
-    yield "entries passed", ["repeat\tr\t4097", "name\tr\tx", "end\tr"], (8, 4)
+    # 64 times 64 names, and one more.
+    many = lambda axis: [f"repeat\t{axis}\t64"] + [f"name\t{axis}\tx"] * 64 + [f"track\t{axis}\t{TRACK}", f"end\t{axis}"]
+    yield "entries met", many("r"), None
+    yield "entries passed", many("r") + ["name\tr\tx"], (8, 69)
+    yield "entries of an invalid template", many("r") + ["name\tr\tx", "repeat\tr\t1", "end\tr"], None
     yield "explicit count met", ["repeat\tr\t10000", f"track\tr\t{TRACK}", "end\tr"], None
     yield "explicit count passed", ["repeat\tr\t10001", f"track\tr\t{TRACK}", "end\tr"], (4, 4)
-    yield "both passed", ["repeat\tr\t10001", f"track\tr\t{TRACK}", "end\tr", "repeat\tc\t4097", "name\tc\tx", "end\tc"], (4, 7)
+    yield "explicit count of an invalid template", ["repeat\tr\t10001", f"track\tr\t{TRACK}", "end\tr", "repeat\tr\t0", f"track\tr\t{TRACK}", "end\tr"], None
+    yield "both passed", ["repeat\tr\t10001", f"track\tr\t{TRACK}", "end\tr"] + many("c") + ["name\tc\tx"], (4, 72)
     yield "open and passed", ["repeat\tr\t10001", f"track\tr\t{TRACK}", "end\tr", "repeat\tc\tfill"], (1, 5)
-    # Nine bytes a line, and the rest in a name.
-    yield "sheet length met", ["item\tc\t0"] * 3639 + ["name\tc\t" + "n" * 9], None
-    yield "sheet length passed", ["item\tc\t0"] * 3639 + ["name\tc\t" + "n" * 10], (1, 0)
+    # Nine bytes a line, and the rest in the name of an area.
+    yield "sheet length met", ["area\t" + "n" * 3 + "\t1\t2\t1\t2"] + ["item\tc\t0"] * 3639, None
+    yield "sheet length passed", ["area\t" + "n" * 4 + "\t1\t2\t1\t2"] + ["item\tc\t0"] * 3639, (1, 0)
+    # No room for the automatic repeat: it is written no times, and the name after it lies one line further on.
+    yield "tracks before the repeat met", ["repeat\tr\t10000", f"track\tr\t{ZERO_TRACK}", "end\tr", "repeat\tr\tfill", f"track\tr\t{ZERO_TRACK}", "end\tr",
+                                           "name\tr\tx", "place\tr\tnamed\tx\t1\tauto\t-\t0"], None
     yield "empty sheet", [], None
     yield "empty line", [""], (1, 1)
     yield "all counts met", ["extra\tc\t10000\t10000", "extra\tr\t10000\t10000", "repeat\tc\t10000", track, "end\tc", "item\tc\t29999"], None

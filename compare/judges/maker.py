@@ -104,6 +104,10 @@ class Maker:
             lines.append(f"track\t{letter}\t{self.track(fixed)}")
         return lines + self.name_lines(letter, share) + [f"end\t{letter}"]
 
+    def written_count(self):
+        """The count of a repeat; now and then 0, which no valid template has."""
+        return self.pick([1, 1, 1, 2, 2, 3, 4, 7]) if self.chance(0.97) else 0
+
     def template(self, letter):
         """The lines of a template, most of them valid."""
         automatic = self.pick([0, 0, 1, 1, 1, 1, 2]) if self.chance(0.8) else 0
@@ -119,9 +123,49 @@ class Maker:
                 lines.append(f"track\t{letter}\t{self.track(fixed)}")
             else:
                 tracks = self.pick([1, 1, 1, 2, 2, 3, 5]) if self.chance(0.96) else 0
-                count = self.pick([0, 1, 1, 2, 2, 3, 4, 7]) if kind == "repeat" else kind
+                count = self.written_count() if kind == "repeat" else kind
                 lines += self.repeat_lines(letter, count, tracks, fixed, share)
         return lines + self.name_lines(letter, share)
+
+    # Templates that count as none, by what is wrong with each.
+
+    def automatic_lines(self, letter, share):
+        return self.repeat_lines(letter, self.pick(["fill", "fit"]), self.pick([1, 1, 2, 3]), True, share)
+
+    def free_track(self, letter):
+        return f"track\t{letter}\t{self.keyword()}\t{self.free_maximum()}"
+
+    def free_inside(self, letter, share):
+        """An automatic repeat around a track of no fixed kind."""
+        lines = self.automatic_lines(letter, share)
+        return lines[:-1] + [self.free_track(letter), lines[-1]]
+
+    def faults(self, letter, share):
+        """What makes a template invalid, each as the lines that stand in it."""
+        return [
+            lambda: self.automatic_lines(letter, share) + self.name_lines(letter, share) + self.automatic_lines(letter, share),
+            lambda: self.automatic_lines(letter, share) + [self.free_track(letter)],
+            lambda: [self.free_track(letter)] + self.name_lines(letter, share) + self.automatic_lines(letter, share),
+            lambda: self.free_inside(letter, share),
+            lambda: self.repeat_lines(letter, self.pick([1, 2, 7, 4097, 65535, "fill", "fit"]), 0, True, share),
+            lambda: self.repeat_lines(letter, 0, self.pick([1, 1, 2, 3]), True, share),
+            lambda: self.repeat_lines(letter, 10001, 1, True, share) + self.repeat_lines(letter, 0, 1, True, share),
+        ]
+
+    def invalid_template(self, letter):
+        """Names, singles and repeats around one fault; or names without any track."""
+        share = self.pick([0.3, 0.6, 0.8])
+        if self.chance(0.12):
+            return self.name_lines(letter, 0.9) or [f"name\t{letter}\t{self.pick(self.names)}"]
+        around = [self.plain_lines(letter, share) for _ in range(self.below(5))]
+        around.insert(self.random.randrange(len(around) + 1), self.pick(self.faults(letter, share))())
+        return [line for lines in around for line in self.name_lines(letter, share) + lines] + self.name_lines(letter, share)
+
+    def plain_lines(self, letter, share):
+        """A single or a counted repeat that is valid by itself."""
+        if self.chance(0.6):
+            return [f"track\t{letter}\t{self.track(True)}"]
+        return self.repeat_lines(letter, self.pick([1, 2, 3]), self.pick([1, 2]), True, share)
 
     def axis_record(self, letter):
         if self.chance(0.15):
@@ -228,6 +272,14 @@ class Maker:
 
     def general(self):
         return self.sheet_lines(), self.calls(), None
+
+    def invalid(self):
+        """Templates that count as none on one axis or both, beside areas, names, items and entries."""
+        letters = self.pick(["c", "r", "cr"])
+        records = [line for letter in self.pick(["cr", "rc"]) for line in self.axis_record(letter)]
+        templates = [self.invalid_template(letter) if letter in letters else self.template(letter) for letter in "cr"]
+        runs = [*templates, self.loose_lines("c"), self.loose_lines("r") if self.chance(0.5) else [], self.placement_lines()]
+        return records + self.area_lines() + self.mixed(*runs), self.calls(), None
 
     def tie(self):
         """A template whose repetitions depend on each rounding, found by search."""
@@ -352,15 +404,15 @@ class Maker:
         """Names of repeats that are written out often: counts around 4,096 entries and line 10,000."""
         size = "len\t00000000\tlen\t00000000"
         letter = self.pick("cr")
-        tracks = self.pick([0, 1, 2, 3, 10, 32])
-        count = self.pick([4095, 4096, 4097, 2048, 2049, 1365, 1366, 312, 313, 314, 65535, 4090])
-        names = self.pick([0, 1, 1, 1, 2, 3])
+        tracks = self.pick([1, 1, 2, 3, 10, 32])
+        count, names = self.pick([(4095, 1), (4096, 1), (4097, 1), (2048, 2), (2049, 2), (1365, 3), (1366, 3), (312, 13), (315, 13), (316, 13),
+                                  (64, 64), (63, 65), (65, 63), (10, 409), (10, 410), (312, 1), (313, 1), (314, 1), (65535, 1), (4090, 0)])
         lines = [f"repeat\t{letter}\t{count}"] + [f"name\t{letter}\t{self.pick(self.names)}" for _ in range(names)]
         lines += [f"track\t{letter}\t{size}"] * tracks + [f"end\t{letter}"]
         lines += self.name_lines(letter, 0.5)
         if self.chance(0.5):
-            lines += [f"repeat\t{letter}\t{self.pick([0, 2, 3])}"] + self.name_lines(letter, 0.6)
-            lines += [f"track\t{letter}\t{size}"] * self.pick([0, 1]) + [f"end\t{letter}"] + self.name_lines(letter, 0.5)
+            lines += [f"repeat\t{letter}\t{self.pick([1, 2, 3])}"] + self.name_lines(letter, 0.6)
+            lines += [f"track\t{letter}\t{size}", f"end\t{letter}"] + self.name_lines(letter, 0.5)
         calls = self.calls()
         if self.chance(0.5):
             calls += [(letter, self.entered_line(), self.pick(self.names).encode()) for _ in range(8)]
@@ -382,7 +434,7 @@ class Maker:
         elif way == 4:
             lines = self.template(letter) + [f"place\t{letter}\t{self.end()}\t{self.end()}" for _ in range(256)]
         else:
-            lines = [line for number in range(64) for line in self.repeat_lines(letter, self.below(3), 1, True, 0.3)]
+            lines = [line for number in range(64) for line in self.repeat_lines(letter, 1 + self.below(3), 1, True, 0.3)]
         return lines, self.calls(), None
 
     def store(self):
@@ -392,7 +444,8 @@ class Maker:
         if self.chance(0.5):
             calls = [(letter, self.entered_line(), b"m" * 32) for _ in range(1030)]
         else:
-            lines = [f"repeat\t{letter}\t4090", f"name\t{letter}\t{self.pick(self.names)}", f"end\t{letter}"]
+            lines = [f"repeat\t{letter}\t10"] + [f"name\t{letter}\t{self.pick(self.names)}"] * 409
+            lines += [f"track\t{letter}\t{self.track(False)}", f"end\t{letter}"]
             calls = [(letter, self.entered_line(), self.pick(self.names).encode()) for _ in range(12)]
         calls += [self.call() for _ in range(5)]
         return lines, calls, None
@@ -448,7 +501,7 @@ class Maker:
         return damage.spoiled(self.random, self.sheet_lines()), self.calls(), None
 
 
-WEIGHTS = {"general": 600, "tie": 100, "thin": 100, "large": 8, "over": 5, "far": 5, "writing_out": 12, "full": 12, "store": 2, "long": 3,
+WEIGHTS = {"general": 600, "invalid": 60, "tie": 100, "thin": 100, "large": 8, "over": 5, "far": 5, "writing_out": 12, "full": 12, "store": 2, "long": 3,
            "damaged": 220, "spoiled": 60, "grouped": 0}  # asked for by name alone: the sheets of a seed stay
 
 

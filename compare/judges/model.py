@@ -1,4 +1,4 @@
-"""The second judge: a sheet and direct entry calls, answered from document 01's words alone."""
+"""The second judge: a sheet and direct entry calls, answered from the words of documents 01 and 02 alone."""
 from functools import cached_property
 
 import reader

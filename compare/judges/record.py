@@ -15,13 +15,16 @@ import reader
 import rules
 import wrong_blocks
 from answer import calls_of
-from compare import Rust, compare, compare_lines
+from compare import Rust, asked_of_the_rust, compare, compare_lines
 
 SEED = 1
 DEFAULT_CASES = os.path.join(build.REPOSITORY, "..", "shared", "cases")
 # Sheets of each family in `accepted`, and the longest block that is kept.
-ACCEPTED = {"general": 1300, "tie": 200, "full": 40, "writing_out": 60, "spoiled": 40, "thin": 150}
+ACCEPTED = {"general": 1300, "invalid": 200, "tie": 200, "full": 40, "spoiled": 40, "thin": 150}
 LONGEST_BLOCK = 3500
+# Names of repeats, some 4,096 in all, beside a track in each: no such block is short.
+WRITTEN_OUT = 24
+LONGEST_WRITTEN_OUT = 12000
 # Sheets of the family `grouped` in `large`, and the longest block that is kept.
 GROUPED = 40
 LONGEST_GROUPED = 15000
@@ -31,6 +34,7 @@ REFUSED_FOR_EACH = {1: 9, 3: 4, 4: 6}
 REFUSED_FOR_OTHERS = 25
 ENTRY_LISTS = 150
 STORE_LISTS = 4
+INVALID_LISTS = 40
 
 
 class Case:
@@ -53,7 +57,8 @@ class Case:
         """The Rust's lines where it speaks; the model's for refusals and the numbers of calls."""
         if self.refused:
             return self.answer.output
-        lines = rust.ask(self.sheet, self.answer.state.accepted)[:-2]
+        asked = asked_of_the_rust(self.sheet, self.answer.state.panel)
+        lines = rust.ask(asked, self.answer.state.accepted)[:-2]
         return [model.entry_line(number) for number in self.answer.numbers] + lines
 
     def block(self, cut=False):
@@ -104,7 +109,7 @@ def taken(cases, count, wanted):
 # The lists.
 
 def paper_case(folder, name, rust):
-    """A case of the papers; the Rust's answer, by its own sizes, has to be the one that lies beside it."""
+    """A case of the papers; the Rust's answer to the sheet as it stands, by its own sizes, has to be the one that lies beside it."""
     sheet = build.read_bytes(os.path.join(folder, name + ".in"))
     path = os.path.join(folder, name + ".enter")
     calls = calls_of(path if os.path.exists(path) else None)
@@ -121,9 +126,9 @@ def paper_case(folder, name, rust):
     return case
 
 
-def held_case(name, lines, held, rust):
+def held_case(rust, name, lines, held, calls=()):
     """A sheet whose answer has to hold lines that a paper gives."""
-    case = Case(name, damage.sheet_of(lines), [], rust)
+    case = Case(name, damage.sheet_of(lines), list(calls), rust)
     if any(line not in case.lines for line in held):
         raise build.CannotCompare(f"not recorded: {name} is answered otherwise than its paper says")
     return case
@@ -133,13 +138,13 @@ def write_cases(folder, rust):
     if not os.path.isdir(folder):
         raise build.CannotCompare(f"not recorded: the papers' cases are not in {folder}")
     names = sorted(name[:-3] for name in os.listdir(folder) if name.endswith(".in"))
-    cases = [paper_case(folder, name, rust) for name in names] + [held_case(name, *edges.SHEETS[name], rust) for name in edges.SHEETS]
+    cases = [paper_case(folder, name, rust) for name in names] + [held_case(rust, name, *edges.SHEETS[name]) for name in edges.SHEETS]
     keep("cases", [case.block(cut=len(case.lines) > 3000) for case in cases])
 
 
 def write_differences(rust):
     """The sheets of docs/DIFFERENCES.md."""
-    cases = [held_case(*sheet, rust) for sheet in differences.sheets()]
+    cases = [held_case(rust, *sheet) for sheet in differences.sheets()]
     keep("differences", [case.block(cut=len(case.lines) > 3000) for case in cases])
 
 
@@ -164,6 +169,8 @@ def write_limits(rust):
 def write_accepted(rust):
     small = lambda case: not case.refused and len(case.block()) <= LONGEST_BLOCK
     cases = [case for family, count in ACCEPTED.items() for case in taken(made_cases(family, rust), count, small)]
+    short = lambda case: not case.refused and len(case.block()) <= LONGEST_WRITTEN_OUT
+    cases += taken(made_cases("writing_out", rust), WRITTEN_OUT, short)
     middle = lambda case: not case.refused and 20000 <= len(case.block()) <= 60000
     cases += taken(made_cases("general", rust, SEED + 1), 6, middle)
     keep("accepted", [case.block() for case in cases])
@@ -204,14 +211,23 @@ def write_refused(rust):
     keep("refused", [case.block() for case in cases])
 
 
+def invalid_and_full():
+    """A sheet whose names count as none and still take their bytes of the store, and entries that fill what they leave."""
+    name = b"m" * 32
+    sheet = b"repeat\tc\t0\n" + b"name\tc\t" + name + b"\ntrack\tc" + b"\tauto\t00000000" * 2 + b"\nend\tc\n" + (b"name\tc\t" + name + b"\n") * 20
+    return sheet, [("c", 2, name)] * 1003 + [("c", 1, b"x"), ("r", 1, b"x")]
+
+
 def write_entries(rust):
     """Lists of entry calls, refused ones among them, and lists that fill the store."""
     mixed = lambda case: not case.refused and len(case.calls) >= 3 and len(case.block()) <= LONGEST_BLOCK
     refused = lambda case: mixed(case) and any(case.answer.numbers)
     cases = taken(made_cases("general", rust, SEED + 2), ENTRY_LISTS, refused)
     cases += taken(made_cases("general", rust, SEED + 3), ENTRY_LISTS, mixed)
-    filling = lambda case: not case.refused and reader.CROWDED in case.answer.numbers and len(case.lines) < 3000
+    filling = lambda case: not case.refused and reader.CROWDED in case.answer.numbers and len(case.lines) < 1500
     cases += taken(made_cases("store", rust), STORE_LISTS, filling)
+    cases += taken(made_cases("invalid", rust, SEED + 5), INVALID_LISTS, mixed)
+    cases += [Case("names of an invalid template fill the store", *invalid_and_full(), rust)]
     cases += taken(made_cases("writing_out", rust, SEED + 4), STORE_LISTS, filling)
     keep("entries", [case.block() for case in cases])
 
@@ -234,7 +250,7 @@ def short_block(name, sheet, stores, calls):
 def write_short():
     """Stores that are short: refusal 10, after every other number."""
     full, less = model.STORE_BYTES, model.STORE_BYTES - 1
-    good = b"name\tc\tx\nplace\tc\tnamed\tx\t1\tauto\t-\t0\n"
+    good = b"name\tc\tx\ntrack" + b"\tc" + b"\tauto\t00000000" * 2 + b"\nplace\tc\tnamed\tx\t1\tauto\t-\t0\n"
     blocks = []
     for number, stores in enumerate([(full, full), (less, full), (full, less), (0, 0), (full + 1, full + 9)]):
         for what, sheet in (("good", good), ("bad", good + b"\n"), ("over", b"repeat\tc\t10001\ntrack" + b"\tc" + b"\tauto\t00000000" * 2 + b"\nend\tc\n")):

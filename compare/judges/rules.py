@@ -61,15 +61,27 @@ def has_fixed_kind(track):
     return fixed(track.minimum) or fixed(track.maximum)
 
 
-def counts_as_none(components):
-    """Whether a template gives 0 repetitions and 0 tracks."""
-    if not components or any(not component.tracks for component in components):
+def counts_as_none(axis):
+    """Whether a template counts as no template: it has no track (names alone are none), a repeat of no tracks, a written count of 0,
+    two automatic repeats, or one where any track, its own included, has no fixed kind (document 02, request 04)."""
+    components = axis.components
+    if not components or any(not component.tracks or component.count == 0 for component in components):
         return True
     automatic = sum(component.automatic() for component in components)
     if automatic == 0:
         return False
     every_track_fixed = all(has_fixed_kind(track) for component in components for track in component.tracks)
     return automatic > 1 or not every_track_fixed
+
+
+def counted_components(axis):
+    """The components of what counts as the template."""
+    return [] if counts_as_none(axis) else axis.components
+
+
+def counted_sets(axis):
+    """The name sets before, between and after them."""
+    return [[]] if counts_as_none(axis) else axis.sets
 
 
 def tracks_outside(components):
@@ -171,11 +183,12 @@ def most_repetitions(before, tracks):
 
 
 def repetitions(axis):
-    place = automatic_at(axis.components)
-    if place is None or counts_as_none(axis.components):
+    components = counted_components(axis)
+    place = automatic_at(components)
+    if place is None:
         return 0
-    repeat = axis.components[place]
-    before = tracks_outside(axis.components[:place])
+    repeat = components[place]
+    before = tracks_outside(components[:place])
     if before >= FURTHEST:
         return 0
     return max(1, min(fitting_repetitions(axis, repeat), most_repetitions(before, len(repeat.tracks))))
@@ -183,10 +196,8 @@ def repetitions(axis):
 
 def template_count(axis):
     """The tracks that the template writes out, not cut."""
-    if counts_as_none(axis.components):
-        return 0
     automatic = repetitions(axis)
-    return sum(written_tracks(component, automatic) for component in axis.components)
+    return sum(written_tracks(component, automatic) for component in counted_components(axis))
 
 
 def area_count(panel, letter):
@@ -218,11 +229,12 @@ def walk(axis):
     number of times that it is written: ("set", line, names) or ("repeat", line, component, times)."""
     line = 1
     automatic = repetitions(axis)
-    for place, names in enumerate(axis.sets):
+    components = counted_components(axis)
+    for place, names in enumerate(counted_sets(axis)):
         yield ("set", line, names)
-        if place == len(axis.components):
+        if place == len(components):
             return
-        component = axis.components[place]
+        component = components[place]
         if component.count is None:
             line += 1
             continue
@@ -373,7 +385,7 @@ def written_out(axis):
     """The template's tracks with, for each, whether `fit` wrote it."""
     tracks = []
     automatic = repetitions(axis)
-    for component in axis.components:
+    for component in counted_components(axis):
         turns = times(component, automatic)
         # More than 10,000 tracks are never kept: no need to write them.
         turns = min(turns, FURTHEST)

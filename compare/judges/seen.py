@@ -46,9 +46,13 @@ def line_of(names, sought):
     return next((line for line, names_of in enumerate(names) if sought in names_of), None)
 
 
-def unread(shown):
-    """A declaration that a browser doesn't read is a fault of the drawing."""
-    return [Finding("read", "", None, [], shown["unread"])] if shown["unread"] else []
+def dropped(shown, expected=()):
+    """The declarations that a browser doesn't read: those of invalid templates have to be, any other is a fault of the drawing."""
+    return [Finding("dropped declarations", "", None, list(expected), shown["unread"])] if expected or shown["unread"] else []
+
+
+def differ(findings):
+    return any(one.ours != one.seen for one in findings)
 
 
 # Lines.
@@ -77,9 +81,10 @@ def line_findings(asked, shown, with_names):
     for place, letter in enumerate(LETTERS, start=1):
         last, _ = in_units(boxes[place], boxes[0], drawing.WAYS[letter])
         counts.append(Finding("explicit count", letter, None, asked.answered.explicit[letter], last))
-    if unread(shown) or any(one.ours != one.seen for one in counts):
-        return unread(shown) + counts
-    findings = counts + [placed(asked, index, box, boxes[0]) for index, box in enumerate(boxes[3:])]
+    read = dropped(shown, drawing.dropped_in_lines(asked))
+    if differ(read + counts):
+        return read + counts
+    findings = read + counts + [placed(asked, index, box, boxes[0]) for index, box in enumerate(boxes[3:])]
     if with_names:
         findings += [Finding("line names", letter, None, asked.answered.names[letter],
                              explicit_names(shown[drawing.WAYS[letter]], asked, letter)) for letter in LETTERS]
@@ -139,10 +144,10 @@ def looks(asked, letter, way, shown, written):
 
 def track_findings(asked, letter, way, shown, written):
     """Counts first: where one differs, nothing after it can be told. `written` shows the same axis as the records have it."""
-    faults = unread(shown) + unread(written)
+    read = dropped(shown, drawing.dropped_in_tracks(asked, letter, way)) + dropped(written)
     sizes, names = listing(shown[way])
     counts = template_findings(asked, letter, names) + [Finding("tracks", letter, None, asked.answered.tracks(letter), len(sizes))]
     for told, one in enumerate(counts, start=1):
-        if faults or one.ours != one.seen:
-            return faults + counts[:told]
-    return counts + looks(asked, letter, way, shown, written)
+        if differ(read + [one]):
+            return read + counts[:told]
+    return read + counts + looks(asked, letter, way, shown, written)

@@ -1,5 +1,7 @@
 """Wrong readings of documents 01 and 02, each put into the model in place of one small function."""
 import contextlib
+import math
+from dataclasses import replace
 from unittest import mock
 
 import binary32
@@ -146,8 +148,42 @@ def missing_after_last_name(self, name, first, index):
     return rules.held(last + index - len(lines))
 
 
-def names_of_invalid_dropped(axis):
-    return [] if rules.counts_as_none(axis.components) else right_written_entries(axis)
+def entries_of_invalid_kept(axis):
+    with mock.patch.object(rules, "counts_as_none", no_components):
+        return right_written_entries(axis)
+
+
+def singles_of_invalid_kept(axis):
+    with mock.patch.object(rules, "counts_as_none", no_components):
+        return right_written_out(axis)
+
+
+def no_components(axis):
+    return not axis.components
+
+
+def count_of_0_is_valid(axis):
+    counts = [1 if component.count == 0 else component.count for component in axis.components]
+    return right_counts_as_none(replace(axis, components=[replace(component, count=count) for component, count in zip(axis.components, counts)]))
+
+
+def names_alone_count(axis):
+    return right_counts_as_none(axis) and bool(axis.components)
+
+
+def areas_dropped_with_the_template(panel, letter):
+    return 0 if rules.counts_as_none(panel.axes[letter]) and panel.axes[letter].components else right_area_count(panel, letter)
+
+
+def counted_before_validity(axis):
+    """The tracks of a template, whether it is valid or not."""
+    automatic = rules.repetitions(axis)
+    return sum(rules.written_tracks(component, automatic) for component in axis.components)
+
+
+def crowded_before_validity(axis):
+    with mock.patch.object(rules, "counts_as_none", no_components):
+        return right_entry_count(axis)
 
 
 def repeated_names_kept(entries, explicit):
@@ -191,10 +227,6 @@ def item_from_explicit(axis, place):
     return place - axis.negative in axis.items
 
 
-def invalid_writes_nothing(axis):
-    return [] if rules.counts_as_none(axis.components) else right_written_out(axis)
-
-
 def span_zero_is_zero(self, name, number, line, which):
     if number == 0:
         return "line", line
@@ -213,6 +245,9 @@ right_span_from = Names.span_from
 right_written_entries = rules.written_entries
 right_line_names = rules.line_names
 right_written_out = rules.written_out
+right_counts_as_none = rules.counts_as_none
+right_area_count = rules.area_count
+right_entry_count = rules.entry_count
 right_names = Names.__init__
 
 # Each wrong reading: where it is put, and what.
@@ -247,7 +282,13 @@ FOUND_BY_THE_RUST = {
     "index 0 takes the start edge at both ends": (Names, "named_line", other_end_of_area),
     "the highest line of an edge wins": (Names, "area_edge", highest_edge),
     "missing lines counted after the last name": (Names, "forward", missing_after_last_name),
-    "names of an invalid template dropped": (rules, "written_entries", names_of_invalid_dropped),
+    "entries of an invalid template kept": (rules, "written_entries", entries_of_invalid_kept),
+    "singles of an invalid template written": (rules, "written_out", singles_of_invalid_kept),
+    "a written count of 0 valid": (rules, "counts_as_none", count_of_0_is_valid),
+    "names without a track used": (rules, "counts_as_none", names_alone_count),
+    "areas dropped with an invalid template": (rules, "area_count", areas_dropped_with_the_template),
+    "the explicit count from tracks that don't count": (rules, "template_count", counted_before_validity),
+    "8 by entries that don't count": (rules, "entry_count", crowded_before_validity),
     "names kept from the first entry only": (Names, "__init__", first_entry_only),
     "names kept from the columns only": (Names, "__init__", columns_only),
     "a name listed twice on a line": (rules, "line_names", repeated_names_kept),
@@ -255,7 +296,6 @@ FOUND_BY_THE_RUST = {
     "tracks of areas after the positive ones": (rules, "all_tracks", areas_after_positive),
     "the gutter before trailing collapsed tracks stays": (rules, "collapsed_gutters", last_gutter_stays),
     "items counted from the first explicit track": (rules, "holds_item", item_from_explicit),
-    "an invalid template's singles left out": (rules, "written_out", invalid_writes_nothing),
 }
 
 
@@ -287,6 +327,12 @@ def line_before_name(state, letter, line, name, stores=model.FULL_STORES):
     return right_enter(state, letter, line, name, stores)
 
 
+def bytes_of_invalid_free(self, panel):
+    """The bytes of a template that counts as none not used."""
+    right_state(self, panel)
+    self.used = {letter: 0 if rules.counts_as_none(panel.axes[letter]) else self.used[letter] for letter in model.LETTERS}
+
+
 def store_by_entries(self, panel):
     """The store counted by written-out entries instead of `name` records."""
     right_state(self, panel)
@@ -312,6 +358,7 @@ FOUND_BY_DAMAGE = {
 FOUND_BY_RECOUNT = {
     "an entered line tested before the name": (model, "enter", line_before_name),
     "the store filled by written-out entries": (model.State, "__init__", store_by_entries),
+    "the bytes of an invalid template free": (model.State, "__init__", bytes_of_invalid_free),
 }
 
 

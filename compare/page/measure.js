@@ -1,9 +1,9 @@
 // Reads every drawn grid of the page and says what it shows, as one text: to the server, or in place of the page.
 
-// A declaration that the browser doesn't read is missing in its style.
+// The properties of the declarations that the browser doesn't read: they are missing in its style.
 function unread(element) {
-  const text = element.getAttribute("style");
-  return text !== "" && text.split(";").length !== element.style.length ? [text] : [];
+  const written = element.getAttribute("style").split(";").filter((text) => text !== "").map((text) => text.split(":")[0]);
+  return written.filter((property) => element.style.getPropertyValue(property) === "");
 }
 
 // A box from the edges of its grid: left, top, width, height.

@@ -3,7 +3,7 @@ use Prim.Native.Nat.{ℕ, zero, suc, _+_, _*_, _-_, _≤_, _<_}
 use mathlib.Core.Path.{_≡_, refl, sym, ap, ap₂, _∙_}
 use mathlib.Core.Logic.{_⊎_, inl, inr}
 use mathlib.Core.Bool.{Bool, true, false, cond}
-use mathlib.Core.List.{List, [], _∷_, _++_}
+use mathlib.Core.List.{List, [], _∷_, _++_, List·Memᴰ·not-nil}
 use native.Mathlib.Omega.{arith}
 use borrow.Author.Tests.{eq-eqb, ne-eqb, leb-true, leb-false, ltb-true, ltb-false, le-leb, lt-leb, le-ltb, lt-ltb}
 use lib.Dec.{eqb, leb, ltb}
@@ -23,7 +23,7 @@ use Rattle.track_rules.specs.Records.{tracksIn, recordsIn, noTrack, recordAnswe
 use Rattle.track_run.specs.Run.{fillAnswerOf, runAfter}
 use Rattle.axis_tables.specs.declared.AxisGrid.{AxisGrid}
 use Rattle.axis_tables.specs.Runs.{bytesOf}
-use Rattle.axis_tables.specs.View.{componentsOf, axisBytes}
+use Rattle.axis_tables.specs.View.{AxisLine, componentsOf, axisBytes}
 use Rattle.panel_tables.specs.declared.Grid.{Grid}
 use Rattle.panel_tables.specs.declared.Panel.{Panel}
 use Rattle.panel_tables.specs.declared.PlacementPlace.{PlacementPlace}
@@ -32,7 +32,9 @@ use Rattle.panel_tables.specs.Axes.{viewIn}
 use Rattle.panel_tables.specs.Placements.{placementAt as placeAt}
 use Rattle.sheet_rules.specs.Sheet.{Outcome, sheetOf, entriesOf}
 use Rattle.sheet_rules.specs.Rows.{Row, numberOf, HoldsAt, FirstAt, Nowhere}
-use Rattle.sheet_rules.specs.Panels.{Tables, entryWords}
+use Rattle.sheet_rules.specs.Valid.{ValidTemplate, CssCounted}
+use Rattle.sheet_rules.specs.Panels.{Tables, entryWords, sizedState}
+use Rattle.sheet_rules.proofs.Counted.{invalid-nothing}
 use Rattle.sheet_rules.specs.Read.{shortStores, readBy, readSheet}
 use Rattle.sheet_rules.proofs.Contents.{view-says}
 use Rattle.sheet_rules.proofs.Theorem.{Found, nowhere, found, sheet-found}
@@ -42,18 +44,20 @@ use Rattle.panel_rules.specs.Placing.{linePlacement, placedBy, resolvePlacement
 use Rattle.panel_rules.specs.Runs.{Call, Accepted, runOf, marksOf, sizeOf, placementOf, recordWith, runWith}
 use Rattle.panel_rules.specs.Views.{entryName, bytesAfter, entriesAfter, placementAt, placementAfter, sizeAfter, tracksAfter}
 use Rattle.panel_rules.specs.Added.{sheetAxis, added, refusalAfter}
-use Rattle.panel_rules.specs.Book.{addedFrom, sheetBook, sheetTracks, book, bookBytes, tableRefusal, RegularTemplate, Regular}
+use Rattle.panel_rules.specs.Book.{CssTemplate, asWritten, addedFrom, sheetBook, sheetTracks, book, bookBytes, tableRefusal, AllValid, AllCounted, RegularTemplate, Regular}
 use Rattle.panel_rules.specs.Ranges.{largest}
 use Rattle.panel_rules.proofs.Sheets.{accepted-sheet}
 use Rattle.panel_rules.proofs.Held.{run-refusal}
 use Rattle.panel_rules.proofs.Invariants.{areas-largest}
+use Rattle.panel_rules.proofs.Counted.{valid-counted}
+use Rattle.panel_rules.proofs.Invalid.{as-if-empty}
 use Rattle.panel_rules.proofs.Book as Book
 use Rattle.panel_rules.proofs.Run.{addedTo, placement-css, placement-only, run-css, run-only}
 use Rattle.panel_rules.proofs.Order.{largest-same, order-same}
 use Rattle.panel_rules.proofs.Tracks as Tracks
-use Rattle.panel_rules.proofs.Runs.{axis-fits, words-entries, added-to, few-tracks, run-entries, run-sizes, run-lists, run-names, run-records, run-placements, run-filled, run-fill, run-marks, marks-enough}
+use Rattle.panel_rules.proofs.Runs.{axis-fits, words-entries, added-to, few-tracks, run-entries, run-sizes, run-lists, run-names, run-records, run-placements, run-template, run-used, run-bytes, run-filled, run-fill, run-marks, marks-enough}
 use Rattle.panel_rules.proofs.ColumnsAlone.{columns-alone}
-use Rattle.panel_demands.specs.Demands.{SheetAnswered, EntryAnswered, PlacementAnswered, RecordAnswered, RunAnswered, FirstDemand, SecondDemand, TemplateTheorem, RunTheorem, ThirdDemand}
+use Rattle.panel_demands.specs.Demands.{SheetAnswered, EntryAnswered, PlacementAnswered, RecordAnswered, RunAnswered, FirstDemand, InvalidTheorem, SecondDemand, TemplateTheorem, RunTheorem, bothWritten, ThirdDemand, WithoutValidity}
 use Rattle.panel_demands.specs.Demands.{sheetAccepted, sheetRefused, sheetShort, entryAccepted, entryRefused, placementAccepted, placementOutside, placementShort, recordAccepted, recordOutside, recordShort, runAccepted, runShort}
 
 -- ==== demand 1
@@ -135,6 +139,19 @@ first-demand =
 
 -- ==== demand 2
 
+-- an axis with an invalid template
+invalid-theorem : (s : List ℕ) (t : Tables) (calls : List Call) → Accepted s t → (a : Axis) → (ValidTemplate (sheetAxis s a .template) → ⊥) → InvalidTheorem s t calls a
+unfolding sizeAfter sizedState
+invalid-theorem s t calls ok a h =
+    let n = invalid-nothing (sheetAxis s a) h in
+    record {
+      sizes = run-sizes s t calls ok a ∙ ap₂ (λ (r e : ℕ). record { repetitions = r; explicit = e }) (n .repetitions) (n .explicit);
+      entries = run-entries s t calls ok a ∙ ap (λ (l : List Entry). l ++ added s a calls) (n .entries);
+      template = run-template s t calls ok a ∙ ap componentsOf (n .template);
+      used = run-used s t calls ok a ∙ length-append (axisBytes (sheetAxis s a)) (bytesOf entryName (added s a calls));
+      bytes = run-bytes s t calls ok a;
+    }
+
 pub second-demand : (s : List ℕ) (t : Tables) (calls : List Call) → Accepted s t → SecondDemand s t calls
 unfolding sizeAfter
 second-demand s t calls ok =
@@ -143,6 +160,7 @@ second-demand s t calls ok =
       view = view-says s z;
       sizes = run-sizes s t calls ok;
       repeats = λ a c valid m auto. rw (run-sizes s t calls ok a) (Book.found-repetitions (sheetAxis s a) valid c m auto);
+      invalid = invalid-theorem s t calls ok;
       entries = run-entries s t calls ok;
       refusals = λ c. run-refusal s t calls c ok;
       placements = run-placements s t calls ok;
@@ -158,56 +176,57 @@ second-demand s t calls ok =
 
 -- ==== demand 3
 
--- an axis under the conditions of its own template
-module _ (n : ℕ) (s : List ℕ) (t : Tables) (calls : List Call) (a : Axis) (ok : Accepted s t) (r : RegularTemplate n (sheetAxis s a)) where
+-- an axis under the conditions of its own template, over what CSS takes for it
+module _ (m : CssTemplate) (s : List ℕ) (t : Tables) (calls : List Call) (a : Axis) (ok : Accepted s t) (css : CssCounted (sheetAxis s a .template) (m .template))
+    (r : RegularTemplate m (sheetAxis s a .line)) where
   abbrev v : PanelView
   v = sheetOf s .view
 
   good : sheetOf s .fault ≡ 0
   good = accepted-sheet s t ok .0
 
-  entries-book : entriesOf (sheetAxis s a) ≡ sheetBook n (sheetAxis s a)
-  entries-book = Book.entries-book n v a calls (axis-fits s a) r
+  entries-book : entriesOf (sheetAxis s a) ≡ sheetBook m
+  entries-book = Book.entries-book m v a calls (axis-fits s a) css r
 
-  added-book : added s a calls ≡ addedFrom (length (sheetBook n (sheetAxis s a))) (length (axisBytes (sheetAxis s a))) a calls
+  added-book : added s a calls ≡ addedFrom (length (sheetBook m)) (length (axisBytes (sheetAxis s a))) a calls
   added-book = added-to s good calls a ∙ ap (λ (l : List Entry). addedFrom (length l) (length (axisBytes (sheetAxis s a))) a calls) entries-book
 
   -- as many entries, and as many bytes
-  count-book : length (entryWords (sheetAxis s a)) + length (added s a calls) ≡ length (book n v a calls)
+  count-book : length (entryWords (sheetAxis s a)) + length (added s a calls) ≡ length (book m v a calls)
   unfolding book
   count-book =
-      let added-there = addedFrom (length (sheetBook n (sheetAxis s a))) (length (axisBytes (sheetAxis s a))) a calls in
-      omega (arith, words-entries s good a, ap length entries-book, ap length added-book, length-append (sheetBook n (sheetAxis s a)) added-there)
+      let added-there = addedFrom (length (sheetBook m)) (length (axisBytes (sheetAxis s a))) a calls in
+      omega (arith, words-entries s good a, ap length entries-book, ap length added-book, length-append (sheetBook m) added-there)
 
-  bytes-book : length (bytesAfter (sheetAxis s a) (added s a calls)) ≡ bookBytes n v a calls
+  bytes-book : length (bytesAfter (sheetAxis s a) (added s a calls)) ≡ bookBytes m v a calls
   unfolding bookBytes
   bytes-book =
       length-append (axisBytes (sheetAxis s a)) (bytesOf entryName (added s a calls))
       ∙ ap (λ (l : List Entry). length (axisBytes (sheetAxis s a)) + length (bytesOf entryName l)) added-book
 
-  tracks : (items : List ℕ) → tracksIn (tracksAfter (sheetAxis s a)) ≤ length items → (j : ℕ) → 1 ≤ j → j ≤ sheetTracks n (sheetAxis s a)
+  tracks : (items : List ℕ) → tracksIn (tracksAfter (sheetAxis s a)) ≤ length items → (j : ℕ) → 1 ≤ j → j ≤ sheetTracks m
       → (recordWith (runOf s t calls) a items (2 * (sheetAxis s a .negative + j) - 1) .refusal ≡ noRefusal)
-      × Stands (getD (writtenOut (componentsOf (sheetAxis s a .template)) n) (j - 1) noTrack) (getD items (sheetAxis s a .negative + j - 1) 0)
+      × Stands (getD (writtenOut (componentsOf (m .template)) (m .repetitions)) (j - 1) noTrack) (getD items (sheetAxis s a .negative + j - 1) 0)
       (recordWith (runOf s t calls) a items (2 * (sheetAxis s a .negative + j) - 1) .track)
   tracks items long j from to =
       let f = axis-fits s a in
-      let low : j ≤ length (writtenOut (componentsOf (sheetAxis s a .template)) n) = rw (Tracks.written-tracks n v a calls f r) to in
+      let low : j ≤ length (writtenOut (componentsOf (m .template)) (m .repetitions)) = rw (Tracks.written-tracks m v a calls f css r) to in
       rw (run-records s t calls ok a items (2 * (sheetAxis s a .negative + j) - 1))
-      (Tracks.track-accepted n v a calls f r items long j from low, Tracks.track-after n v a calls f r items long j from low)
+      (Tracks.track-accepted m v a calls f css r items long j from low, Tracks.track-after m v a calls f css r items long j from low)
 
   lent : (items : List ℕ) (run : List GridTrack) → tracksIn (tracksAfter (sheetAxis s a)) ≤ length items → recordsIn (tracksAfter (sheetAxis s a)) ≤ length run
-      → (j : ℕ) → 1 ≤ j → j ≤ sheetTracks n (sheetAxis s a)
-      → Stands (getD (writtenOut (componentsOf (sheetAxis s a .template)) n) (j - 1) noTrack) (getD items (sheetAxis s a .negative + j - 1) 0)
+      → (j : ℕ) → 1 ≤ j → j ≤ sheetTracks m
+      → Stands (getD (writtenOut (componentsOf (m .template)) (m .repetitions)) (j - 1) noTrack) (getD items (sheetAxis s a .negative + j - 1) 0)
       (getD (runWith (runOf s t calls) a items run) (2 * (sheetAxis s a .negative + j) - 1) zeroGridTrack)
   lent items run long room j from to =
       let f = axis-fits s a in
-      let low : j ≤ length (writtenOut (componentsOf (sheetAxis s a .template)) n) = rw (Tracks.written-tracks n v a calls f r) to in
-      rw (run-filled s t calls ok a items run) (Tracks.track-run n v a calls f r items long j from low run room)
+      let low : j ≤ length (writtenOut (componentsOf (m .template)) (m .repetitions)) = rw (Tracks.written-tracks m v a calls f css r) to in
+      rw (run-filled s t calls ok a items run, Book.counted-same m v a calls f css r) (Tracks.track-run m v a calls f css r items long j from low run room)
 
-  pub template-theorem : TemplateTheorem n s t calls a
+  pub template-theorem : TemplateTheorem m s t calls a
   template-theorem =
       record {
-        entries = run-entries s t calls ok a ∙ ap (entriesAfter (sheetAxis s a)) (added-to s good calls a) ∙ Book.book-after n v a calls (axis-fits s a) r;
+        entries = run-entries s t calls ok a ∙ ap (entriesAfter (sheetAxis s a)) (added-to s good calls a) ∙ Book.book-after m v a calls (axis-fits s a) css r;
         refusals = λ line name. run-refusal s t calls (record { axis = a; line = line; name = name }) ok ∙ ap₂ (λ (entries used : ℕ). refusalOf (tableRefusal entries used line name)) count-book bytes-book;
         tracks = tracks;
         lent = lent;
@@ -220,23 +239,44 @@ unfolding placementAfter
 placement-added s t calls ok i =
     run-placements s t calls ok i ∙ rw (added-to s (accepted-sheet s t ok .0) calls (placementAt (sheetOf s .view) i .axis))
 
-pub run-theorem : (n : Axis → ℕ) (s : List ℕ) (t : Tables) (calls : List Call) → Accepted s t → Regular n (sheetOf s .view) calls → RunTheorem n s t calls
-run-theorem n s t calls ok r =
+pub run-theorem : (m : Axis → CssTemplate) (s : List ℕ) (t : Tables) (calls : List Call) → Accepted s t → AllCounted m (sheetOf s .view)
+    → Regular m (sheetOf s .view) calls → RunTheorem m s t calls
+run-theorem m s t calls ok css r =
     let few = few-tracks s (accepted-sheet s t ok .0) in
     record {
-      placed = λ i held. rw (placement-added s t calls ok i) (run-css n (sheetOf s .view) calls (axis-fits s) few r i held);
-      only = λ i held x e. placement-added s t calls ok i ∙ run-only n (sheetOf s .view) calls (axis-fits s) few r i held x e;
+      placed = λ i held. rw (placement-added s t calls ok i) (run-css m (sheetOf s .view) calls (axis-fits s) few css r i held);
+      only = λ i held x e. placement-added s t calls ok i ∙ run-only m (sheetOf s .view) calls (axis-fits s) few css r i held x e;
     }
+
+-- an empty template meets the conditions
+empty-regular : (n : ℕ) (l : AxisLine) → RegularTemplate (record { template = []; repetitions = n }) l
+unfolding sheetTracks
+empty-regular n l = record { repetitions = λ c k. absurd (List·Memᴰ·not-nil k); repeated = tt; few = omega arith }
+
+pub without-validity : WithoutValidity
+without-validity =
+    record {
+      templates = template-theorem;
+      runs = run-theorem;
+      order = λ n m p q x y css also r u same entries i.
+          placement-added (p .sheet) (p .tables) (p .calls) x i
+          ∙ order-same n m (sheetOf (p .sheet) .view) (sheetOf (q .sheet) .view) (p .calls) (q .calls) (axis-fits (p .sheet)) (axis-fits (q .sheet)) css also r u same
+          (λ a. areas-largest (p .sheet) a ∙ largest-same a (sheetOf (p .sheet) .view .areas) (sheetOf (q .sheet) .view .areas) (same .areas) ∙ sym (areas-largest (q .sheet) a)) entries i
+          ∙ sym (placement-added (q .sheet) (q .tables) (q .calls) y i);
+      invalid = λ n s a h. empty-regular n (sheetAxis s a .line);
+      empty = as-if-empty;
+    }
+
+-- a valid template counts as it is written
+all-counted : (n : Axis → ℕ) (s : List ℕ) → AllValid (sheetOf s .view) → AllCounted (bothWritten n s) (sheetOf s .view)
+all-counted n s v a = valid-counted (sheetAxis s a .template) (v a)
 
 pub third-demand : ThirdDemand
 third-demand =
     record {
-      templates = template-theorem;
-      runs = run-theorem;
-      order = λ n m p q x y r u same entries i.
-          placement-added (p .sheet) (p .tables) (p .calls) x i
-          ∙ order-same n m (sheetOf (p .sheet) .view) (sheetOf (q .sheet) .view) (p .calls) (q .calls) (axis-fits (p .sheet)) (axis-fits (q .sheet)) r u same
-          (λ a. areas-largest (p .sheet) a ∙ largest-same a (sheetOf (p .sheet) .view .areas) (sheetOf (q .sheet) .view .areas) (same .areas) ∙ sym (areas-largest (q .sheet) a)) entries i
-          ∙ sym (placement-added (q .sheet) (q .tables) (q .calls) y i);
+      templates = λ n s t calls a ok v r. without-validity .templates (asWritten n (sheetAxis s a)) s t calls a ok (valid-counted (sheetAxis s a .template) v) r;
+      runs = λ n s t calls ok v r. without-validity .runs (bothWritten n s) s t calls ok (all-counted n s v) r;
+      order = λ n m p q x y v w r u same entries.
+          without-validity .order (bothWritten n (p .sheet)) (bothWritten m (q .sheet)) p q x y (all-counted n (p .sheet) v) (all-counted m (q .sheet) w) r u same entries;
       columns = columns-alone;
     }

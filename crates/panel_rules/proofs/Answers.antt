@@ -27,7 +27,7 @@ use Rattle.panel_tables.specs.Written.{placementWords, placementStore}
 use Rattle.panel_tables.proofs.Axes.{axis-in-fits}
 use Rattle.panel_tables.proofs.Fits.{FitsPanel}
 use Rattle.sheet_rules.specs.Sheet as Sheet
-use Rattle.sheet_rules.specs.Sheet.{explicitOf, endFault}
+use Rattle.sheet_rules.specs.Sheet.{counted, explicitOf, endFault}
 use Rattle.sheet_rules.specs.Panels.{Tables, entryWords, sizedState, sizedPanel, tablesOf}
 use Rattle.sheet_rules.specs.Read.{shortStores}
 use Rattle.sheet_end.proofs.Entries.{entries-read}
@@ -150,7 +150,7 @@ module _ (v : PanelView) (f : FitsPanel v) (range : PanelRange v) (ok : endFault
 
   -- ---- the records: the components, the spare sizes and the counts that they are made of
 
-  pub template-after : (a : Axis) → templateIn (gridIn (h .panel .grid) a) (wordsIn (namesOf (h .tables)) a) ≡ componentsOf (viewIn v a .template)
+  pub template-after : (a : Axis) → templateIn (gridIn (h .panel .grid) a) (wordsIn (namesOf (h .tables)) a) ≡ componentsOf (counted (viewIn v a))
   template-after a = rw (grid-held a, words-held a) (template-held (viewIn v a) (axis-in-fits v a f) (es a))
 
   pub spares-after : (a : Axis) → sparesIn (gridIn (h .panel .grid) a) (wordsIn (namesOf (h .tables)) a) ≡ map sizesOf (viewIn v a .spares)

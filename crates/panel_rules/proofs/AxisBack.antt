@@ -5,7 +5,7 @@ use mathlib.Core.List.{List, [], map, append-nil}
 use mathlib.Core.Bool.{Bool, true, false, cond}
 use native.Mathlib.Omega.{arith}
 use native.Mathlib.Nat.{min-eq-left}
-use lib.Dec.{ltb}
+use lib.Dec.{eqb, ltb}
 use lib.ListN.{length-map}
 use borrow.Author.Tests.{ltb-false}
 use Rattle.name_rules.specs.Css.{Entry}
@@ -13,10 +13,14 @@ use Rattle.track_rules.specs.Written.{sparesOf}
 use Rattle.sheet_forms.specs.Faults.{firstOf}
 use Rattle.sheet_forms.proofs.Firsts.{first-zero}
 use Rattle.axis_tables.specs.View.{AxisView, sizesOf, componentsOf}
-use Rattle.axis_tables.specs.Written.{minOf}
+use Rattle.template_rules.specs.Template.{Component, templateOf}
+use Rattle.axis_tables.specs.declared.TemplateCounts.{TemplateCounts}
+use Rattle.axis_tables.specs.Runs.{partOf}
+use Rattle.axis_tables.specs.Store.{zeroTemplate}
+use Rattle.axis_tables.specs.Written.{minOf, roomOf}
 use Rattle.axis_tables.proofs.Fits.{Fits}
 use Rattle.axis_tables.proofs.Back.{template-back, spare-minimums-back, spare-maximums-back, tracks-back}
-use Rattle.sheet_rules.specs.Sheet.{explicitOf, openFault, countFault, entriesFault, axisFault}
+use Rattle.sheet_rules.specs.Sheet.{sizeOf, counted, explicitOf, openFault, countFault, entriesFault, axisFault}
 use Rattle.sheet_rules.specs.Panels.{sizedState}
 use Rattle.panel_rules.specs.Calls.{templateIn, sparesIn, axisTracks}
 use Rattle.panel_rules.specs.Views.{wordsAfter, stateAfter, tracksAfter}
@@ -36,10 +40,20 @@ explicit-few x e =
 
 -- ---- the words
 module _ (x : AxisView) (f : Fits x) (es : List Entry) where
-  -- layer 3's components
-  pub template-held : templateIn (stateAfter x es .grid) (wordsAfter x es) ≡ componentsOf (x .template)
-  unfolding stateAfter sizedState wordsAfter
-  template-held = template-back x f _
+  -- layer 3's components, of what counts as the template
+  pub template-held : templateIn (stateAfter x es .grid) (wordsAfter x es) ≡ componentsOf (counted x)
+  unfolding stateAfter sizedState wordsAfter counted templateOf
+  template-held = go (eqb (sizeOf x .tracks) 0)
+    where
+      w : List ℕ
+      w = wordsAfter x es
+
+      held : TemplateCounts → List Component
+      held c = templateOf (partOf w 0 (c .components)) (partOf w 64 (c .tracks)) (partOf w 2112 (c .tracks))
+
+      go : (t : Bool) → held (cond t zeroTemplate (roomOf x .template)) ≡ componentsOf (cond t [] (x .template))
+      go true = refl
+      go false = template-back x f _
 
   -- layer 5's spare sizes
   pub spares-held : sparesIn (stateAfter x es .grid) (wordsAfter x es) ≡ map sizesOf (x .spares)

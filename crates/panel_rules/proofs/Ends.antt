@@ -9,21 +9,20 @@ use lib.ListN.{length, length-map}
 use borrow.Author.Tests.{ltb-false, eqb-true, eqb-false}
 use Rattle.coordinates.specs.declared.axis.Axis.{Axis}
 use Rattle.coordinates.specs.declared.axis.Axis.the-variants.{Column, Row}
-use Rattle.name_template.specs.Writing.{writtenEntries, entryWord}
+use Rattle.name_template.specs.Writing.{entryWord}
 use Rattle.text.specs.Split.{split}
 use Rattle.sheet_forms.specs.Faults.{firstOf}
 use Rattle.sheet_forms.proofs.Firsts.{first-zero}
 use Rattle.axis_tables.specs.View.{AxisView, axisBytes}
-use Rattle.axis_tables.specs.Written.{componentsFrom}
 use Rattle.axis_tables.proofs.Fits.{Fits}
 use Rattle.panel_tables.specs.View.{PanelView, emptyView}
 use Rattle.panel_tables.specs.Axes.{viewIn}
 use Rattle.panel_tables.proofs.Axes.{axis-in-fits}
 use Rattle.sheet_rules.specs.Lines.{lineStep}
-use Rattle.sheet_rules.specs.Sheet.{sizeOf, entriesOf, openFault, countFault, entriesFault, axisFault, endFault, outcome, ended, run, sheetOf}
-use Rattle.sheet_rules.specs.Panels.{nameWords, entryWords}
+use Rattle.sheet_rules.specs.Sheet.{entriesOf, openFault, countFault, entriesFault, axisFault, endFault, outcome, ended, run, sheetOf}
+use Rattle.sheet_rules.specs.Panels.{nameEntries, entryWords}
 use Rattle.sheet_rules.proofs.Fits.{sheet-fits}
-use Rattle.sheet_end.proofs.Entries.{none-open, written-count}
+use Rattle.sheet_end.proofs.Entries.{none-open, entries-count}
 
 -- ---- the end of a sheet without fault
 
@@ -80,10 +79,9 @@ few-entries v = go (ltb 4096 (length (entriesOf v))) refl
 pub few-words : (v : AxisView) → Fits v → axisFault v ≡ 0 → length (entryWords v) ≤ 4096
 unfolding entryWords
 few-words v f e =
-    let ws = writtenEntries (nameWords v) (componentsFrom 0 (v .template)) (sizeOf v .repetitions) in
     let z = first-zero (openFault (v .unended)) (firstOf (countFault v) (entriesFault v)) e .1 in
     let k = few-entries v (first-zero (countFault v) (entriesFault v) z .1) in
-    omega (arith, length-map ws entryWord, written-count v f (none-open v e), k)
+    omega (arith, length-map (nameEntries v) entryWord, entries-count v f (none-open v e), k)
 
 -- of either axis of a sheet
 pub sheet-words : (s : List ℕ) → sheetOf s .fault ≡ 0 → (a : Axis) → length (entryWords (viewIn (sheetOf s .view) a)) ≤ 4096

@@ -19,11 +19,13 @@ pub mod AreasBack
 pub mod PlacingBack
 pub mod Answers
 --   the book, CSS's counting, any order, tracks: `book-after`, `run-css`, `order-same`, `track-after`
+pub mod Counted
 pub mod Book
 pub mod Run
 pub mod Order
 pub mod Tracks
 pub mod Runs
+pub mod Invalid
 pub mod RegularTest
 pub mod Worked
 --   columns alone: `columns-alone`

@@ -25,7 +25,7 @@ use Rattle.panel_rules.specs.declared.PlacementAnswer.{PlacementAnswer}
 use Rattle.panel_rules.specs.Placing.{refusedPlacement}
 use Rattle.panel_rules.specs.Runs.{Call}
 use Rattle.panel_rules.specs.Views.{areaIn, areasIn, cssEnd, placementAt, namesAfter, placementAfter}
-use Rattle.panel_rules.specs.Book.{book, bookNames, Regular}
+use Rattle.panel_rules.specs.Book.{CssTemplate, book, bookNames, AllCounted, Regular}
 use Rattle.panel_rules.specs.Order.{SamePanel, SameEntries}
 use Rattle.panel_rules.specs.Ranges.{largest}
 use Rattle.panel_rules.proofs.Book as Book
@@ -78,8 +78,8 @@ same-answer ps x y i s =
     ap (λ (r : ResolvedEnds). cond (ltb i (length ps)) (record { refusal = noRefusal; axis = p .axis; line = endsOf r }) (refusedPlacement count))
     (resolve-same (x (p .axis)) (y (p .axis)) (s (p .axis)) (cssEnd (p .start)) (cssEnd (p .end)))
 
-module _ (n m : Axis → ℕ) (v w : PanelView) (cs ds : List Call) (f : (a : Axis) → Fits (viewIn v a)) (g : (a : Axis) → Fits (viewIn w a))
-    (r : Regular n v cs) (q : Regular m w ds) (same : SamePanel v w) (spanned : (a : Axis) → viewIn v a .areas ≡ viewIn w a .areas)
+module _ (n m : Axis → CssTemplate) (v w : PanelView) (cs ds : List Call) (f : (a : Axis) → Fits (viewIn v a)) (g : (a : Axis) → Fits (viewIn w a))
+    (css : AllCounted n v) (also : AllCounted m w) (r : Regular n v cs) (q : Regular m w ds) (same : SamePanel v w) (spanned : (a : Axis) → viewIn v a .areas ≡ viewIn w a .areas)
     (entries : SameEntries n v cs m w ds) where
   explicit-same : (a : Axis) → explicitOf (viewIn v a) ≡ explicitOf (viewIn w a)
   explicit-same a = rw (same-size (viewIn v a) (viewIn w a) (same .lines a) (same .components a), spanned a)
@@ -88,7 +88,7 @@ module _ (n m : Axis → ℕ) (v w : PanelView) (cs ds : List Call) (f : (a : Ax
   names-same a =
       record {
         explicit = explicit-same a;
-        entries = rw (Book.book-after (n a) v a cs (f a) (r .axes a .template), Book.book-after (m a) w a ds (g a) (q .axes a .template)) (entries a);
+        entries = rw (Book.book-after (n a) v a cs (f a) (css a) (r .axes a .template), Book.book-after (m a) w a ds (g a) (also a) (q .axes a .template)) (entries a);
         areas = λ (y : CssArea). (
           areas-among a (v .areas) (w .areas) (λ x. same .areas x .0) y,
           areas-among a (w .areas) (v .areas) (λ x. same .areas x .1) y,

@@ -3,7 +3,7 @@ use Prim.Native.Nat.{ℕ, zero, suc, _+_, _≤_, _<_}
 use mathlib.Core.Path.{_≡_, refl, sym, ap, _∙_}
 use mathlib.Core.Logic.{_⊎_, ⊎-elim}
 use mathlib.Core.Bool.{Bool, true, false, cond, _&&_, false≢true}
-use mathlib.Core.List.{List, [], _∷_, _++_, List·Memᴰ, List·Memᴰ·head, List·Memᴰ·tail, List·Memᴰ·cases-cons, List·Memᴰ·not-nil}
+use mathlib.Core.List.{List, [], _∷_, _++_, List·Memᴰ, List·Memᴰ·head, List·Memᴰ·tail, List·Memᴰ·cases-cons, List·Memᴰ·not-nil, cons≢nil}
 use native.Mathlib.Omega.{arith}
 use borrow.Author.Tests.{leb-true, eqb-true}
 use lib.Dec.{eqb, leb}
@@ -11,9 +11,10 @@ use lib.IntN.{ℤ, pos, negsuc}
 use lib.ListN.{length}
 use Rattle.coordinates.specs.declared.axis.Axis.{Axis}
 use Rattle.coordinates.specs.declared.axis.Axis.the-variants.{Column, Row}
+use Rattle.sizing.specs.Words.{zero32}
 use Rattle.template_rules.specs.Template.{Component}
 use Rattle.template_rules.specs.Summary.{meaningOf}
-use Rattle.template_rules.specs.Explicit.{innerValue, validOf}
+use Rattle.template_rules.specs.Explicit.{validOf}
 use Rattle.template_rules.proofs.Valid.{valid-css}
 use Rattle.name_rules.specs.Css.{Bytes, Entry, Area, Side, start, end, edge, AxisNames, Placement as CssPlacement, auto, line, named, span, nspan}
 use Rattle.name_rules.specs.Conditions.{NoZero}
@@ -22,14 +23,16 @@ use Rattle.name_rules.specs.Template as Css
 use Rattle.name_rules.proofs.Names.{all-lie}
 use Rattle.name_entries.proofs.Booleans.{both}
 use Rattle.name_entries.proofs.Same.{same-sound}
-use Rattle.axis_tables.specs.View.{AxisView, componentsOf}
+use Rattle.axis_tables.specs.View.{Item, componentsOf}
 use Rattle.panel_tables.specs.View.{Placement, PanelView}
 use Rattle.panel_tables.specs.Axes.{viewIn}
-use Rattle.sheet_rules.specs.Sheet.{innerOf, sizeOf, itemsOf}
+use Rattle.sheet_rules.specs.Sheet.{itemsOf}
+use Rattle.sheet_rules.specs.Valid.{ValidTemplate}
 use Rattle.panel_rules.specs.Runs.{Call}
 use Rattle.panel_rules.specs.Views.{cssEnd}
-use Rattle.panel_rules.specs.Book.{sheetTracks, bookNames, RegularAxis}
-use Rattle.panel_rules.proofs.Book.{found-repetitions}
+use Rattle.panel_rules.specs.Added.{foundIn}
+use Rattle.panel_rules.specs.Book.{CssTemplate, sheetTracks, bookNames, RegularAxis}
+use Rattle.panel_rules.proofs.Book.{found-counted}
 
 -- ---- a test of the conditions of an axis
 
@@ -72,39 +75,62 @@ written-once (Css.repeat n ps ∷ l) t =
     (leb-true 1 n (q .0), leb-true 1 (Css.tracksIn ps) (q .1), written-once l (p .1))
 
 module _ (v : PanelView) (a : Axis) (calls : List Call) where
-  abbrev n : ℕ
-  n = sizeOf (viewIn v a) .repetitions
+  -- what counts as the template, and the repetitions found: they are CSS's
+  abbrev m : CssTemplate
+  m = foundIn (viewIn v a)
 
   abbrev x : AxisNames
-  x = bookNames n v a calls
+  x = bookNames m v a calls
 
-  abbrev cs : List Component
-  cs = componentsOf (viewIn v a .template)
-
-  -- all conditions but one by a test
+  -- the other conditions by a test
   abbrev pub regularTest : Bool
   regularTest =
-      validOf (meaningOf (innerValue (innerOf (viewIn v a .line))) cs)
-      && (writtenOnce (itemsOf n (viewIn v a .template))
-      && (leb (sheetTracks n (viewIn v a)) 10000 && (leb (x .explicit) 10000 && (lineAtMost (suc (x .explicit)) (x .book) && edgesAtMost (suc (x .explicit)) (x .areas)))))
+      writtenOnce (itemsOf (m .repetitions) (m .template))
+      && (leb (sheetTracks m) 10000 && (leb (x .explicit) 10000 && (lineAtMost (suc (x .explicit)) (x .book) && edgesAtMost (suc (x .explicit)) (x .areas))))
 
-  pub regular-by-test : regularTest ≡ true → RegularAxis n v a calls
+  pub regular-by-test : regularTest ≡ true → RegularAxis m v a calls
   regular-by-test t =
-      let p = both (validOf (meaningOf (innerValue (innerOf (viewIn v a .line))) cs)) _ t in
-      let q = both (writtenOnce (itemsOf n (viewIn v a .template))) _ (p .1) in
-      let r = both (leb (sheetTracks n (viewIn v a)) 10000) _ (q .1) in
+      let q = both (writtenOnce (itemsOf (m .repetitions) (m .template))) _ t in
+      let r = both (leb (sheetTracks m) 10000) _ (q .1) in
       let s = both (leb (x .explicit) 10000) _ (r .1) in
       let u = both (lineAtMost (suc (x .explicit)) (x .book)) _ (s .1) in
-      let valid = valid-css (innerValue (innerOf (viewIn v a .line))) cs .0 (p .0) in
       record {
         template = record {
-          valid = valid;
-          repetitions = found-repetitions (viewIn v a) valid;
-          repeated = written-once (itemsOf n (viewIn v a .template)) (q .0);
-          few = leb-true (sheetTracks n (viewIn v a)) 10000 (r .0);
+          repetitions = found-counted (viewIn v a);
+          repeated = written-once (itemsOf (m .repetitions) (m .template)) (q .0);
+          few = leb-true (sheetTracks m) 10000 (r .0);
         };
         lies = all-lie x (leb-true (x .explicit) 10000 (s .0)) (line-at-most (suc (x .explicit)) (x .book) (u .0)) (edges-at-most (suc (x .explicit)) (x .areas) (u .1)) .lies;
       }
+
+-- ---- a test that a template is valid
+
+-- it has a component, or nothing at all
+abbrev tracked : List Component → List Item → Bool
+tracked [] [] = true
+tracked [] (i ∷ is) = false
+tracked (c ∷ cs) is = true
+
+abbrev pub validTest : List Item → Bool
+validTest is = validOf (meaningOf zero32 (componentsOf is)) && tracked (componentsOf is) is
+
+pub valid-by-test : (is : List Item) → validTest is ≡ true → ValidTemplate is
+valid-by-test is t =
+    let p = both (validOf (meaningOf zero32 (componentsOf is))) (tracked (componentsOf is) is) t in
+    record { components = valid-css zero32 (componentsOf is) .0 (p .0); named = λ e. no-items (componentsOf is) is (p .1) e }
+  where
+    no-items : (cs : List Component) (is : List Item) → tracked cs is ≡ true → cs ≡ [] → is ≡ []
+    no-items [] [] t e = refl
+    no-items [] (i ∷ is) t e = absurd (false≢true t)
+    no-items (c ∷ cs) is t e = absurd (cons≢nil e)
+
+pub invalid-by-test : (is : List Item) → validTest is ≡ false → ValidTemplate is → ⊥
+invalid-by-test is f v = false≢true (sym f ∙ rw (valid-css zero32 (componentsOf is) .1 (v .components)) (some (componentsOf is) is (v .named)))
+  where
+    some : (cs : List Component) (is : List Item) → (cs ≡ [] → is ≡ []) → tracked cs is ≡ true
+    some [] [] h = refl
+    some [] (i ∷ is) h = absurd (cons≢nil (h refl))
+    some (c ∷ cs) is h = refl
 
 -- ---- no placement writes line 0
 

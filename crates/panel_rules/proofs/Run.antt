@@ -21,7 +21,7 @@ use Rattle.panel_tables.specs.Axes.{viewIn}
 use Rattle.sheet_rules.specs.Sheet.{explicitOf, entriesOf}
 use Rattle.panel_rules.specs.Runs.{Call}
 use Rattle.panel_rules.specs.Views.{cssEnd, placementAt, namesAfter, answerAt, PlacedByCss, placementAfter}
-use Rattle.panel_rules.specs.Book.{addedFrom, bookNames, Regular}
+use Rattle.panel_rules.specs.Book.{CssTemplate, addedFrom, bookNames, AllCounted, Regular}
 use Rattle.panel_rules.proofs.Book as Book
 
 -- ---- an answer that is not refused
@@ -74,8 +74,8 @@ member (x ∷ l) (suc i) d h = List·Memᴰ·tail (member l i d (le-of-suc-le-su
 abbrev pub addedTo : PanelView → List Call → Axis → List Entry
 addedTo v calls a = addedFrom (length (entriesOf (viewIn v a))) (length (axisBytes (viewIn v a))) a calls
 
-module _ (n : Axis → ℕ) (v : PanelView) (calls : List Call) (f : (a : Axis) → Fits (viewIn v a)) (few : (a : Axis) → explicitOf (viewIn v a) ≤ 10000)
-    (r : Regular n v calls) (i : ℕ) (held : i < length (v .placements)) where
+module _ (n : Axis → CssTemplate) (v : PanelView) (calls : List Call) (f : (a : Axis) → Fits (viewIn v a)) (few : (a : Axis) → explicitOf (viewIn v a) ≤ 10000)
+    (css : AllCounted n v) (r : Regular n v calls) (i : ℕ) (held : i < length (v .placements)) where
   abbrev q : Placement
   q = placementAt v i
 
@@ -83,10 +83,10 @@ module _ (n : Axis → ℕ) (v : PanelView) (calls : List Call) (f : (a : Axis) 
   b = bookNames (n (q .axis)) v (q .axis) calls
 
   same-names : namesAfter v (q .axis) (addedTo v calls (q .axis)) ≡ b
-  same-names = Book.names-book (n (q .axis)) v (q .axis) calls (f (q .axis)) (r .axes (q .axis) .template)
+  same-names = Book.names-book (n (q .axis)) v (q .axis) calls (f (q .axis)) (css (q .axis)) (r .axes (q .axis) .template)
 
   small : b .explicit ≤ 10000
-  small = let e = Book.explicit-book (n (q .axis)) v (q .axis) calls (f (q .axis)) (r .axes (q .axis) .template) in rw (← e) (few (q .axis))
+  small = let e = Book.explicit-book (n (q .axis)) v (q .axis) calls (f (q .axis)) (css (q .axis)) (r .axes (q .axis) .template) in rw (← e) (few (q .axis))
 
   book-css : CssEnds b (cssEnd (q .start)) (cssEnd (q .end)) (resolve (b .explicit) (named? b) (cssEnd (q .start)) (cssEnd (q .end)))
   book-css =

@@ -1,29 +1,32 @@
 -- After an accepted sheet and any entry calls each call answers by the sheet's view and the entries that the table accepts. Assumes nothing.
 use Prim.Native.Nat.{ℕ, _≤_, _<_}
 use mathlib.Core.Path.{_≡_, refl, sym, ap, _∙_}
-use mathlib.Core.List.{List, [], _++_, map}
+use mathlib.Core.List.{List, [], _++_, map, append-assoc}
 use native.Mathlib.Omega.{arith}
-use lib.ListN.{length, length-map}
+use lib.ListN.{length, take, drop, length-map}
+use lib.Seq.{take-at}
 use Rattle.coordinates.specs.declared.axis.Axis.{Axis}
 use Rattle.coordinates.specs.declared.axis.Axis.the-variants.{Column, Row}
 use Rattle.name_rules.specs.Css.{Bytes, Entry}
 use Rattle.name_entries.specs.Entries.{entryOf, namedEntry}
 use Rattle.name_entries.specs.Entries as Store
+use Rattle.name_entries.specs.LineNames.{ofAxis}
 use Rattle.track_rules.specs.declared.GridTrack.{GridTrack}
 use Rattle.track_rules.specs.Records.{tracksIn}
 use Rattle.track_run.specs.Run.{fillAnswerOf, runAfter}
+use Rattle.axis_tables.specs.Runs.{bytesOf}
 use Rattle.axis_tables.specs.View.{AxisView, sizesOf, componentsOf, axisBytes}
 use Rattle.axis_tables.proofs.Fits.{Fits}
 use Rattle.panel_tables.specs.View.{PanelView}
-use Rattle.panel_tables.specs.Axes.{viewIn}
+use Rattle.panel_tables.specs.Axes.{gridIn, roomIn, viewIn}
 use Rattle.panel_tables.proofs.Axes.{axis-in-fits}
-use Rattle.sheet_rules.specs.Sheet.{explicitOf, entriesOf, sheetOf}
+use Rattle.sheet_rules.specs.Sheet.{counted, explicitOf, entriesOf, sheetOf}
 use Rattle.sheet_rules.specs.Panels.{Tables, entryWords}
 use Rattle.sheet_rules.proofs.Fits.{sheet-fits}
 use Rattle.sheet_end.proofs.Entries.{entries-read}
-use Rattle.panel_rules.specs.Calls.{bookIn}
+use Rattle.panel_rules.specs.Calls.{wordsIn, storeIn, bookIn, templateIn}
 use Rattle.panel_rules.specs.Runs.{Held, namesOf, Call, Accepted, runOf, marksOf, sizeOf, placementOf, listsOf, nameOf, recordWith, runWith, fillWith}
-use Rattle.panel_rules.specs.Views.{entriesAfter, placementAt, placementAfter, sizeAfter, listsAfter, nameAfter, tracksAfter, recordAfter, heldAfter, both}
+use Rattle.panel_rules.specs.Views.{entryName, bytesAfter, storeAfter, stateAfter, entriesAfter, placementAt, placementAfter, sizeAfter, listsAfter, nameAfter, tracksAfter, recordAfter, heldAfter, both}
 use Rattle.panel_rules.specs.Added.{sheetAxis, added}
 use Rattle.panel_rules.proofs.Ends.{sheet-end, no-fault}
 use Rattle.panel_rules.proofs.Sheets.{accepted-sheet}
@@ -108,6 +111,32 @@ module _ (s : List ℕ) (t : Tables) (calls : List Call) (ok : Accepted s t) whe
       ∙ Answers.placement-after v (sheet-fits s) (sheet-range s) (sheet-end s good) t (accepted-sheet s t ok .1) columns rows (added-fit s good Column calls) (added-fit s good Row calls) i
       ∙ same-entries i
 
+  -- what counts as the template, as every later call reads it
+  pub run-template : (a : Axis) → templateIn (gridIn (runOf s t calls .panel .grid) a) (wordsIn (namesOf (runOf s t calls .tables)) a) ≡ componentsOf (counted (sheetAxis s a))
+  run-template a =
+      of-closed (λ h. templateIn (gridIn (h .panel .grid) a) (wordsIn (namesOf (h .tables)) a))
+      ∙ Answers.template-after v (sheet-fits s) (sheet-range s) (sheet-end s good) t (accepted-sheet s t ok .1) columns rows (added-fit s good Column calls) (added-fit s good Row calls) a
+
+  -- the bytes used, and the store: those of the `name` records, then those of the accepted entries
+  pub run-used : (a : Axis) → roomIn (runOf s t calls .panel .room) a .used ≡ length (bytesAfter (sheetAxis s a) (added s a calls))
+  unfolding heldAfter stateAfter
+  run-used Column = of-closed (λ h. roomIn (h .panel .room) Column .used)
+  run-used Row = of-closed (λ h. roomIn (h .panel .room) Row .used)
+
+  pub run-store : (a : Axis) → storeIn (namesOf (runOf s t calls .tables)) a ≡ storeAfter (sheetAxis s a) (added s a calls) (ofAxis a (t .columnStore) (t .rowStore))
+  unfolding heldAfter
+  run-store Column = of-closed (λ h. storeIn (namesOf (h .tables)) Column)
+  run-store Row = of-closed (λ h. storeIn (namesOf (h .tables)) Row)
+
+  -- so a store begins with the bytes of its axis's `name` records, whatever the template counts as
+  pub run-bytes : (a : Axis) → take (length (axisBytes (sheetAxis s a))) (storeIn (namesOf (runOf s t calls .tables)) a) ≡ axisBytes (sheetAxis s a)
+  unfolding storeAfter
+  run-bytes a =
+      let b = axisBytes (sheetAxis s a) in
+      let more = bytesOf entryName (added s a calls) in
+      let rest = drop (length (b ++ more)) (ofAxis a (t .columnStore) (t .rowStore)) in
+      ap (take (length b)) (run-store a ∙ append-assoc b more rest) ∙ take-at b (more ++ rest) (length b) refl
+
   -- the marks are the sheet's
   pub run-marks : (a : Axis) → marksOf (runOf s t calls .tables) a ≡ sheetAxis s a .marks
   unfolding heldAfter
@@ -116,7 +145,7 @@ module _ (s : List ℕ) (t : Tables) (calls : List Call) (ok : Accepted s t) whe
 
   -- of a lent run of records
   pub run-filled : (a : Axis) (items : List ℕ) (run : List GridTrack)
-      → runWith (runOf s t calls) a items run ≡ runAfter (tracksAfter (sheetAxis s a)) (componentsOf (sheetAxis s a .template)) (map sizesOf (sheetAxis s a .spares)) items run
+      → runWith (runOf s t calls) a items run ≡ runAfter (tracksAfter (sheetAxis s a)) (componentsOf (counted (sheetAxis s a))) (map sizesOf (sheetAxis s a .spares)) items run
   run-filled a items run =
       of-closed (λ h. runWith h a items run)
       ∙ rw (

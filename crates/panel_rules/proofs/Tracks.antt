@@ -32,7 +32,8 @@ use Rattle.panel_tables.specs.Axes.{viewIn}
 use Rattle.sheet_rules.specs.Sheet.{sizeOf, explicitOf}
 use Rattle.panel_rules.specs.Runs.{Call}
 use Rattle.panel_rules.specs.Views.{tracksAfter, recordAfter}
-use Rattle.panel_rules.specs.Book.{sheetTracks, RegularTemplate}
+use Rattle.sheet_rules.specs.Valid.{CssCounted}
+use Rattle.panel_rules.specs.Book.{CssTemplate, sheetTracks, RegularTemplate}
 use Rattle.panel_rules.proofs.Book as Book
 
 -- without an automatic repeat the repetitions play no part
@@ -48,31 +49,32 @@ plain (c ∷ cs) n m e = go (c .count) e (plain cs n m)
     go AutoFill e f = absurd (omega arith)
     go AutoFit e f = absurd (omega arith)
 
-module _ (n : ℕ) (v : PanelView) (a : Axis) (calls : List Call) (f : Fits (viewIn v a)) (r : RegularTemplate n (viewIn v a)) where
+module _ (m : CssTemplate) (v : PanelView) (a : Axis) (calls : List Call) (f : Fits (viewIn v a)) (css : CssCounted (viewIn v a .template) (m .template))
+    (r : RegularTemplate m (viewIn v a .line)) where
   abbrev va : AxisView
   va = viewIn v a
 
   abbrev cs : List Component
-  cs = componentsOf (va .template)
+  cs = componentsOf (m .template)
 
   -- the tracks that the template writes out, the automatic repeat as often as CSS has it
   abbrev pub writtenTracks : List WrittenTrack
-  writtenTracks = writtenOut cs n
+  writtenTracks = writtenOut cs (m .repetitions)
 
   written-found : writtenOut cs (sizeOf va .repetitions) ≡ writtenTracks
   written-found =
       ⊎-elim
-      (λ (e : automaticCount cs ≡ 0). plain cs (sizeOf va .repetitions) n e)
-      (λ (e : automaticCount cs ≡ 1). ap (writtenOut cs) (Book.found-css n v a calls f r e))
-      (one-at-most cs (r .valid))
+      (λ (e : automaticCount cs ≡ 0). plain cs (sizeOf va .repetitions) (m .repetitions) e)
+      (λ (e : automaticCount cs ≡ 1). ap (writtenOut cs) (Book.found-css m v a calls f css r e))
+      (one-at-most cs (Book.valid m v a calls f css r))
 
   -- as many as the book counts
-  pub written-tracks : length writtenTracks ≡ sheetTracks n va
+  pub written-tracks : length writtenTracks ≡ sheetTracks m
   unfolding sheetTracks
-  written-tracks = sym (Book.items-tracks (va .template) n (f .items))
+  written-tracks = sym (Book.items-tracks (m .template) (m .repetitions) (Book.small m v a calls f css r))
 
   within : length (writtenOut cs (sizeOf va .repetitions)) ≤ explicitOf va
-  within = let e = Book.tracks-found n v a calls f r in omega arith
+  within = let e = Book.tracks-found m v a calls f css r in omega arith
 
   module _ (items : List ℕ) (long : tracksIn (tracksAfter va) ≤ length items) (j : ℕ) (from : 1 ≤ j) (to : j ≤ length writtenTracks) where
     abbrev index : ℕ
@@ -89,7 +91,7 @@ module _ (n : ℕ) (v : PanelView) (a : Axis) (calls : List Call) (f : Fits (vie
     answered =
         let w = within in
         let i = inside in
-        rw (lt-leb (recordsIn (tracksAfter va)) index (omega arith), le-ltb (length items) (tracksIn (tracksAfter va)) long)
+        rw (Book.counted-same m v a calls f css r, lt-leb (recordsIn (tracksAfter va)) index (omega arith), le-ltb (length items) (tracksIn (tracksAfter va)) long)
 
     -- record 2(m + j) - 1, m the negative tracks, is not refused and is track j
     pub track-accepted : recordAfter va items index .refusal ≡ noRefusal

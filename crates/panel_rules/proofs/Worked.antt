@@ -1,5 +1,6 @@
 -- Worked runs, from the bytes of the sheet to the answers after the run: they answer as specs/Worked.antt has it. The conditions of the third demand
--- are met by runs with an automatic repeat, and two different runs differ in nothing but row names and row template. Assumes nothing.
+-- are met by runs with an automatic repeat, and all but that each template is valid by bench four; two different runs differ in nothing but row names
+-- and row template. Assumes nothing.
 use Prim.Native.Nat.{ℕ, zero, suc}
 use mathlib.Core.Path.{_≡_, refl, sym, ap, ap₂, _∙_, subst}
 use mathlib.Core.Bool.{Bool, true, false, _&&_}
@@ -38,11 +39,13 @@ use Rattle.track_rules.specs.declared.RecordAnswer.{RecordAnswer}
 use Rattle.track_rules.specs.Tracks.{refusedRecord}
 use Rattle.track_rules.specs.Written.{writtenOut}
 use Rattle.track_rules.specs.Records.{listed, openTo, allTracks, recordsOf, recordAnswerOf}
-use Rattle.axis_tables.specs.View.{AxisView, componentsOf, emptyAxis, trackStep, repeatStep, endStep, nameStep, spareStep, itemStep, extraStep, axisStep}
+use Rattle.axis_tables.specs.View.{Item, AxisView, componentsOf, emptyAxis, trackStep, repeatStep, endStep, nameStep, spareStep, itemStep, extraStep, axisStep}
 use Rattle.panel_tables.specs.View.{PanelView, emptyView, areaStep, placeStep}
 use Rattle.panel_tables.specs.Axes.{viewIn}
 use Rattle.sheet_rules.specs.Lines.{recordStep, recordFault, lineStep}
-use Rattle.sheet_rules.specs.Sheet.{sizeOf as templateSize, entriesOf, endFault, ended, run, sheetOf}
+use Rattle.sheet_rules.specs.Valid.{ValidTemplate}
+use Rattle.sheet_rules.proofs.Counted.{counted-valid}
+use Rattle.sheet_rules.specs.Sheet.{sizeOf as templateSize, counted, entriesOf, endFault, ended, run, sheetOf}
 use Rattle.sheet_rules.specs.Panels.{Tables}
 use Rattle.sheet_rules.specs.Read.{shortStores, readBy, readSheet}
 use Rattle.panel_rules.specs.declared.PlacementAnswer.{PlacementAnswer}
@@ -50,12 +53,13 @@ use Rattle.axis_tables.specs.declared.AxisSize.{AxisSize}
 use Rattle.panel_rules.specs.Placing.{refusedPlacement}
 use Rattle.panel_rules.specs.Runs.{Held, Call, Accepted, runOf, marksOf, sizeOf, nameOf, recordOf}
 use Rattle.panel_rules.specs.Views.{sizeAfter, listsAfter, nameAfter, recordAfter, placementAfter}
-use Rattle.panel_rules.specs.Added.{sheetAxis, added}
-use Rattle.panel_rules.specs.Book.{sheetBook, sheetTracks, tableRefusal, addedFrom, book, RegularAxis, Regular}
+use Rattle.panel_rules.specs.Added.{sheetAxis, foundIn, added}
+use Rattle.panel_rules.specs.Book.{CssTemplate, asWritten, sheetBook, sheetTracks, tableRefusal, addedFrom, book, AllValid, RegularAxis, Regular}
 use Rattle.panel_rules.specs.Order.{SamePanel, SameEntries}
 use Rattle.panel_rules.specs.Alone.{rowTemplateLine, withoutRows, keptLines, columnCalls, heldBy, DifferInRows}
-use Rattle.panel_rules.specs.Worked.{AxisWorked, Worked, accepted, AxisAnswers, Answers, viewOf, found, Met, runFrom, lent, sampleSheet, sample, rowSheet, rowRun, otherSheet, otherRun, calledSheet, firstOrder, secondOrder, namedSheet, namedRun}
-use Rattle.panel_rules.proofs.RegularTest.{regularTest, regular-by-test, nonZeroTest, non-zero-by-test, allAmong, all-among}
+use Rattle.panel_rules.specs.Worked.{AxisWorked, Worked, accepted, AxisAnswers, Answers, viewOf, found, Met, MetButValid, runFrom, lent, sampleSheet, sample, rowSheet, rowRun, otherSheet, otherRun, calledSheet, firstOrder, secondOrder, namedSheet, namedRun, benchSheet, benchFour, emptySheet, benchEmpty}
+use Rattle.panel_rules.specs.Invalid.{emptied, InvalidBesideEmpty}
+use Rattle.panel_rules.proofs.RegularTest.{regularTest, regular-by-test, validTest, valid-by-test, invalid-by-test, nonZeroTest, non-zero-by-test, allAmong, all-among}
 use Rattle.panel_rules.proofs.Run.{addedTo}
 use Rattle.panel_rules.proofs.Runs.{added-to, run-sizes, run-lists, run-names, run-records, run-placements, run-marks}
 
@@ -154,12 +158,26 @@ module _ (w : Worked) (c : computed w ≡ expected w) (t : Tables) (long : short
         placements = listed-same _ _ (λ i. run-placements s t calls ok i ∙ same-added i) (suc (length (w .placements))) ∙ ap (λ (x : Computation). x .placements) c;
       }
 
-regular : (w : Worked) → computed w ≡ expected w → Regular (found w) (viewOf w) (w .calls)
+-- the conditions over what counts as each template
+regular : (w : Worked) → computed w ≡ expected w → Regular (λ a. foundIn (viewIn (viewOf w) a)) (viewOf w) (w .calls)
 regular w c = record { axes = axes; nonzero = non-zero-by-test (viewOf w .placements) (ap (λ (x : Computation). x .nonZero) c) }
   where
-    axes : (a : Axis) → RegularAxis (found w a) (viewOf w) a (w .calls)
+    axes : (a : Axis) → RegularAxis (foundIn (viewIn (viewOf w) a)) (viewOf w) a (w .calls)
     axes Column = regular-by-test (viewOf w) Column (w .calls) (ap (λ (x : Computation). x .columns .regular) c)
     axes Row = regular-by-test (viewOf w) Row (w .calls) (ap (λ (x : Computation). x .rows .regular) c)
+
+-- where each is valid, it counts as it is written
+whole-found : (v : AxisView) → ValidTemplate (v .template) → foundIn v ≡ asWritten (templateSize v .repetitions) v
+whole-found v t = ap (λ (is : List Item). record { template = is; repetitions = templateSize v .repetitions }) (counted-valid v t)
+
+-- both templates are valid, by their tests
+record ValidIn (w : Worked) : Type 0 where
+  columns : validTest (viewOf w .columns .template) ≡ true
+  rows : validTest (viewOf w .rows .template) ≡ true
+
+all-valid : (w : Worked) → ValidIn w → AllValid (viewOf w)
+all-valid w t Column = valid-by-test (viewOf w .columns .template) (t .columns)
+all-valid w t Row = valid-by-test (viewOf w .rows .template) (t .rows)
 
 -- ---- computed
 
@@ -181,6 +199,15 @@ record All : Type 0 where
   ofFirst : computed firstOrder ≡ expected firstOrder
   ofSecond : computed secondOrder ≡ expected secondOrder
   ofNamed : computed namedRun ≡ expected namedRun
+  ofBench : computed benchFour ≡ expected benchFour
+  ofEmpty : computed benchEmpty ≡ expected benchEmpty
+  emptiedBench : viewOf benchEmpty ≡ emptied Column (viewOf benchFour)
+  -- which templates are valid
+  sampleValid : ValidIn sample
+  rowValid : ValidIn rowRun
+  calledValid : ValidIn firstOrder
+  namedValid : ValidIn namedRun
+  benchInvalid : validTest (viewOf benchFour .columns .template) ≡ false
   -- which component is an automatic repeat
   sampleRepeat : AutomaticAt sample Column 0
   rowRepeat : AutomaticAt rowRun Row 1
@@ -200,13 +227,13 @@ record All : Type 0 where
       × (viewOf firstOrder .placements ≡ viewOf namedRun .placements)
 
 all : All
-unfolding sampleSheet sample rowSheet rowRun otherSheet otherRun calledSheet firstOrder secondOrder namedSheet namedRun
+unfolding sampleSheet sample rowSheet rowRun otherSheet otherRun calledSheet firstOrder secondOrder namedSheet namedRun benchSheet benchFour emptySheet benchEmpty
     split onto same index digitsOf naturalOf nonNegative negative wholeOf countIn indexIn bitsFrom bitsOf
     upTo minimumKind largestOf valueInRange lengthInRange floatUpTo sizingOfKind sizingOf rankOf firstOf axisOf ruleOf countOf repetitionOf codes nameFault
     kindOf sizeRead innerOf endKind endName endNumber endOf axisLine areaLine nameLine sizesLine repeatLine endLine extraLine itemLine placeLine byKind recordRead
     emptyAxis trackStep repeatStep endStep nameStep spareStep itemStep extraStep axisStep emptyView areaStep placeStep
     templateSizeOf outsideCount automaticCount beforeCount automaticTracks anyEmpty allFixed everyFixed outsideSpace repetitionSpace fittingOf heldOf repetitionsOf floorOf ceilingOf
-    repeated passed ruleFrom recordStep recordFault lineStep templateSize entriesOf endFault ended run sheetOf ofBits add sub mul div lt ofInt
+    repeated passed ruleFrom recordStep recordFault lineStep templateSize counted entriesOf endFault ended run sheetOf ofBits add sub mul div lt ofInt
     sheetBook sheetTracks tableRefusal addedFrom book isName
     sizeAfter listsAfter nameAfter recordAfter placementAfter shownAfter explicitLineNames writtenOut openTo allTracks recordsOf recordAnswerOf seek named?
 all = record {
@@ -216,6 +243,14 @@ all = record {
   ofFirst = refl;
   ofSecond = refl;
   ofNamed = refl;
+  ofBench = refl;
+  ofEmpty = refl;
+  emptiedBench = refl;
+  sampleValid = record { columns = refl; rows = refl };
+  rowValid = record { columns = refl; rows = refl };
+  calledValid = record { columns = refl; rows = refl };
+  namedValid = record { columns = refl; rows = refl };
+  benchInvalid = refl;
   sampleRepeat = record { written = List·Memᴰ·head refl; automatic = refl };
   rowRepeat = record { written = List·Memᴰ·tail (List·Memᴰ·head refl); automatic = refl };
   firstRepeat = record { written = List·Memᴰ·head refl; automatic = refl };
@@ -248,6 +283,12 @@ second-answers = answers secondOrder (all .ofSecond)
 pub named-answers : (t : Tables) → shortStores t ≡ false → Answers namedRun t
 named-answers = answers namedRun (all .ofNamed)
 
+pub bench-answers : (t : Tables) → shortStores t ≡ false → Answers benchFour t
+bench-answers = answers benchFour (all .ofBench)
+
+pub empty-answers : (t : Tables) → shortStores t ≡ false → Answers benchEmpty t
+empty-answers = answers benchEmpty (all .ofEmpty)
+
 -- there are such tables
 pub lent-long : shortStores lent ≡ false
 unfolding lent
@@ -255,23 +296,51 @@ lent-long = refl
 
 -- ---- the conditions of the third demand are met by runs with an automatic repeat
 
-met : (w : Worked) (a : Axis) (i : ℕ) → computed w ≡ expected w → AutomaticAt w a i → Met w a
-met w a i c m = record { regular = regular w c; component = getD (componentsOf (viewIn (viewOf w) a .template)) i noComponent; written = m .written; automatic = m .automatic }
+met : (w : Worked) (a : Axis) (i : ℕ) → computed w ≡ expected w → ValidIn w → AutomaticAt w a i → Met w a
+met w a i c v m =
+    record {
+      valid = all-valid w v;
+      regular = subst (λ (f : Axis → CssTemplate). Regular f (viewOf w) (w .calls)) (λ j b. whole-found (viewIn (viewOf w) b) (all-valid w v b) j) (regular w c);
+      component = getD (componentsOf (viewIn (viewOf w) a .template)) i noComponent;
+      written = m .written;
+      automatic = m .automatic;
+    }
 
 pub sample-met : Met sample Column
-sample-met = met sample Column 0 (all .ofSample) (all .sampleRepeat)
+sample-met = met sample Column 0 (all .ofSample) (all .sampleValid) (all .sampleRepeat)
 
 pub row-met : Met rowRun Row
-row-met = met rowRun Row 1 (all .ofRows) (all .rowRepeat)
+row-met = met rowRun Row 1 (all .ofRows) (all .rowValid) (all .rowRepeat)
 
 pub first-met : Met firstOrder Column
-first-met = met firstOrder Column 0 (all .ofFirst) (all .firstRepeat)
+first-met = met firstOrder Column 0 (all .ofFirst) (all .calledValid) (all .firstRepeat)
+
+second-valid : ValidIn secondOrder
+unfolding firstOrder secondOrder
+second-valid = record { columns = all .calledValid .columns; rows = all .calledValid .rows }
 
 pub second-met : Met secondOrder Column
-second-met = met secondOrder Column 0 (all .ofSecond) (all .secondRepeat)
+second-met = met secondOrder Column 0 (all .ofSecond) second-valid (all .secondRepeat)
 
 pub named-met : Met namedRun Column
-named-met = met namedRun Column 0 (all .ofNamed) (all .namedRepeat)
+named-met = met namedRun Column 0 (all .ofNamed) (all .namedValid) (all .namedRepeat)
+
+-- bench four meets all but one
+
+pub bench-met : MetButValid benchFour Column
+bench-met = record { invalid = invalid-by-test (viewOf benchFour .columns .template) (all .benchInvalid); regular = regular benchFour (all .ofBench) }
+
+-- and it stands beside the same panel with an empty template
+pub bench-beside : (t u : Tables) → shortStores t ≡ false → shortStores u ≡ false → InvalidBesideEmpty Column (runFrom benchFour t) (runFrom benchEmpty u)
+unfolding benchFour benchEmpty addedFrom
+bench-beside t u long further =
+    record {
+      first = bench-answers t long .isAccepted;
+      second = empty-answers u further .isAccepted;
+      invalid = bench-met .invalid;
+      panel = all .emptiedBench;
+      entries = λ b. refl;
+    }
 
 -- the orders are over the same panel, with the same entries
 

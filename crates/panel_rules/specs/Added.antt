@@ -8,15 +8,19 @@ use Rattle.coordinates.specs.declared.axis.Axis.{Axis}
 use Rattle.name_rules.specs.Css.{Entry}
 use Rattle.axis_tables.specs.View.{AxisView, axisBytes}
 use Rattle.panel_tables.specs.Axes.{viewIn}
-use Rattle.sheet_rules.specs.Sheet.{sheetOf}
+use Rattle.sheet_rules.specs.Sheet.{sizeOf, counted, sheetOf}
 use Rattle.sheet_rules.specs.Panels.{entryWords}
 use Rattle.panel_rules.specs.Runs.{Call}
 use Rattle.panel_rules.specs.Views.{bytesAfter}
-use Rattle.panel_rules.specs.Book.{sameAxis, tableRefusal, addedFrom}
+use Rattle.panel_rules.specs.Book.{CssTemplate, sameAxis, tableRefusal, addedFrom}
 
 -- the view of an axis of a sheet
 abbrev pub sheetAxis : List ℕ → Axis → AxisView
 sheetAxis s a = viewIn (sheetOf s .view) a
+
+-- what layer 3 finds of a template: what counts, and the repetitions
+abbrev pub foundIn : AxisView → CssTemplate
+foundIn v = record { template = counted v; repetitions = sizeOf v .repetitions }
 
 -- the entries that the table accepts on an axis after a sheet
 abbrev pub added : List ℕ → Axis → List Call → List Entry

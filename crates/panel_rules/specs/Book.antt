@@ -1,5 +1,5 @@
--- The name book (document 01, "Name book"), from the sheet and the calls' arguments alone, with CSS's repetitions and the table's refusals;
--- and the conditions of the third demand. The panel is never read.
+-- The name book (document 01, "Name book"), from the sheet and the calls' arguments alone, with what CSS takes for the template and its repetitions,
+-- and the table's refusals; and the conditions of the third demand. The panel is never read, nor the rule for what counts.
 use Prim.Native.Nat.{ℕ, _+_, _≤_, max}
 use mathlib.Core.Path.{_≡_}
 use mathlib.Core.Bool.{Bool, true, false, cond, not, _&&_, _||_}
@@ -10,28 +10,39 @@ use Rattle.coordinates.specs.declared.axis.Axis.{Axis}
 use Rattle.coordinates.specs.declared.axis.Axis.the-variants.{Column, Row}
 use Rattle.sizing.specs.Words.{sizingOf}
 use Rattle.template_rules.specs.Template.{Component}
-use Rattle.template_rules.specs.Css.{Automatic, Valid, Repetitions}
+use Rattle.template_rules.specs.Css.{Automatic, Repetitions}
 use Rattle.name_rules.specs.Css.{Bytes, Entry, AxisNames}
 use Rattle.name_rules.specs.Conditions.{NameLies, NoZero}
 use Rattle.name_rules.specs.Template.{flat, bookFrom, tracksIn, WrittenOut}
 use Rattle.name_entries.specs.Names.{isName}
 use Rattle.axis_tables.specs.Runs.{bytesOf}
-use Rattle.axis_tables.specs.View.{AxisView, componentsOf, axisBytes}
+use Rattle.axis_tables.specs.View.{Item, AxisLine, AxisView, componentsOf, axisBytes}
 use Rattle.panel_tables.specs.View.{Placement, PanelView}
 use Rattle.panel_tables.specs.Axes.{viewIn}
 use Rattle.sheet_rules.specs.Sheet.{innerOf, strategyOf, itemsOf}
+use Rattle.sheet_rules.specs.Valid.{ValidTemplate, CssCounted}
 use Rattle.panel_rules.specs.Runs.{Call}
 use Rattle.panel_rules.specs.Views.{entryName, areasIn, cssEnd}
 
--- ---- the sheet's names, n repetitions of its automatic repeat
+-- ---- the sheet's names
+
+-- of an axis: what counts as its template, and how often the automatic repeat of that is written out. Both have to be CSS's (`CssCounted`,
+-- `CssRepetitions`)
+pub record CssTemplate : Type 0 where
+  pub template : List Item
+  pub repetitions : ℕ
+
+-- the template as it stands, n repetitions of its automatic repeat: what a valid one counts as
+abbrev pub asWritten : ℕ → AxisView → CssTemplate
+asWritten n v = record { template = v .template; repetitions = n }
 
 -- "the sheet's names, repeats written out, each on line 1 plus the tracks before it"
-unfoldable pub sheetBook : ℕ → AxisView → List Entry
-sheetBook n v = bookFrom 1 (flat (itemsOf n (v .template)))
+unfoldable pub sheetBook : CssTemplate → List Entry
+sheetBook m = bookFrom 1 (flat (itemsOf (m .repetitions) (m .template)))
 
 -- the tracks that the template writes out
-unfoldable pub sheetTracks : ℕ → AxisView → ℕ
-sheetTracks n v = tracksIn (flat (itemsOf n (v .template)))
+unfoldable pub sheetTracks : CssTemplate → ℕ
+sheetTracks m = tracksIn (flat (itemsOf (m .repetitions) (m .template)))
 
 -- ---- the calls
 
@@ -57,46 +68,50 @@ addedFrom entries used a (c ∷ cs) =
     (addedFrom entries used a cs)
 
 -- ---- the book of an axis
-unfoldable pub book : ℕ → PanelView → Axis → List Call → List Entry
-book n v a calls =
-    sheetBook n (viewIn v a) ++ addedFrom (length (sheetBook n (viewIn v a))) (length (axisBytes (viewIn v a))) a calls
+unfoldable pub book : CssTemplate → PanelView → Axis → List Call → List Entry
+book m v a calls = sheetBook m ++ addedFrom (length (sheetBook m)) (length (axisBytes (viewIn v a))) a calls
 
--- the bytes that it takes of the axis's store: "each `name` record and each direct entry taking its length"
-unfoldable pub bookBytes : ℕ → PanelView → Axis → List Call → ℕ
-bookBytes n v a calls =
-    length (axisBytes (viewIn v a))
-    + length (bytesOf entryName (addedFrom (length (sheetBook n (viewIn v a))) (length (axisBytes (viewIn v a))) a calls))
+-- the bytes that it takes of the axis's store: "each `name` record and each direct entry taking its length", the records of a template that counts as
+-- none too
+unfoldable pub bookBytes : CssTemplate → PanelView → Axis → List Call → ℕ
+bookBytes m v a calls =
+    length (axisBytes (viewIn v a)) + length (bytesOf entryName (addedFrom (length (sheetBook m)) (length (axisBytes (viewIn v a))) a calls))
 
 -- CSS 7.1: the larger of the tracks that the template writes out and the tracks that the areas span
-abbrev pub bookExplicit : ℕ → AxisView → ℕ
-bookExplicit n v = max (sheetTracks n v) (v .areas)
+abbrev pub bookExplicit : CssTemplate → AxisView → ℕ
+bookExplicit m v = max (sheetTracks m) (v .areas)
 
 -- all that names the lines of an axis
-abbrev pub bookNames : ℕ → PanelView → Axis → List Call → AxisNames
-bookNames n v a calls = record { explicit = bookExplicit n (viewIn v a); book = book n v a calls; areas = areasIn a (v .areas) }
+abbrev pub bookNames : CssTemplate → PanelView → Axis → List Call → AxisNames
+bookNames m v a calls = record { explicit = bookExplicit m (viewIn v a); book = book m v a calls; areas = areasIn a (v .areas) }
 
 -- ---- the conditions
 
--- n is the number of repetitions that CSS 7.2 has for the automatic repeat of an axis, if there is one
-abbrev pub CssRepetitions : AxisView → ℕ → Type 0
-CssRepetitions v n =
-    (c : Component) → List·Memᴰ c (componentsOf (v .template)) → Automatic c
-    → Repetitions (innerOf (v .line)) (strategyOf (v .line)) (sizingOf (v .line .gap)) (componentsOf (v .template)) n
+-- "each template is valid"; or, in its place, what is taken for each template is what CSS takes for it, whether it is valid or not
+abbrev pub AllValid : PanelView → Type 0
+AllValid v = (a : Axis) → ValidTemplate (viewIn v a .template)
 
--- of a template alone: it "is valid, writes each repeat out at least once and at most 10,000 tracks in all".
--- A template of names without a track, which document 01 doesn't call valid, meets this too: more is proved than asked
-pub record RegularTemplate (n : ℕ) (v : AxisView) : Type 0 where
-  pub valid : Valid (componentsOf (v .template))
-  pub repetitions : CssRepetitions v n
-  pub repeated : WrittenOut (itemsOf n (v .template))
-  pub few : sheetTracks n v ≤ 10000
+abbrev pub AllCounted : (Axis → CssTemplate) → PanelView → Type 0
+AllCounted m v = (a : Axis) → CssCounted (viewIn v a .template) (m a .template)
+
+-- the repetitions are those that CSS 7.2 has for the automatic repeat, if there is one
+abbrev pub CssRepetitions : AxisLine → CssTemplate → Type 0
+CssRepetitions l m =
+    (c : Component) → List·Memᴰ c (componentsOf (m .template)) → Automatic c
+    → Repetitions (innerOf l) (strategyOf l) (sizingOf (l .gap)) (componentsOf (m .template)) (m .repetitions)
+
+-- of a template alone: it "writes each repeat out at least once and at most 10,000 tracks in all". One that counts as none does
+pub record RegularTemplate (m : CssTemplate) (l : AxisLine) : Type 0 where
+  pub repetitions : CssRepetitions l m
+  pub repeated : WrittenOut (itemsOf (m .repetitions) (m .template))
+  pub few : sheetTracks m ≤ 10000
 
 -- of an axis: that of its template, and "every name lies on an explicit line"
-pub record RegularAxis (n : ℕ) (v : PanelView) (a : Axis) (calls : List Call) : Type 0 where
-  pub template : RegularTemplate n (viewIn v a)
-  pub lies : (nm : Bytes) → NameLies (bookNames n v a calls) nm
+pub record RegularAxis (m : CssTemplate) (v : PanelView) (a : Axis) (calls : List Call) : Type 0 where
+  pub template : RegularTemplate m (viewIn v a .line)
+  pub lies : (nm : Bytes) → NameLies (bookNames m v a calls) nm
 
 -- "and no placement writes line 0"
-pub record Regular (n : Axis → ℕ) (v : PanelView) (calls : List Call) : Type 0 where
-  pub axes : (a : Axis) → RegularAxis (n a) v a calls
+pub record Regular (m : Axis → CssTemplate) (v : PanelView) (calls : List Call) : Type 0 where
+  pub axes : (a : Axis) → RegularAxis (m a) v a calls
   pub nonzero : (p : Placement) → List·Memᴰ p (v .placements) → NoZero (cssEnd (p .start)) × NoZero (cssEnd (p .end))

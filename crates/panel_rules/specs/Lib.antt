@@ -8,4 +8,5 @@ pub mod Added
 pub mod Order
 pub mod Ranges
 pub mod Alone
+pub mod Invalid
 pub mod Worked

@@ -1,5 +1,4 @@
 -- "Two such runs over the same axis records, areas, tracks, repeats and placements, with the same accepted entries in any order": what is the same.
-use Prim.Native.Nat.{ℕ}
 use mathlib.Core.Path.{_≡_}
 use mathlib.Core.List.{List}
 use Rattle.coordinates.specs.declared.axis.Axis.{Axis}
@@ -8,7 +7,7 @@ use Rattle.axis_tables.specs.View.{componentsOf}
 use Rattle.panel_tables.specs.View.{PanelView}
 use Rattle.panel_tables.specs.Axes.{viewIn}
 use Rattle.panel_rules.specs.Runs.{Call}
-use Rattle.panel_rules.specs.Book.{book}
+use Rattle.panel_rules.specs.Book.{CssTemplate, book}
 
 -- two sheets: names, `spare`, `extra` and `item` lines and the order of the lines may differ
 pub record SamePanel (v w : PanelView) : Type 0 where
@@ -20,5 +19,5 @@ pub record SamePanel (v w : PanelView) : Type 0 where
   pub placements : v .placements ≡ w .placements
 
 -- "the same accepted entries in any order", of the sheet's names and of the calls together
-abbrev pub SameEntries : (Axis → ℕ) → PanelView → List Call → (Axis → ℕ) → PanelView → List Call → Type 0
+abbrev pub SameEntries : (Axis → CssTemplate) → PanelView → List Call → (Axis → CssTemplate) → PanelView → List Call → Type 0
 SameEntries n v cs m w ds = (a : Axis) → SameMembers (book (n a) v a cs) (book (m a) w a ds)

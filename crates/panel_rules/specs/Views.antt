@@ -30,7 +30,7 @@ use Rattle.panel_tables.specs.View.{Area, End, Placement, PanelView, noPlacemen
 use Rattle.panel_tables.specs.Areas.{edgesIn}
 use Rattle.panel_tables.specs.Axes.{viewIn}
 use Rattle.sheet_rules.specs.Sheet as Sheet
-use Rattle.sheet_rules.specs.Sheet.{explicitOf}
+use Rattle.sheet_rules.specs.Sheet.{counted, explicitOf}
 use Rattle.sheet_rules.specs.Panels.{Tables, entryWords, withAxes, sizedState, sizedPanel, tablesOf}
 use Rattle.panel_rules.specs.declared.PlacementAnswer.{PlacementAnswer}
 use Rattle.panel_rules.specs.Calls.{withEntries}
@@ -152,8 +152,9 @@ tracksAfter v =
       gap = sizingOf (v .line .gap);
     }
 
+-- the tracks written are those of what counts as the template
 unfoldable pub recordAfter : AxisView → List ℕ → ℕ → RecordAnswer
-recordAfter v items index = recordAnswerOf (tracksAfter v) (componentsOf (v .template)) (map sizesOf (v .spares)) items index
+recordAfter v items index = recordAnswerOf (tracksAfter v) (componentsOf (counted v)) (map sizesOf (v .spares)) items index
 
 abbrev pub both : {A : Type 0} → A → A → Axis → A
 both columns rows a = ofAxis a columns rows

@@ -26,12 +26,14 @@ use Rattle.axis_tables.specs.View.{componentsOf}
 use Rattle.panel_tables.specs.View.{PanelView}
 use Rattle.panel_tables.specs.Axes.{viewIn}
 use Rattle.sheet_rules.specs.Sheet.{sizeOf as templateSize, sheetOf}
+use Rattle.sheet_rules.specs.Valid.{ValidTemplate}
 use Rattle.sheet_rules.specs.Panels.{Tables}
 use Rattle.panel_rules.specs.declared.PlacementAnswer.{PlacementAnswer}
 use Rattle.axis_tables.specs.declared.AxisSize.{AxisSize}
 use Rattle.panel_rules.specs.Placing.{refusedPlacement}
 use Rattle.panel_rules.specs.Runs.{Held, Call, Accepted, runOf, sizeOf, placementOf, listsOf, nameOf, recordOf}
-use Rattle.panel_rules.specs.Book.{Regular}
+use Rattle.panel_rules.specs.Book.{CssTemplate, asWritten, AllValid, Regular}
+use Rattle.panel_rules.specs.Added.{foundIn}
 use Rattle.panel_rules.specs.Alone.{Run}
 
 -- ---- what a worked run is
@@ -71,16 +73,25 @@ pub record Answers (w : Worked) (t : Tables) : Type 0 where
 abbrev pub viewOf : Worked → PanelView
 viewOf w = sheetOf (w .sheet) .view
 
--- the repetitions that layer 3 finds
-abbrev pub found : Worked → Axis → ℕ
-found w a = templateSize (viewIn (viewOf w) a) .repetitions
+-- the repetitions that layer 3 finds, and the template as written with them
+abbrev pub repetitions : Worked → Axis → ℕ
+repetitions w a = templateSize (viewIn (viewOf w) a) .repetitions
+
+abbrev pub found : Worked → Axis → CssTemplate
+found w a = asWritten (repetitions w a) (viewIn (viewOf w) a)
 
 -- a run meets them, and the template of an axis has an automatic repeat
 pub record Met (w : Worked) (a : Axis) : Type 0 where
+  pub valid : AllValid (viewOf w)
   pub regular : Regular (found w) (viewOf w) (w .calls)
   pub component : Component
   pub written : List·Memᴰ component (componentsOf (viewIn (viewOf w) a .template))
   pub automatic : Automatic component
+
+-- a run meets all of them but one: the template of an axis is invalid
+pub record MetButValid (w : Worked) (a : Axis) : Type 0 where
+  pub invalid : ValidTemplate (viewIn (viewOf w) a .template) → ⊥
+  pub regular : Regular (λ b. foundIn (viewIn (viewOf w) b)) (viewOf w) (w .calls)
 
 -- a worked run from given tables
 abbrev pub runFrom : Worked → Tables → Run
@@ -386,3 +397,54 @@ namedRun =
       rows = sample .rows;
       placements = firstOrder .placements;
     }
+
+-- ---- bench four: an automatic repeat beside a track of no fixed kind, so the template counts as none, and its name with it
+
+unfoldable pub benchSheet : List ℕ
+benchSheet =
+    -- axis c 43a00000 max len 00000000
+    97 ∷ 120 ∷ 105 ∷ 115 ∷ 9 ∷ 99 ∷ 9 ∷ 52 ∷ 51 ∷ 97 ∷ 48 ∷ 48 ∷ 48 ∷ 48 ∷ 48 ∷ 9 ∷ 109 ∷ 97 ∷ 120 ∷ 9 ∷ 108 ∷ 101 ∷ 110 ∷ 9 ∷ 48 ∷ 48 ∷ 48 ∷ 48 ∷ 48 ∷ 48 ∷ 48 ∷ 48 ∷ 10
+    -- area level 1 2 2 3
+    ∷ 97 ∷ 114 ∷ 101 ∷ 97 ∷ 9 ∷ 108 ∷ 101 ∷ 118 ∷ 101 ∷ 108 ∷ 9 ∷ 49 ∷ 9 ∷ 50 ∷ 9 ∷ 50 ∷ 9 ∷ 51 ∷ 10
+    -- repeat c fill
+    ∷ 114 ∷ 101 ∷ 112 ∷ 101 ∷ 97 ∷ 116 ∷ 9 ∷ 99 ∷ 9 ∷ 102 ∷ 105 ∷ 108 ∷ 108 ∷ 10
+    -- track c len 42c80000 len 42c80000
+    ∷ 116 ∷ 114 ∷ 97 ∷ 99 ∷ 107 ∷ 9 ∷ 99 ∷ 9 ∷ 108 ∷ 101 ∷ 110 ∷ 9 ∷ 52 ∷ 50 ∷ 99 ∷ 56 ∷ 48 ∷ 48 ∷ 48 ∷ 48 ∷ 9 ∷ 108 ∷ 101 ∷ 110 ∷ 9 ∷ 52 ∷ 50 ∷ 99 ∷ 56 ∷ 48 ∷ 48 ∷ 48 ∷ 48 ∷ 10
+    -- end c
+    ∷ 101 ∷ 110 ∷ 100 ∷ 9 ∷ 99 ∷ 10
+    -- name c offset
+    ∷ 110 ∷ 97 ∷ 109 ∷ 101 ∷ 9 ∷ 99 ∷ 9 ∷ 111 ∷ 102 ∷ 102 ∷ 115 ∷ 101 ∷ 116 ∷ 10
+    -- track c auto 00000000 auto 00000000
+    ∷ 116 ∷ 114 ∷ 97 ∷ 99 ∷ 107 ∷ 9 ∷ 99 ∷ 9 ∷ 97 ∷ 117 ∷ 116 ∷ 111 ∷ 9 ∷ 48 ∷ 48 ∷ 48 ∷ 48 ∷ 48 ∷ 48 ∷ 48 ∷ 48 ∷ 9 ∷ 97 ∷ 117 ∷ 116 ∷ 111 ∷ 9 ∷ 48 ∷ 48 ∷ 48 ∷ 48 ∷ 48 ∷ 48 ∷ 48 ∷ 48 ∷ 10
+    -- place c named offset 1 auto - 0
+    ∷ 112 ∷ 108 ∷ 97 ∷ 99 ∷ 101 ∷ 9 ∷ 99 ∷ 9 ∷ 110 ∷ 97 ∷ 109 ∷ 101 ∷ 100 ∷ 9 ∷ 111 ∷ 102 ∷ 102 ∷ 115 ∷ 101 ∷ 116 ∷ 9 ∷ 49 ∷ 9 ∷ 97 ∷ 117 ∷ 116 ∷ 111 ∷ 9 ∷ 45 ∷ 9 ∷ 48 ∷ 10
+    ∷ []
+
+-- the area alone makes two columns, whose tracks are `auto`; no line has a name, and the reading goes to the first line past the grid, line 4
+unfoldable pub benchFour : Worked
+benchFour =
+    record {
+      sheet = benchSheet;
+      calls = [];
+      columns = record {
+        size = size 0 2;
+        names = [];
+        records = shutGutter ∷ track (record { min = Auto; max = Auto }) ∷ gutter 0 ∷ track (record { min = Auto; max = Auto }) ∷ shutGutter ∷ [];
+      };
+      rows = record { size = size 0 1; names = []; records = shutGutter ∷ track (record { min = Auto; max = Auto }) ∷ shutGutter ∷ [] };
+      placements = placed Column (line 4) auto ∷ [];
+    }
+
+-- the same panel without that template
+unfoldable pub emptySheet : List ℕ
+emptySheet =
+    -- axis c 43a00000 max len 00000000
+    97 ∷ 120 ∷ 105 ∷ 115 ∷ 9 ∷ 99 ∷ 9 ∷ 52 ∷ 51 ∷ 97 ∷ 48 ∷ 48 ∷ 48 ∷ 48 ∷ 48 ∷ 9 ∷ 109 ∷ 97 ∷ 120 ∷ 9 ∷ 108 ∷ 101 ∷ 110 ∷ 9 ∷ 48 ∷ 48 ∷ 48 ∷ 48 ∷ 48 ∷ 48 ∷ 48 ∷ 48 ∷ 10
+    -- area level 1 2 2 3
+    ∷ 97 ∷ 114 ∷ 101 ∷ 97 ∷ 9 ∷ 108 ∷ 101 ∷ 118 ∷ 101 ∷ 108 ∷ 9 ∷ 49 ∷ 9 ∷ 50 ∷ 9 ∷ 50 ∷ 9 ∷ 51 ∷ 10
+    -- place c named offset 1 auto - 0
+    ∷ 112 ∷ 108 ∷ 97 ∷ 99 ∷ 101 ∷ 9 ∷ 99 ∷ 9 ∷ 110 ∷ 97 ∷ 109 ∷ 101 ∷ 100 ∷ 9 ∷ 111 ∷ 102 ∷ 102 ∷ 115 ∷ 101 ∷ 116 ∷ 9 ∷ 49 ∷ 9 ∷ 97 ∷ 117 ∷ 116 ∷ 111 ∷ 9 ∷ 45 ∷ 9 ∷ 48 ∷ 10
+    ∷ []
+
+unfoldable pub benchEmpty : Worked
+benchEmpty = record { sheet = emptySheet; calls = []; columns = benchFour .columns; rows = benchFour .rows; placements = benchFour .placements }

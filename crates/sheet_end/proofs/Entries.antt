@@ -1,13 +1,16 @@
 -- The name entries written out of a view's words are those of the view. Assumes nothing.
 use Prim.Native.Nat.{ℕ, _+_, _≤_}
 use mathlib.Core.Path.{_≡_, refl, sym, ap, _∙_}
+use mathlib.Core.Bool.{Bool, true, false, cond}
 use mathlib.Core.List.{List, [], _∷_, _++_, map}
 use native.Mathlib.Omega.{arith}
+use lib.Dec.{eqb}
 use lib.ListN.{length, length-map}
 use Rattle.name_rules.specs.Template.{ruleFrom}
+use Rattle.name_entries.specs.declared.NameEntry.{NameEntry}
 use Rattle.name_entries.specs.Entries.{namedEntry, entriesOf as heldEntries}
 use Rattle.name_template.specs.Records.{recordOf}
-use Rattle.name_template.specs.Writing.{writtenEntries}
+use Rattle.name_template.specs.Writing.{writtenEntries, entryWord}
 use Rattle.name_template.specs.Lines.{Below}
 use Rattle.name_template.proofs.Placing.{small-offset, small-length}
 use Rattle.name_template.proofs.Lines.{written-lines, read-back}
@@ -21,8 +24,8 @@ use Rattle.axis_tables.specs.Reads.{nameRecordIn}
 use Rattle.axis_tables.proofs.Joins.{length-components}
 use Rattle.axis_tables.proofs.Fits.{Fits, few-tracks}
 use Rattle.axis_tables.proofs.Back.{name-words-back, names-back}
-use Rattle.sheet_rules.specs.Sheet.{sizeOf, entriesOf, openFault, countFault, entriesFault, axisFault}
-use Rattle.sheet_rules.specs.Panels.{nameWords, entryWords}
+use Rattle.sheet_rules.specs.Sheet.{sizeOf, counted, itemsOf, entriesOf, openFault, countFault, entriesFault, axisFault}
+use Rattle.sheet_rules.specs.Panels.{nameWords, nameEntries, entryWords}
 use Rattle.sheet_end.proofs.Items.{few-held, items-read, order-read}
 
 -- an axis without fault has no open repeat
@@ -60,25 +63,44 @@ module _ (v : AxisView) (f : Fits v) where
         ∙ ap (λ (u : Unended). namesOf (written (v .template) u)) closed
 
     -- the entries that are written out, with their names, are the rule's over the view's items
-    pub written-named : named store (writtenEntries (nameWords v) (componentsFrom 0 (v .template)) (sizeOf v .repetitions)) ≡ entriesOf v
-    unfolding entriesOf
-    written-named =
+    rule-named : named store (writtenEntries (nameWords v) (componentsFrom 0 (v .template)) (sizeOf v .repetitions)) ≡ ruleFrom 1 (itemsOf (sizeOf v .repetitions) (v .template))
+    rule-named =
         written-rule store (sizeOf v .repetitions) 0 1 (nameWords v) (componentsFrom 0 (v .template))
         (order-read store (v .template) 0 0 (nameWords v) (f .items) few words-read)
         ∙ ap (ruleFrom 1) (items-read store (sizeOf v .repetitions) (v .template) 0 0 (nameWords v) (f .items) few words-read)
 
-  -- as many as the view has
-  pub written-count : v .unended ≡ none → length (writtenEntries (nameWords v) (componentsFrom 0 (v .template)) (sizeOf v .repetitions)) ≡ length (entriesOf v)
-  written-count closed =
-      sym (length-map (writtenEntries (nameWords v) (componentsFrom 0 (v .template)) (sizeOf v .repetitions)) (namedEntry (axisBytes v ++ [])))
-      ∙ ap length (written-named closed [])
+    -- and where the template counts as none there are none on either side
+    pub entries-named : named store (nameEntries v) ≡ entriesOf v
+    unfolding nameEntries entriesOf counted ruleFrom
+    entries-named = go (eqb (sizeOf v .tracks) 0)
+      where
+        whole : List NameEntry
+        whole = writtenEntries (nameWords v) (componentsFrom 0 (v .template)) (sizeOf v .repetitions)
 
--- the words that are written out, read with the names' bytes
+        go : (t : Bool) → named store (cond t [] whole) ≡ ruleFrom 1 (itemsOf (sizeOf v .repetitions) (cond t [] (v .template)))
+        go true = refl
+        go false = rule-named
+
+  -- as many as the view has
+  pub entries-count : v .unended ≡ none → length (nameEntries v) ≡ length (entriesOf v)
+  entries-count closed = sym (length-map (nameEntries v) (namedEntry (axisBytes v ++ []))) ∙ ap length (entries-named closed [])
+
+-- the words of the entries, read with the names' bytes
 pub entries-read : (v : AxisView) → Fits v → axisFault v ≡ 0 → (rest : List ℕ) → heldEntries (entryWords v) (axisBytes v ++ rest) ≡ entriesOf v
-unfolding entryWords
-entries-read v f e rest =
-    let repetitions = sizeOf v .repetitions in
-    let c : length (componentsFrom 0 (v .template)) ≤ 64 = rw (length-components 0 (v .template)) (few-components v f) in
-    read-back 65790 (writtenEntries (nameWords v) (componentsFrom 0 (v .template)) repetitions) (axisBytes v ++ rest)
-    (written-lines (nameWords v) (componentsFrom 0 (v .template)) repetitions 65790 (below-any (nameWords v)) c (few-held (v .template) 0 (f .items) (few v f)))
-    ∙ written-named v f (none-open v e) rest
+unfolding entryWords nameEntries heldEntries
+entries-read v f e rest = words-back (eqb (sizeOf v .tracks) 0) ∙ entries-named v f (none-open v e) rest
+  where
+    store : List ℕ
+    store = axisBytes v ++ rest
+
+    whole : List NameEntry
+    whole = writtenEntries (nameWords v) (componentsFrom 0 (v .template)) (sizeOf v .repetitions)
+
+    c : length (componentsFrom 0 (v .template)) ≤ 64
+    c = rw (length-components 0 (v .template)) (few-components v f)
+
+    words-back : (t : Bool) → heldEntries (map entryWord (cond t [] whole)) store ≡ named store (cond t [] whole)
+    words-back true = refl
+    words-back false =
+        read-back 65790 whole store
+        (written-lines (nameWords v) (componentsFrom 0 (v .template)) (sizeOf v .repetitions) 65790 (below-any (nameWords v)) c (few-held (v .template) 0 (f .items) (few v f)))

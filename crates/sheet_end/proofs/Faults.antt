@@ -10,12 +10,11 @@ use lib.ListN.{length}
 use lib.Seq.{sets}
 use Rattle.template_rules.specs.declared.ExplicitSize.{ExplicitSize}
 use Rattle.name_entries.specs.declared.NameEntry.{NameEntry}
-use Rattle.name_template.specs.Writing.{writtenEntries, entryWord}
+use Rattle.name_template.specs.Writing.{entryWord}
 use Rattle.axis_tables.specs.declared.AxisState.{AxisState}
 use Rattle.axis_tables.specs.declared.AxisReading.{AxisReading}
-use Rattle.sheet_rules.specs.Panels.{withSize}
 use Rattle.sheet_end.specs.Steps.{faultBy}
-use Rattle.sheet_end.specs.End.{componentsIn, namesIn, sizeIn, entriesIn, endFaultIn, EndedAxis, endIn}
+use Rattle.sheet_end.specs.End.{sizeIn, entriesBy, entriesIn, sizedBy, endFaultIn, EndedAxis, endIn}
 
 -- a limit that gives no fault is kept
 pub kept : (most n number : ℕ) → 0 < number → cond (ltb most n) number 0 ≡ 0 → n ≤ most
@@ -48,13 +47,12 @@ held-test n = go (ltb 4096 n) refl
 
 -- an axis of that size, number of entries and fault
 module _ (s : AxisState) (r : AxisReading) (w : List ℕ) (size : ExplicitSize) (n fault : ℕ) (sized : size ≡ sizeIn s w)
-    (counted : n ≡ min 4097 (length (writtenEntries (namesIn s w) (componentsIn s w) (size .repetitions))))
+    (counted : n ≡ min 4097 (length (entriesBy s w size)))
     (found : fault ≡ faultBy (r .kind) (size .refusal .number) n) where
   abbrev entries : List NameEntry
-  entries = writtenEntries (namesIn s w) (componentsIn s w) (size .repetitions)
+  entries = entriesBy s w size
 
   entries-are : entriesIn s w ≡ entries
-  unfolding entriesIn
   entries-are = rw sized
 
   -- the fault found is the end's
@@ -75,6 +73,6 @@ module _ (s : AxisState) (r : AxisReading) (w : List ℕ) (size : ExplicitSize) 
     count-is = let h = count-few in omega arith
 
     pub accepted-end : (after : List ℕ) → after ≡ sets w 8384 (map entryWord entries)
-        → _≡_ {A = EndedAxis} (record { answer = record { fault = 0; state = withSize s n (size .repetitions) (size .explicit) }; words = after }) (endIn s r w)
+        → _≡_ {A = EndedAxis} (record { answer = record { fault = 0; state = sizedBy s n size }; words = after }) (endIn s r w)
     unfolding endIn
     accepted-end after e = rw (← fault-is, eq-eqb fault 0 z, entries-are, ← sized, ← count-is, e)

@@ -8,18 +8,32 @@ use borrow.Author.Tests.{le-ltb}
 use lib.Dec.{eqb, ltb}
 use lib.ListN.{length, drop, length-map}
 use lib.Seq.{sets, length-sets, sets-eq, take-at}
+use Rattle.template_rules.specs.declared.ExplicitSize.{ExplicitSize}
 use Rattle.name_entries.specs.declared.NameEntry.{NameEntry}
 use Rattle.name_template.specs.declared.WrittenNames.{WrittenNames}
 use Rattle.name_template.specs.Writing.{writtenEntries, entryWord, TableAfter, namesWritten}
 use Rattle.axis_tables.specs.declared.AxisState.{AxisState}
 use Rattle.axis_tables.specs.declared.AxisReading.{AxisReading}
 use Rattle.axis_tables.specs.Runs.{partOf}
-use Rattle.sheet_end.specs.End.{EndedAxis, endFaultIn, entriesIn, endIn}
+use Rattle.sheet_end.specs.End.{componentsIn, namesIn, entriesBy, EndedAxis, endFaultIn, entriesIn, endIn}
 
 -- no entries, nothing to put
 pub none-put : (w : List ℕ) (l : List NameEntry) (n : ℕ) → n ≡ length l → n ≡ 0 → w ≡ sets w 8384 (map entryWord l)
 none-put w [] n e z = refl
 none-put w (x ∷ l) n e z = absurd (omega arith)
+
+-- where there is an entry the template counts
+pub some-entries : (s : AxisState) (w : List ℕ) (size : ExplicitSize) (n : ℕ) → n ≡ length (entriesBy s w size) → (n ≡ 0 → ⊥)
+    → entriesBy s w size ≡ writtenEntries (namesIn s w) (componentsIn s w) (size .repetitions)
+unfolding entriesBy
+some-entries s w size n e h = go (eqb (size .template) 0) e
+  where
+    whole : List NameEntry
+    whole = writtenEntries (namesIn s w) (componentsIn s w) (size .repetitions)
+
+    go : (t : Bool) → n ≡ length (cond t [] whole) → cond t [] whole ≡ whole
+    go true z = absurd (h z)
+    go false z = refl
 
 -- a table of entries keeps its length, and where they fit it holds them first
 module _ (names components d after : List ℕ) (repetitions : ℕ) (r : WrittenNames)

@@ -10,7 +10,7 @@ use lib.ListN.{length, length-map, length-append}
 use lib.Seq.{sets}
 use Rattle.coordinates.specs.Refusals.{noRefusal, count}
 use Rattle.template_rules.specs.Explicit.{refusedSize, withAreas, explicitSizeOf}
-use Rattle.name_template.specs.Writing.{writtenEntries, entryWord}
+use Rattle.name_template.specs.Writing.{entryWord}
 use Rattle.sheet_forms.specs.Faults.{firstOf, rankOf}
 use Rattle.sheet_forms.proofs.Firsts.{first-left, first-one, first-zero}
 use Rattle.axis_tables.specs.View.{Repeat, Unended, none, inside, AxisView, componentsOf}
@@ -20,10 +20,10 @@ use Rattle.axis_tables.proofs.Same.{positive}
 use Rattle.axis_tables.proofs.Fits.{Fits, SmallUnended}
 use Rattle.axis_tables.proofs.Back.{template-back, components-back, name-words-back}
 use Rattle.sheet_rules.specs.Sheet.{sizeOf, explicitOf, entriesOf, openFault, countFault, entriesFault, axisFault}
-use Rattle.sheet_rules.specs.Panels.{nameWords, entryWords, sizedState}
-use Rattle.sheet_end.specs.End.{sizeIn, entriesIn, endFaultIn, endIn}
+use Rattle.sheet_rules.specs.Panels.{nameWords, nameEntries, entryWords, sizedState}
+use Rattle.sheet_end.specs.End.{sizeIn, entriesBy, entriesIn, endFaultIn, endIn}
 use Rattle.sheet_end.proofs.Faults.{kept}
-use Rattle.sheet_end.proofs.Entries.{few-components, none-open, written-count}
+use Rattle.sheet_end.proofs.Entries.{few-components, none-open, entries-count}
 
 -- entries one after the other in their region
 entries-more : (v : AxisView) (ys es : List ℕ) (p : ℕ) → p ≡ 8384 + length es → length es + length ys ≤ 4096 → sets (wordsWith v es) p ys ≡ wordsWith v (es ++ ys)
@@ -51,10 +51,10 @@ module _ (v : AxisView) (f : Fits v) where
   unfolding withAreas
   size-beyond h = size-read ∙ rw (lt-leb (explicitOf v) 10000 h)
 
-  -- layer 4 gets its names and components
-  entries-within : explicitOf v ≤ 10000 → entriesIn (stateOf v) (axisWords v) ≡ writtenEntries (nameWords v) (componentsFrom 0 (v .template)) (sizeOf v .repetitions)
-  unfolding entriesIn
-  entries-within h = rw (name-words-back v f [], components-back v f [], size-within h)
+  -- layer 4 gets its names and components, where its template counts
+  entries-within : explicitOf v ≤ 10000 → entriesIn (stateOf v) (axisWords v) ≡ nameEntries v
+  unfolding entriesBy nameEntries
+  entries-within h = rw (size-within h, name-words-back v f [], components-back v f [])
 
   -- ---- the fault
   -- an open repeat comes first
@@ -73,7 +73,7 @@ module _ (v : AxisView) (f : Fits v) where
     within-fault : explicitOf v ≤ 10000 → endFaultIn (stateOf v) (readingOf v) (axisWords v) ≡ firstOf (countFault v) (entriesFault v)
     unfolding endFaultIn
     within-fault h =
-        rw (kind-none, entries-within h, size-within h, written-count v f closed)
+        rw (kind-none, entries-within h, size-within h, entries-count v f closed)
         (sym (first-left (countFault v) (entriesFault v) (rw (le-ltb 10000 (explicitOf v) h))))
 
     beyond-fault : 10000 < explicitOf v → endFaultIn (stateOf v) (readingOf v) (axisWords v) ≡ firstOf (countFault v) (entriesFault v)
@@ -105,9 +105,9 @@ unfolding endIn sizedState entryWords
 end-same v f e =
     let z = first-zero (openFault (v .unended)) (firstOf (countFault v) (entriesFault v)) e .1 in
     let y = first-zero (countFault v) (entriesFault v) z in
-    let w = writtenEntries (nameWords v) (componentsFrom 0 (v .template)) (sizeOf v .repetitions) in
+    let w = nameEntries v in
     let h : explicitOf v ≤ 10000 = kept 10000 (explicitOf v) 4 (omega arith) (y .0) in
     let n : length (entriesOf v) ≤ 4096 = kept 4096 (length (entriesOf v)) 8 (omega arith) (y .1) in
     let l : length (map entryWord w) ≡ length w = length-map w entryWord in
-    let m : 0 + length (map entryWord w) ≤ 4096 = rw (l, written-count v f (none-open v e)) (omega arith) in
+    let m : 0 + length (map entryWord w) ≤ 4096 = rw (l, entries-count v f (none-open v e)) (omega arith) in
     rw (end-fault v f ∙ e, entries-within v f h, size-within v f h, l, entries-more v (map entryWord w) [] 8384 refl m)

@@ -1,6 +1,6 @@
 -- The line after the last (document 01, panel sheet): an axis's open repeat, explicit size and name entries, whatever its state and words hold.
 use Prim.Native.Nat.{ℕ}
-use mathlib.Core.List.{List, map}
+use mathlib.Core.List.{List, [], map}
 use mathlib.Core.Bool.{cond}
 use lib.Dec.{eqb, ltb}
 use lib.ListN.{length}
@@ -18,6 +18,7 @@ use Rattle.name_template.specs.Writing.{writtenEntries, entryWord}
 use Rattle.axis_tables.specs.declared.AxisSpace.{AxisSpace}
 use Rattle.axis_tables.specs.declared.AxisState.{AxisState}
 use Rattle.axis_tables.specs.declared.AxisReading.{AxisReading}
+use Rattle.axis_tables.specs.Store.{zeroTemplate}
 use Rattle.axis_tables.specs.Runs.{partOf}
 use Rattle.sheet_rules.specs.Panels.{withSize}
 use Rattle.sheet_end.specs.declared.AxisEnd.{AxisEnd}
@@ -42,9 +43,16 @@ unfoldable pub sizeIn : AxisState → List ℕ → ExplicitSize
 sizeIn s w =
     explicitSizeOf (innerIn (s .grid .space)) (strategyIn (s .grid .space)) (sizingOf (s .grid .space .gap)) (s .room .areas) (templateOf (componentsIn s w) (partOf w 64 (s .room .template .tracks)) (partOf w 2112 (s .room .template .tracks)))
 
--- layer 4: the name entries, with the repetitions found
-unfoldable pub entriesIn : AxisState → List ℕ → List NameEntry
-entriesIn s w = writtenEntries (namesIn s w) (componentsIn s w) (sizeIn s w .repetitions)
+-- layer 4: the name entries with a size found: none where the template has no track, and so counts as none
+unfoldable pub entriesBy : AxisState → List ℕ → ExplicitSize → List NameEntry
+entriesBy s w size = cond (eqb (size .template) 0) [] (writtenEntries (namesIn s w) (componentsIn s w) (size .repetitions))
+
+abbrev pub entriesIn : AxisState → List ℕ → List NameEntry
+entriesIn s w = entriesBy s w (sizeIn s w)
+
+-- a state with so many entries and a size found: the template's counts are those written, or 0 where it counts as none
+abbrev pub sizedBy : AxisState → ℕ → ExplicitSize → AxisState
+sizedBy s entries size = withSize s (cond (eqb (size .template) 0) zeroTemplate (s .room .template)) entries (size .repetitions) (size .explicit)
 
 -- an open repeat is 1, an explicit count above 10,000 is 4, more than 4,096 entries are 8
 unfoldable pub endFaultIn : AxisState → AxisReading → List ℕ → ℕ
@@ -63,7 +71,7 @@ unfoldable pub endIn : AxisState → AxisReading → List ℕ → EndedAxis
 endIn s r w =
     cond (eqb (endFaultIn s r w) 0)
     (record {
-      answer = record { fault = 0; state = withSize s (length (entriesIn s w)) (sizeIn s w .repetitions) (sizeIn s w .explicit) };
+      answer = record { fault = 0; state = sizedBy s (length (entriesIn s w)) (sizeIn s w) };
       words = sets w 8384 (map entryWord (entriesIn s w));
     })
     (record { answer = record { fault = endFaultIn s r w; state = s }; words = w })

@@ -1,7 +1,6 @@
 // After the last line of a sheet: the explicit size of an axis and its name entries, written out.
 ghost use mathlib.Core.Path.{_≡_};
-ghost use Rattle.sheet_rules.specs.Panels.{withSize};
-ghost use Rattle.sheet_end.specs.End.{endIn};
+ghost use Rattle.sheet_end.specs.End.{sizedBy, endIn};
 ghost use Rattle.sheet_end.specs.Steps.{faultBy};
 
 pub mod size;
@@ -36,16 +35,22 @@ fn end_fault(kind: u32, refused: u32, entries: u32) -> u32
     0
 }
 
-// An axis at the end of its sheet: the template counts as they are written, with the entries and the explicit size.
+// An axis at the end of its sheet, with the entries and the explicit size. The counts of its template are those written; where it counts
+// as none they are 0, so that no later call sees a component or a track. Its `name` records and their bytes stay.
 fn with_size(state: AxisState, entries: u32, size: ExplicitSize) -> AxisState
-    ensures { λ r. ⌜ r ≡ withSize state entries (size .repetitions) (size .explicit) ⌝ }
+    ensures { λ r. ⌜ r ≡ sizedBy state entries size ⌝ }
 {
     let mut after = state;
-    after.grid.template.components = state.room.template.components;
-    after.grid.template.tracks = state.room.template.tracks;
     after.grid.entries = entries;
     after.grid.size.repetitions = size.repetitions;
     after.grid.size.explicit = size.explicit;
+    if size.template == 0 {
+        after.grid.template.components = 0;
+        after.grid.template.tracks = 0;
+        return after;
+    }
+    after.grid.template.components = state.room.template.components;
+    after.grid.template.tracks = state.room.template.tracks;
     after
 }
 
@@ -55,13 +60,12 @@ pub fn end_axis(state: AxisState, reading: AxisReading, words: &mut [u64]) -> Ax
     ensures { λ r. ⌜ record { answer = r; words = now (words .exit) } ≡ endIn state reading (now (words .entry)) ⌝ }
 {
     let size = size_in(state, words);
-    let repetitions = size.repetitions;
-    let entries = count_entries(state, repetitions, words);
+    let entries = count_entries(state, size, words);
     let fault = end_fault(reading.kind, size.refusal.number, entries);
     if fault != 0 {
         return AxisEnd { fault, state };
     }
-    put_entries(state, repetitions, entries, words);
+    put_entries(state, size, entries, words);
     let state = with_size(state, entries, size);
     AxisEnd { fault: 0, state }
 }

@@ -4,8 +4,8 @@ ghost use mathlib.Core.List.{map};
 ghost use Prim.Native.Nat.{_+_, _≤_, min};
 ghost use lib.ListN.{length};
 ghost use lib.Seq.{sets};
-ghost use Rattle.name_template.specs.Writing.{writtenEntries, entryWord, namesWritten};
-ghost use Rattle.sheet_end.specs.End.{componentsIn, namesIn};
+ghost use Rattle.name_template.specs.Writing.{entryWord, namesWritten};
+ghost use Rattle.sheet_end.specs.End.{componentsIn, namesIn, entriesBy};
 use axis_tables::AxisState;
 use axis_tables::layout::ENTRIES;
 use axis_tables::layout::NAMES;
@@ -14,15 +14,19 @@ use axis_tables::write::set_word;
 use name_template::WrittenNames;
 use name_template::count::count_written_names;
 use name_template::write_out::write_names;
+use template_rules::ExplicitSize;
 
-// How many entries an axis has with so many repetitions, held at 4,097.
-pub fn count_entries(state: AxisState, repetitions: u32, words: &[u64]) -> u32
-    ensures { λ r. ⌜ r ≡ min 4097 (length (writtenEntries (namesIn state (now (words .entry))) (componentsIn state (now (words .entry))) repetitions)) ⌝ }
+// How many entries an axis of that size has, held at 4,097: none where its template counts as none.
+pub fn count_entries(state: AxisState, size: ExplicitSize, words: &[u64]) -> u32
+    ensures { λ r. ⌜ r ≡ min 4097 (length (entriesBy state (now (words .entry)) size)) ⌝ }
 {
+    if size.template == 0 {
+        return 0;
+    }
     count_written_names(
         words_part(words, NAMES, state.room.names),
         words_part(words, 0, state.room.template.components),
-        repetitions,
+        size.repetitions,
     )
 }
 
@@ -59,14 +63,14 @@ fn copy_words(words: &mut [u64], at: usize, table: &[u64])
 
 // Writes the entries of an axis into their place in the words. Names and entries lie in the same words, so a table of its own
 // is written first, where there are entries.
-pub(crate) fn put_entries(state: AxisState, repetitions: u32, count: u32, words: &mut [u64])
-    requires { ⌜ (count ≡ length (writtenEntries (namesIn state (now words)) (componentsIn state (now words)) repetitions)) × (count ≤ 4096) ⌝ }
-    ensures { λ _. ⌜ now (words .exit) ≡ sets (now (words .entry)) 8384 (map entryWord (writtenEntries (namesIn state (now (words .entry))) (componentsIn state (now (words .entry))) repetitions)) ⌝ }
+pub(crate) fn put_entries(state: AxisState, size: ExplicitSize, count: u32, words: &mut [u64])
+    requires { ⌜ (count ≡ length (entriesBy state (now words) size)) × (count ≤ 4096) ⌝ }
+    ensures { λ _. ⌜ now (words .exit) ≡ sets (now (words .entry)) 8384 (map entryWord (entriesBy state (now (words .entry)) size)) ⌝ }
 {
     if count == 0 {
         return;
     }
     let mut entries = [0u64; 4096];
-    write_entries(state, repetitions, words, &mut entries);
+    write_entries(state, size.repetitions, words, &mut entries);
     copy_words(words, ENTRIES, words_part(&entries, 0, count));
 }

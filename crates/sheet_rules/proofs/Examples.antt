@@ -25,7 +25,7 @@ use Rattle.sheet_forms.specs.Records.{axisLine, areaLine, nameLine, sizesLine, 
 use Rattle.axis_tables.specs.View.{emptyAxis, trackStep, repeatStep, endStep, nameStep, spareStep, itemStep, extraStep, axisStep, AxisView}
 use Rattle.panel_tables.specs.View.{emptyView, areaStep, placeStep}
 use Rattle.sheet_rules.specs.Lines.{recordStep, recordFault, lineStep}
-use Rattle.sheet_rules.specs.Sheet.{sizeOf as templateSize, explicitOf, entriesOf, endFault, ended, run, sheetOf, Outcome}
+use Rattle.sheet_rules.specs.Sheet.{sizeOf as templateSize, counted, explicitOf, entriesOf, endFault, ended, run, sheetOf, Outcome}
 
 -- repetitions, explicit count and name entries of an axis
 pub record Size : Type 0 where
@@ -99,6 +99,15 @@ cases =
     ∷ accepted (114 ∷ 101 ∷ 112 ∷ 101 ∷ 97 ∷ 116 ∷ 9 ∷ 99 ∷ 9 ∷ 49 ∷ 48 ∷ 48 ∷ 48 ∷ 48 ∷ 10 ∷ 116 ∷ 114 ∷ 97 ∷ 99 ∷ 107 ∷ 9 ∷ 99 ∷ 9 ∷ 97 ∷ 117 ∷ 116 ∷ 111 ∷ 9 ∷ 48 ∷ 48 ∷ 48 ∷ 48 ∷ 48 ∷ 48 ∷ 48 ∷ 48 ∷ 9 ∷ 97 ∷ 117 ∷ 116 ∷ 111 ∷ 9 ∷ 48 ∷ 48 ∷ 48 ∷ 48 ∷ 48 ∷ 48 ∷ 48 ∷ 48 ∷ 10 ∷ 101 ∷ 110 ∷ 100 ∷ 9 ∷ 99 ∷ 10 ∷ []) (size 0 10000 0) (size 0 0 0)
     -- an area to the last line
     ∷ accepted (97 ∷ 114 ∷ 101 ∷ 97 ∷ 9 ∷ 97 ∷ 9 ∷ 49 ∷ 9 ∷ 50 ∷ 9 ∷ 51 ∷ 9 ∷ 49 ∷ 48 ∷ 48 ∷ 48 ∷ 49 ∷ 10 ∷ []) (size 0 10000 0) (size 0 1 0)
+    -- templates that count as none (document 02, request 04). Bench four: an automatic repeat beside a track of no fixed kind gives no repetition, track or name,
+    -- and its area still counts
+    ∷ accepted (97 ∷ 120 ∷ 105 ∷ 115 ∷ 9 ∷ 99 ∷ 9 ∷ 52 ∷ 51 ∷ 97 ∷ 48 ∷ 48 ∷ 48 ∷ 48 ∷ 48 ∷ 9 ∷ 109 ∷ 97 ∷ 120 ∷ 9 ∷ 108 ∷ 101 ∷ 110 ∷ 9 ∷ 48 ∷ 48 ∷ 48 ∷ 48 ∷ 48 ∷ 48 ∷ 48 ∷ 48 ∷ 10 ∷ 97 ∷ 114 ∷ 101 ∷ 97 ∷ 9 ∷ 108 ∷ 101 ∷ 118 ∷ 101 ∷ 108 ∷ 9 ∷ 49 ∷ 9 ∷ 50 ∷ 9 ∷ 50 ∷ 9 ∷ 51 ∷ 10 ∷ 114 ∷ 101 ∷ 112 ∷ 101 ∷ 97 ∷ 116 ∷ 9 ∷ 99 ∷ 9 ∷ 102 ∷ 105 ∷ 108 ∷ 108 ∷ 10 ∷ 116 ∷ 114 ∷ 97 ∷ 99 ∷ 107 ∷ 9 ∷ 99 ∷ 9 ∷ 108 ∷ 101 ∷ 110 ∷ 9 ∷ 52 ∷ 50 ∷ 99 ∷ 56 ∷ 48 ∷ 48 ∷ 48 ∷ 48 ∷ 9 ∷ 108 ∷ 101 ∷ 110 ∷ 9 ∷ 52 ∷ 50 ∷ 99 ∷ 56 ∷ 48 ∷ 48 ∷ 48 ∷ 48 ∷ 10 ∷ 101 ∷ 110 ∷ 100 ∷ 9 ∷ 99 ∷ 10 ∷ 110 ∷ 97 ∷ 109 ∷ 101 ∷ 9 ∷ 99 ∷ 9 ∷ 111 ∷ 102 ∷ 102 ∷ 115 ∷ 101 ∷ 116 ∷ 10 ∷ 116 ∷ 114 ∷ 97 ∷ 99 ∷ 107 ∷ 9 ∷ 99 ∷ 9 ∷ 97 ∷ 117 ∷ 116 ∷ 111 ∷ 9 ∷ 48 ∷ 48 ∷ 48 ∷ 48 ∷ 48 ∷ 48 ∷ 48 ∷ 48 ∷ 9 ∷ 97 ∷ 117 ∷ 116 ∷ 111 ∷ 9 ∷ 48 ∷ 48 ∷ 48 ∷ 48 ∷ 48 ∷ 48 ∷ 48 ∷ 48 ∷ 10 ∷ []) (size 0 2 0) (size 0 1 0)
+    -- a written count of 0 beside 10,001 tracks: nothing above 10,000 counts
+    ∷ accepted (114 ∷ 101 ∷ 112 ∷ 101 ∷ 97 ∷ 116 ∷ 9 ∷ 99 ∷ 9 ∷ 49 ∷ 48 ∷ 48 ∷ 48 ∷ 49 ∷ 10 ∷ 116 ∷ 114 ∷ 97 ∷ 99 ∷ 107 ∷ 9 ∷ 99 ∷ 9 ∷ 97 ∷ 117 ∷ 116 ∷ 111 ∷ 9 ∷ 48 ∷ 48 ∷ 48 ∷ 48 ∷ 48 ∷ 48 ∷ 48 ∷ 48 ∷ 9 ∷ 97 ∷ 117 ∷ 116 ∷ 111 ∷ 9 ∷ 48 ∷ 48 ∷ 48 ∷ 48 ∷ 48 ∷ 48 ∷ 48 ∷ 48 ∷ 10 ∷ 101 ∷ 110 ∷ 100 ∷ 9 ∷ 99 ∷ 10 ∷ 114 ∷ 101 ∷ 112 ∷ 101 ∷ 97 ∷ 116 ∷ 9 ∷ 99 ∷ 9 ∷ 48 ∷ 10 ∷ 116 ∷ 114 ∷ 97 ∷ 99 ∷ 107 ∷ 9 ∷ 99 ∷ 9 ∷ 97 ∷ 117 ∷ 116 ∷ 111 ∷ 9 ∷ 48 ∷ 48 ∷ 48 ∷ 48 ∷ 48 ∷ 48 ∷ 48 ∷ 48 ∷ 9 ∷ 97 ∷ 117 ∷ 116 ∷ 111 ∷ 9 ∷ 48 ∷ 48 ∷ 48 ∷ 48 ∷ 48 ∷ 48 ∷ 48 ∷ 48 ∷ 10 ∷ 101 ∷ 110 ∷ 100 ∷ 9 ∷ 99 ∷ 10 ∷ []) (size 0 0 0) (size 0 0 0)
+    -- 4,097 names in a repeat of no tracks: no entry counts
+    ∷ accepted (114 ∷ 101 ∷ 112 ∷ 101 ∷ 97 ∷ 116 ∷ 9 ∷ 99 ∷ 9 ∷ 52 ∷ 48 ∷ 57 ∷ 55 ∷ 10 ∷ 110 ∷ 97 ∷ 109 ∷ 101 ∷ 9 ∷ 99 ∷ 9 ∷ 120 ∷ 10 ∷ 101 ∷ 110 ∷ 100 ∷ 9 ∷ 99 ∷ 10 ∷ []) (size 0 0 0) (size 0 0 0)
+    -- names without any track, beside rows whose names count
+    ∷ accepted (110 ∷ 97 ∷ 109 ∷ 101 ∷ 9 ∷ 99 ∷ 9 ∷ 120 ∷ 10 ∷ 110 ∷ 97 ∷ 109 ∷ 101 ∷ 9 ∷ 114 ∷ 9 ∷ 121 ∷ 10 ∷ 116 ∷ 114 ∷ 97 ∷ 99 ∷ 107 ∷ 9 ∷ 114 ∷ 9 ∷ 97 ∷ 117 ∷ 116 ∷ 111 ∷ 9 ∷ 48 ∷ 48 ∷ 48 ∷ 48 ∷ 48 ∷ 48 ∷ 48 ∷ 48 ∷ 9 ∷ 97 ∷ 117 ∷ 116 ∷ 111 ∷ 9 ∷ 48 ∷ 48 ∷ 48 ∷ 48 ∷ 48 ∷ 48 ∷ 48 ∷ 48 ∷ 10 ∷ 110 ∷ 97 ∷ 109 ∷ 101 ∷ 9 ∷ 114 ∷ 9 ∷ 122 ∷ 10 ∷ []) (size 0 0 0) (size 0 1 2)
     ∷ []
 
 pub worked : T (every cases)
@@ -108,5 +117,5 @@ unfolding every right cases
     kindOf sizeOf innerOf endKind endName endNumber endOf axisLine areaLine nameLine sizesLine repeatLine endLine extraLine itemLine placeLine byKind recordOf
     emptyAxis trackStep repeatStep endStep nameStep spareStep itemStep extraStep axisStep emptyView areaStep placeStep
     templateSizeOf outsideCount automaticCount beforeCount automaticTracks anyEmpty allFixed everyFixed outsideSpace repetitionSpace fittingOf heldOf repetitionsOf floorOf ceilingOf
-    repeated passed ruleFrom recordStep recordFault lineStep templateSize entriesOf endFault ended run sheetOf ofBits add sub mul div lt ofInt
+    repeated passed ruleFrom recordStep recordFault lineStep templateSize counted entriesOf endFault ended run sheetOf ofBits add sub mul div lt ofInt
 worked = tt

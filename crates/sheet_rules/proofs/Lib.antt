@@ -8,6 +8,7 @@ pub mod Only
 pub mod LineRows
 pub mod LineTheorem
 pub mod Theorem
+pub mod Counted
 pub mod Examples
 pub mod Limits
 pub mod Fits

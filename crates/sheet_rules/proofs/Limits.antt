@@ -23,7 +23,7 @@ use Rattle.sheet_forms.specs.Records.{axisLine, areaLine, nameLine, sizesLine, 
 use Rattle.axis_tables.specs.View.{emptyAxis, trackStep, repeatStep, endStep, nameStep, spareStep, itemStep, extraStep, axisStep}
 use Rattle.panel_tables.specs.View.{emptyView, areaStep, placeStep}
 use Rattle.sheet_rules.specs.Lines.{recordStep, recordFault, lineStep}
-use Rattle.sheet_rules.specs.Sheet.{sizeOf as templateSize, entriesOf, endFault, ended, run, sheetOf}
+use Rattle.sheet_rules.specs.Sheet.{sizeOf as templateSize, counted, entriesOf, endFault, ended, run, sheetOf}
 
 -- n lines
 pub lines : ℕ → List ℕ → List ℕ
@@ -117,7 +117,7 @@ unfolding every right cases lines areas
     kindOf sizeOf innerOf endKind endName endNumber endOf axisLine areaLine nameLine sizesLine repeatLine endLine extraLine itemLine placeLine byKind recordOf
     emptyAxis trackStep repeatStep endStep nameStep spareStep itemStep extraStep axisStep emptyView areaStep placeStep
     templateSizeOf outsideCount automaticCount beforeCount automaticTracks anyEmpty allFixed everyFixed outsideSpace repetitionSpace fittingOf heldOf repetitionsOf floorOf ceilingOf
-    repeated passed ruleFrom recordStep recordFault lineStep templateSize entriesOf endFault ended run sheetOf ofBits add sub mul div lt ofInt
+    repeated passed ruleFrom recordStep recordFault lineStep templateSize counted entriesOf endFault ended run sheetOf ofBits add sub mul div lt ofInt
 reached = tt
 
 -- 32,768 bytes are a sheet, one more is not
@@ -134,5 +134,5 @@ unfolding every right bytes lines
     kindOf sizeOf innerOf endKind endName endNumber endOf axisLine areaLine nameLine sizesLine repeatLine endLine extraLine itemLine placeLine byKind recordOf
     emptyAxis trackStep repeatStep endStep nameStep spareStep itemStep extraStep axisStep emptyView areaStep placeStep
     templateSizeOf outsideCount automaticCount beforeCount automaticTracks anyEmpty allFixed everyFixed outsideSpace repetitionSpace fittingOf heldOf repetitionsOf floorOf ceilingOf
-    repeated passed ruleFrom recordStep recordFault lineStep templateSize entriesOf endFault ended run sheetOf ofBits add sub mul div lt ofInt
+    repeated passed ruleFrom recordStep recordFault lineStep templateSize counted entriesOf endFault ended run sheetOf ofBits add sub mul div lt ofInt
 bytes-reached = tt

@@ -1,6 +1,7 @@
 -- What the contracts on a sheet cite.
 pub mod Lines
 pub mod Sheet
+pub mod Valid
 pub mod Rows
 pub mod Contents
 pub mod Steps

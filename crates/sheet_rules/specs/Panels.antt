@@ -1,19 +1,22 @@
 -- What the state and the tables hold for an accepted sheet: those of its view, with the explicit sizes and the name entries written out.
 use Prim.Native.Nat.{ℕ}
-use mathlib.Core.List.{List, _++_, map}
+use mathlib.Core.List.{List, [], _++_, map}
 use lib.ListN.{length, drop}
+use Rattle.name_entries.specs.declared.NameEntry.{NameEntry}
 use Rattle.name_template.specs.Writing.{writtenEntries, entryWord}
+use Rattle.axis_tables.specs.declared.TemplateCounts.{TemplateCounts}
 use Rattle.axis_tables.specs.declared.AxisState.{AxisState}
+use Rattle.axis_tables.specs.Store.{zeroTemplate}
 use Rattle.axis_tables.specs.Runs.{wordsFrom}
 use Rattle.axis_tables.specs.View.{AxisView, nameOf, axisNames, axisBytes}
-use Rattle.axis_tables.specs.Written.{componentsFrom, recordWord, stateOf, wordsWith}
+use Rattle.axis_tables.specs.Written.{componentsFrom, recordWord, roomOf, stateOf, wordsWith}
 use Rattle.panel_tables.specs.declared.Panel.{Panel}
 use Rattle.panel_tables.specs.View.{PanelView}
 use Rattle.panel_tables.specs.Axes.{withState}
 use Rattle.coordinates.specs.declared.axis.Axis.the-variants.{Column, Row}
 use Rattle.panel_tables.specs.Regions.{axisWordsIn, areaWordsIn, placementWordsIn, marksIn, areaBytesIn, placementBytesIn}
 use Rattle.panel_tables.specs.Written.{panelOf, areaWords, areaStore, placementWords, placementStore}
-use Rattle.sheet_rules.specs.Sheet.{sizeOf, explicitOf}
+use Rattle.sheet_rules.specs.Sheet.{sizeOf, ifCounts, explicitOf}
 
 -- ---- an axis
 
@@ -21,17 +24,21 @@ use Rattle.sheet_rules.specs.Sheet.{sizeOf, explicitOf}
 abbrev pub nameWords : AxisView → List ℕ
 nameWords v = wordsFrom recordWord nameOf 0 (axisNames v)
 
--- the words of its name entries: the records written out with the repetitions found
-unfoldable pub entryWords : AxisView → List ℕ
-entryWords v = map entryWord (writtenEntries (nameWords v) (componentsFrom 0 (v .template)) (sizeOf v .repetitions))
+-- its name entries: where the template counts, the records written out with the repetitions found; and their words
+unfoldable pub nameEntries : AxisView → List NameEntry
+nameEntries v = ifCounts v (writtenEntries (nameWords v) (componentsFrom 0 (v .template)) (sizeOf v .repetitions)) []
 
--- a state at the end of its sheet: the template counts as written, with the entries and the explicit size
-abbrev pub withSize : AxisState → ℕ → ℕ → ℕ → AxisState
-withSize s entries repetitions explicit =
+unfoldable pub entryWords : AxisView → List ℕ
+unfolding nameEntries
+entryWords v = map entryWord (nameEntries v)
+
+-- a state at the end of its sheet: the counts of what counts as its template, the entries and the explicit size
+abbrev pub withSize : AxisState → TemplateCounts → ℕ → ℕ → ℕ → AxisState
+withSize s template entries repetitions explicit =
     record {
       grid = record {
         space = s .grid .space;
-        template = s .room .template;
+        template = template;
         implicit = s .grid .implicit;
         entries = entries;
         size = record { repetitions = repetitions; explicit = explicit };
@@ -39,8 +46,10 @@ withSize s entries repetitions explicit =
       room = s .room;
     }
 
+-- the grid has the components and tracks of what counts as the template, so that every call sees an empty one where nothing counts; the room keeps
+-- those written, the `name` records and their bytes
 unfoldable pub sizedState : AxisView → AxisState
-sizedState v = withSize (stateOf v) (length (entryWords v)) (sizeOf v .repetitions) (explicitOf v)
+sizedState v = withSize (stateOf v) (ifCounts v (roomOf v .template) zeroTemplate) (length (entryWords v)) (sizeOf v .repetitions) (explicitOf v)
 
 -- ---- the panel
 

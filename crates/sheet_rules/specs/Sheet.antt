@@ -36,6 +36,15 @@ unfoldable pub sizeOf : AxisView → TemplateSize
 sizeOf v =
     templateSizeOf (innerOf (v .line)) (strategyOf (v .line)) (sizingOf (v .line .gap)) (meaningOf (innerValue (innerOf (v .line))) (componentsOf (v .template)))
 
+-- one of two, by whether the template counts: it has a track. A template with components has none exactly if it is invalid (`none-exactly`), and
+-- names without any track have none
+abbrev pub ifCounts : {A : Type 0} → AxisView → A → A → A
+ifCounts v whole empty = cond (eqb (sizeOf v .tracks) 0) empty whole
+
+-- what counts as the template (document 02, request 04: an invalid one "counts as no template")
+unfoldable pub counted : AxisView → List Item
+counted v = ifCounts v (v .template) []
+
 -- "explicit count is the larger of template count and largest area end - 1"
 abbrev pub explicitOf : AxisView → ℕ
 explicitOf v = max (sizeOf v .tracks) (v .areas)
@@ -60,9 +69,10 @@ abbrev pub itemsOf : ℕ → List Item → List WrittenItem
 itemsOf repetitions [] = []
 itemsOf repetitions (i ∷ is) = itemOf repetitions i ∷ itemsOf repetitions is
 
--- layer 4: the name entries after repeats are written out
+-- layer 4: the name entries after repeats are written out, of what counts as the template
 unfoldable pub entriesOf : AxisView → List Entry
-entriesOf v = ruleFrom 1 (itemsOf (sizeOf v .repetitions) (v .template))
+unfolding counted
+entriesOf v = ruleFrom 1 (itemsOf (sizeOf v .repetitions) (counted v))
 
 -- ---- the line after the last
 

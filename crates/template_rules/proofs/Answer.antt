@@ -47,7 +47,7 @@ repeat-has-tracks (d ∷ cs) e h = let p = or-parts (isEmpty (d .count) (length 
 -- for every valid template with an automatic repeat the repetitions are CSS's number
 pub valid-repetitions-css : (inner : InnerSize) (strategy : AutoRepeatStrategy) (gap : Sizing) (cs : List Component) → Valid cs → automaticCount cs ≡ 1
     → Repetitions inner strategy gap cs (repetitionsOf inner strategy gap (meaningOf (innerValue inner) cs))
-valid-repetitions-css inner strategy gap cs v e = repetitions-css inner strategy gap cs (repeat-has-tracks cs (none-empty cs (v .filled)) (some (automaticCount cs) e))
+valid-repetitions-css inner strategy gap cs v e = repetitions-css inner strategy gap cs (repeat-has-tracks cs (none-empty cs v) (some (automaticCount cs) e))
   where
     some : (n : ℕ) → n ≡ 1 → 0 < n
     some n e = omega arith

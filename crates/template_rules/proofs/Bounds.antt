@@ -1,6 +1,6 @@
 -- The numbers of a word are small, and so are the sums of 64 components. Assumes nothing.
 use mathlib.Core.Path.{_≡_, refl, ap, subst}
-use mathlib.Core.Bool.{Bool, true, false, cond}
+use mathlib.Core.Bool.{Bool, true, false, cond, _||_}
 use mathlib.Core.List.{List}
 use Prim.Native.Nat.{ℕ, zero, suc, _+_, _*_, _/_, _%_, _^_, _≤_, _<_}
 use native.Mathlib.Nat.{mul-le-mul}
@@ -109,7 +109,7 @@ automatic-gathered n s k t g h =
 
 pub step-gathered : (n : ℕ) (s : TemplateSummary) (k : RepetitionCount) (l : ℕ) (t : TrackTotals) → Gathered n s → CountOfWord k l → l ≤ 65535 → Gathered (n + 1) (stepBy s k l t)
 step-gathered n s Single l t g h m = outside-gathered n s false (t .fixed) 1 (t .space) g (omega arith)
-step-gathered n s (Count times) l t g h m = outside-gathered n s (eqb l 0) (t .fixed) (times * l) (countedSpace (t .space) times) g (product-small times l h m)
+step-gathered n s (Count times) l t g h m = outside-gathered n s (eqb l 0 || eqb times 0) (t .fixed) (times * l) (countedSpace (t .space) times) g (product-small times l h m)
 step-gathered n s AutoFill l t g h m = automatic-gathered n s l t g m
 step-gathered n s AutoFit l t g h m = automatic-gathered n s l t g m
 

@@ -11,6 +11,7 @@ pub mod Valid
 pub mod Css
 pub mod Answer
 pub mod Thin
+pub mod Nothing
 pub mod WrittenOut
 pub mod CssWhole
 pub mod WholeExample

@@ -32,30 +32,37 @@ from-either true b e = refl
 from-either false b (inl e) = absurd (false≢true e)
 from-either false b (inr e) = e
 
--- ---- no repeat without tracks
+-- ---- no repeat without tracks, and no written count of 0
 repeat-filled : (k : RepetitionCount) (n : ℕ) → isEmpty k n ≡ false → (k ≡ Single → ⊥) → 0 < n
 repeat-filled Single n e h = absurd (h refl)
-repeat-filled (Count times) n e h = above-test n e
+repeat-filled (Count times) n e h = above-test n (or-parts (eqb n 0) (eqb times 0) e .0)
 repeat-filled AutoFill n e h = above-test n e
 repeat-filled AutoFit n e h = above-test n e
 
-filled-repeat : (k : RepetitionCount) (n : ℕ) → ((k ≡ Single → ⊥) → 0 < n) → isEmpty k n ≡ false
-filled-repeat Single n h = refl
-filled-repeat (Count times) n h = test-above n (h (λ e. let z : _≡_ {A = ℕ} 0 1 = cc in omega arith))
-filled-repeat AutoFill n h = test-above n (h (λ e. let z : _≡_ {A = ℕ} 0 1 = cc in omega arith))
-filled-repeat AutoFit n h = test-above n (h (λ e. let z : _≡_ {A = ℕ} 0 1 = cc in omega arith))
+count-written : (k : RepetitionCount) (n : ℕ) → isEmpty k n ≡ false → (times : ℕ) → k ≡ Count times → 1 ≤ times
+count-written k n e times q = above-test times (or-parts (eqb n 0) (eqb times 0) (rw q at e) .1)
 
-all-filled : (cs : List Component) → anyEmpty cs ≡ false → (c : Component) → List·Memᴰ c cs → Repeat c → 0 < length (c .tracks)
+filled-repeat : (k : RepetitionCount) (n : ℕ) → ((k ≡ Single → ⊥) → 0 < n) → ((times : ℕ) → k ≡ Count times → 1 ≤ times) → isEmpty k n ≡ false
+filled-repeat Single n h g = refl
+filled-repeat (Count times) n h g = rw (test-above n (h (λ e. let z : _≡_ {A = ℕ} 0 1 = cc in omega arith))) (test-above times (g times refl))
+filled-repeat AutoFill n h g = test-above n (h (λ e. let z : _≡_ {A = ℕ} 0 1 = cc in omega arith))
+filled-repeat AutoFit n h g = test-above n (h (λ e. let z : _≡_ {A = ℕ} 0 1 = cc in omega arith))
+
+-- each component of a template without such a repeat is none
+each-filled : (cs : List Component) → anyEmpty cs ≡ false → (c : Component) → List·Memᴰ c cs → isEmpty (c .count) (length (c .tracks)) ≡ false
 unfolding anyEmpty
-all-filled [] e c m r = absurd (List·Memᴰ·not-nil m)
-all-filled (d ∷ cs) e c m r =
+each-filled [] e c m = absurd (List·Memᴰ·not-nil m)
+each-filled (d ∷ cs) e c m =
     let p = or-parts (isEmpty (d .count) (length (d .tracks))) (anyEmpty cs) e in
-    ⊎-elim (λ s. repeat-filled (c .count) (length (c .tracks)) (rw s (p .0)) r) (λ t. all-filled cs (p .1) c t r) (List·Memᴰ·cases-cons m)
+    ⊎-elim (λ s. rw s (p .0)) (λ t. each-filled cs (p .1) c t) (List·Memᴰ·cases-cons m)
 
-pub none-empty : (cs : List Component) → ((c : Component) → List·Memᴰ c cs → Repeat c → 0 < length (c .tracks)) → anyEmpty cs ≡ false
+filled-each : (cs : List Component) → ((c : Component) → List·Memᴰ c cs → isEmpty (c .count) (length (c .tracks)) ≡ false) → anyEmpty cs ≡ false
 unfolding anyEmpty
-none-empty [] h = refl
-none-empty (d ∷ cs) h = rw (filled-repeat (d .count) (length (d .tracks)) (h d (List·Memᴰ·head refl)), none-empty cs (λ c m r. h c (List·Memᴰ·tail m) r))
+filled-each [] h = refl
+filled-each (d ∷ cs) h = rw (h d (List·Memᴰ·head refl), filled-each cs (λ c m. h c (List·Memᴰ·tail m)))
+
+pub none-empty : (cs : List Component) → Valid cs → anyEmpty cs ≡ false
+none-empty cs v = filled-each cs (λ c m. filled-repeat (c .count) (length (c .tracks)) (v .filled c m) (v .written c m))
 
 -- ---- every track has a fixed part
 track-fixed : (ts : List MinMax) → allFixed ts ≡ true → (t : MinMax) → List·Memᴰ t ts → FixedPart t
@@ -200,7 +207,8 @@ valid-css inner cs = (there, back)
     there e =
         let p = and-parts (not (anyEmpty cs)) (eqb (automaticCount cs) 0 || (eqb (automaticCount cs) 1 && everyFixed cs)) e in
         record {
-          filled = all-filled cs (opened (anyEmpty cs) (p .0));
+          filled = λ c m. repeat-filled (c .count) (length (c .tracks)) (each-filled cs (opened (anyEmpty cs) (p .0)) c m);
+          written = λ c m. count-written (c .count) (length (c .tracks)) (each-filled cs (opened (anyEmpty cs) (p .0)) c m);
           once = one-place cs (few (automaticCount cs) (everyFixed cs) (p .1));
           fixed = λ a m s. all-fixed cs (some-fixed (automaticCount cs) (everyFixed cs) (p .1) (in-count cs a m s));
         }
@@ -216,7 +224,7 @@ valid-css inner cs = (there, back)
     back : Valid cs → validOf (meaningOf inner cs) ≡ true
     back v =
         let fixed : 0 < automaticCount cs → everyFixed cs ≡ true = λ s. let p = place-of cs s in fixed-all cs (v .fixed (getD cs (p .place) noComponent) (member cs (p .place) (p .inside)) (p .automatic)) in
-        rw (none-empty cs (v .filled)) (count-test (automaticCount cs) (everyFixed cs) (place-one cs (v .once)) fixed)
+        rw (none-empty cs v) (count-test (automaticCount cs) (everyFixed cs) (place-one cs (v .once)) fixed)
 
 -- in a valid template with an automatic repeat every track has a definite size
 pub valid-definite : (cs : List Component) → Valid cs → 0 < automaticCount cs → (inner : Float) (c : Component) → List·Memᴰ c cs → (t : MinMax) → List·Memᴰ t (c .tracks)

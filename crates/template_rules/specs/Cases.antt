@@ -113,11 +113,15 @@ cases =
     ∷ case (inner 0x43a0_0000) rule-max (Length (f32 ten)) 0 (component Single (same wide ∷ []) ∷ component (Count 2) (same (Length (f32 ten)) ∷ []) ∷ fill wide) (0, 1, 4, 4)
     -- areas with more tracks
     ∷ case (inner 0x43a0_0000) rule-max (Length (f32 ten)) 7 (fill wide) (0, 3, 3, 7)
-    -- no component; a repeat with no tracks; two automatic repeats; an automatic repeat beside a track with no fixed kind
+    -- no component; then templates that count as none: a repeat of no tracks; two automatic repeats; an automatic repeat beside a track with no
+    -- fixed kind, and around one; a written count of 0, also beside more than 10,000 tracks, and areas still count
     ∷ case (inner ten) rule-max (Length (f32 zero)) 2 [] (0, 0, 0, 2)
     ∷ case (inner ten) rule-max (Length (f32 zero)) 0 (component (Count 3) [] ∷ component Single (same wide ∷ []) ∷ []) (0, 0, 0, 0)
     ∷ case (inner ten) rule-max (Length (f32 zero)) 0 (component AutoFit (same wide ∷ []) ∷ fill wide) (0, 0, 0, 0)
     ∷ case (inner ten) rule-max (Length (f32 zero)) 0 (component Single (same Auto ∷ []) ∷ fill wide) (0, 0, 0, 0)
+    ∷ case (inner ten) rule-max (Length (f32 zero)) 0 (fill Auto) (0, 0, 0, 0)
+    ∷ case (inner ten) rule-max (Length (f32 zero)) 0 (component (Count 0) (same wide ∷ []) ∷ component Single (same wide ∷ []) ∷ []) (0, 0, 0, 0)
+    ∷ case (inner ten) rule-max (Length (f32 zero)) 2 (component (Count 10001) (same wide ∷ []) ∷ component (Count 0) (same wide ∷ []) ∷ []) (0, 0, 0, 2)
     -- 10,000 tracks before the repeat leave none for it; above 10,000 the count is refused
     ∷ case (inner ten) rule-max (Length (f32 zero)) 0 (component (Count 10000) (same wide ∷ []) ∷ fill wide) (0, 0, 10000, 10000)
     ∷ case (inner ten) rule-max (Length (f32 zero)) 0 (component (Count 10001) (same wide ∷ []) ∷ []) (4, 0, 0, 0)

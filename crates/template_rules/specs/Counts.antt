@@ -42,10 +42,10 @@ unfoldable pub automaticTracks : List Component → List MinMax
 automaticTracks [] = []
 automaticTracks (c ∷ cs) = cond (isAutomatic (c .count)) (c .tracks) (automaticTracks cs)
 
--- "a repeat with no tracks"
+-- "a repeat of no tracks, a written count of 0": a repeat that writes nothing
 abbrev pub isEmpty : RepetitionCount → ℕ → Bool
 isEmpty Single n = false
-isEmpty (Count times) n = eqb n 0
+isEmpty (Count times) n = eqb n 0 || eqb times 0
 isEmpty AutoFill n = eqb n 0
 isEmpty AutoFit n = eqb n 0
 

@@ -17,7 +17,7 @@ use Rattle.template_rules.specs.Counts.{isAutomatic, beforeCount, automa
 use Rattle.template_rules.specs.Exact.{AtMost, AtLeast}
 use Rattle.template_rules.specs.Summary.{meaningOf}
 use Rattle.template_rules.specs.Repetitions.{firstSpace, quotient}
-use Rattle.template_rules.specs.declared.RepetitionCount.the-variants.{Single}
+use Rattle.template_rules.specs.declared.RepetitionCount.the-variants.{Single, Count}
 use Rattle.template_rules.specs.declared.InnerSize.{InnerSize}
 use Rattle.template_rules.specs.declared.InnerSize.the-variants.{Definite, Indefinite}
 use Rattle.template_rules.specs.declared.AutoRepeatStrategy.{AutoRepeatStrategy}
@@ -38,10 +38,11 @@ FixedPart t = (isFixed (t .min) ≡ true) ⊎ (isFixed (t .max) ≡ true)
 abbrev pub noComponent : Component
 noComponent = record { count = Single; tracks = [] }
 
--- "a repeat has at least one track"; "at most one automatic repeat in a template, and then every track in the template has a fixed part".
--- A written count of 0, which CSS refuses, is a difference.
+-- "a repeat has at least one track, a written count is at least 1"; "at most one automatic repeat in a template, and then every track in the
+-- template has a fixed part". That names without any track are no template can't be said of components: `sheet_rules/specs/Valid.antt` adds it
 pub record Valid (cs : List Component) : Type 0 where
   pub filled : (c : Component) → List·Memᴰ c cs → Repeat c → 0 < length (c .tracks)
+  pub written : (c : Component) → List·Memᴰ c cs → (times : ℕ) → c .count ≡ Count times → 1 ≤ times
   pub once : (i j : ℕ) → i < length cs → j < length cs → Automatic (getD cs i noComponent) → Automatic (getD cs j noComponent) → i ≡ j
   pub fixed : (a : Component) → List·Memᴰ a cs → Automatic a → (c : Component) → List·Memᴰ c cs → (t : MinMax) → List·Memᴰ t (c .tracks) → FixedPart t
 

@@ -20,12 +20,12 @@ use Rattle.template_rules.specs.declared.ExplicitSize.{ExplicitSize}
 use Rattle.template_rules.specs.declared.TemplateSize.{TemplateSize}
 use Rattle.template_rules.specs.declared.TemplateSummary.{TemplateSummary}
 
--- valid unless "a repeat with no tracks, two automatic repeats, or one in a template where any track has no fixed kind";
+-- valid unless "two automatic repeats, one in a template where any track has no fixed kind, a repeat of no tracks, a written count of 0";
 -- an empty template has no tracks either way
 abbrev pub validOf : TemplateSummary → Bool
 validOf s = not (s .empty) && (eqb (s .automatic) 0 || (eqb (s .automatic) 1 && s .fixed))
 
--- repetitions and tracks, not cut; an invalid template "gives 0 repetitions and 0 tracks"
+-- repetitions and tracks, not cut; an invalid template "counts as no template" (document 02, request 04): 0 repetitions and 0 tracks
 abbrev pub sizeOf : ℕ → ℕ → TemplateSize
 sizeOf repetitions tracks = record { repetitions = repetitions; tracks = tracks }
 

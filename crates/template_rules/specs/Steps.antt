@@ -70,7 +70,7 @@ automaticStep s n t =
 -- one more component of n tracks
 abbrev pub stepBy : TemplateSummary → RepetitionCount → ℕ → TrackTotals → TemplateSummary
 stepBy s Single n t = outsideStep s false (t .fixed) 1 (t .space)
-stepBy s (Count times) n t = outsideStep s (eqb n 0) (t .fixed) (times * n) (countedSpace (t .space) times)
+stepBy s (Count times) n t = outsideStep s (eqb n 0 || eqb times 0) (t .fixed) (times * n) (countedSpace (t .space) times)
 stepBy s AutoFill n t = automaticStep s n t
 stepBy s AutoFit n t = automaticStep s n t
 

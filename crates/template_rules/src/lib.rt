@@ -43,7 +43,7 @@ pub struct TrackTotals {
     pub space: f32,
 }
 
-// A template so far: whether a repeat has no tracks, whether every track has a fixed kind, how many automatic repeats there are,
+// A template so far: whether a repeat has no tracks or a count of 0, whether every track has a fixed kind, how many automatic repeats there are,
 // the tracks outside them, those before the first and those in it, the space used outside, and that of one repetition.
 pub struct TemplateSummary {
     pub empty: bool,

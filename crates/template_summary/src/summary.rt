@@ -93,7 +93,8 @@ fn add_totals(
         RepetitionCount::Count(times) => {
             let factor = times as f32;
             let space = totals.space * factor;
-            add_outside(summary, length == 0, totals.fixed, times * length, space)
+            let empty = (length == 0) | (times == 0);
+            add_outside(summary, empty, totals.fixed, times * length, space)
         }
         RepetitionCount::AutoFill => add_automatic(summary, length, totals),
         RepetitionCount::AutoFit => add_automatic(summary, length, totals),

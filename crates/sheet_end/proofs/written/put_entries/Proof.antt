@@ -1,9 +1,10 @@
-use Rattle.name_template.specs.Writing.{writtenEntries}
-use Rattle.sheet_end.specs.End.{componentsIn, namesIn}
-use Rattle.sheet_end.proofs.Puts.{none-put, table-length, table-part}
+use mathlib.Core.List.{map}
+use Rattle.name_template.specs.Writing.{entryWord}
+use Rattle.sheet_end.specs.End.{entriesBy}
+use Rattle.sheet_end.proofs.Puts.{none-put, some-entries, table-length, table-part}
 use mathlib.Core.Path.{sym, ap, _∙_}
 use native.Mathlib.Omega.{arith}
-use lib.ListN.{length-take}
+use lib.ListN.{length, length-take}
 use lib.Seq.{sets}
 use borrow.Author.Needs.{needs}
 use Rattle.sheet_end.proofs.written.put_entries.Statement.{statement}
@@ -12,8 +13,7 @@ use Rattle.sheet_end.proofs.written.put_entries.Tie as tie
 returns : tie.Need-returns
 returns c =
     let a = c .before .before .args in
-    none-put (a .words .now) (writtenEntries (namesIn (a .state) (a .words .now)) (componentsIn (a .state) (a .words .now)) (a .repetitions)) (a .count)
-    (c .before .before .pre .0) (c .if1 .taken)
+    none-put (a .words .now) (entriesBy (a .state) (a .words .now) (a .size)) (a .count) (c .before .before .pre .0) (c .if1 .taken)
 
 write-entries-requires : tie.Need-write-entries-requires
 write-entries-requires c κs = search needs
@@ -36,8 +36,13 @@ returns-2 : tie.Need-returns-2
 returns-2 c =
     let a = c .before .before .before .before .before .before .before .before .before .before .before .args in
     let p = c .before .before .before .before .before .before .before .before .before .before .before .pre in
+    let o = c .before .before .before .before .before .before .before .before .before .if1 .left in
+    let e = some-entries (a .state) (a .words .now) (a .size) (a .count) (p .0) o in
     c .before .before .copy-words .ensures
-    ∙ ap (sets (a .words .now) 8384) (c .before .before .before .words-part .ensures ∙ table-part _ _ _ _ _ _ (c .before .before .before .before .before .before .write-entries .ensures) (a .count) (p .0) (p .1) (p .1))
+    ∙ ap (sets (a .words .now) 8384)
+    (c .before .before .before .words-part .ensures
+    ∙ table-part _ _ _ _ _ _ (c .before .before .before .before .before .before .write-entries .ensures) (a .count) (p .0 ∙ ap length e) (p .1) (p .1)
+    ∙ sym (ap (map entryWord) e))
 
 pub put-entries-spec : {M : Type 1} → statement M
 put-entries-spec =
