@@ -12,7 +12,7 @@ pub(crate) struct Answers {
     pub(crate) names: [Vec<Vec<Vec<u8>>>; 2],
     /// Axis, start and end.
     pub(crate) placements: Vec<(u32, End, End)>,
-    /// Three words for each record of columns and rows, as the bindings have them.
+    /// Three words for each record of columns and rows, as the bindings have them, without the source that the Rust has not.
     pub(crate) records: [Vec<u64>; 2],
 }
 

@@ -101,12 +101,18 @@ impl Ours {
     }
 }
 
+/// Of a record's first word its kind and whether it is collapsed.
+fn without_sources(mut words: Vec<u64>) -> Vec<u64> {
+    words.iter_mut().step_by(RECORD_WORDS).for_each(|word| *word &= 3);
+    words
+}
+
 fn answers(panel: &Panel, records: &[Vec<u64>; 2]) -> Answers {
     let lists = |axis| panel.line_names(axis).into_iter().map(|names| names.into_iter().map(<[u8]>::to_vec).collect()).collect();
     Answers {
         sizes: AXES.map(|axis| panel.size(axis)).map(|size| (size.repetitions, size.explicit)),
         names: AXES.map(lists),
         placements: panel.resolved().into_iter().map(placement).collect(),
-        records: records.clone(),
+        records: records.clone().map(without_sources),
     }
 }

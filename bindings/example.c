@@ -13,6 +13,7 @@ static const char sheet[] = "axis\tc\t43480000\tmax\tlen\t00000000\n"
 
 static const char *const letters[] = {"c", "r"};
 static const char *const sizes[] = {"len", "pct", "fr", "auto", "min", "max", "fitl", "fitp"};
+static const char sources[] = "ntagp-";
 static const char *const ends[] = {"auto", "line", "", "span"};
 
 /* Large: not on the stack. */
@@ -25,8 +26,9 @@ static void print_axis(palgwern_grid grid, uint32_t axis) {
     palgwern_count_answer count = palgwern_tables_records(&tables, grid, axis, 0, records, sizeof records / sizeof *records);
     for (uint64_t i = 0; i < count.count; i++) {
         const uint64_t *r = &records[i * PALGWERN_RECORD_WORDS];
-        printf("%" PRIu64 "\t%s\t%s\t%s\t%08" PRIx32 "\t%s\t%08" PRIx32 "\n", i, r[0] & PALGWERN_GUTTER ? "gutter" : "track",
-            r[0] & PALGWERN_COLLAPSED ? "y" : "n", sizes[r[1] >> 32], (uint32_t)r[1], sizes[r[2] >> 32], (uint32_t)r[2]);
+        printf("%" PRIu64 "\t%s\t%s\t%s\t%08" PRIx32 "\t%s\t%08" PRIx32 "\t%c\n", i, r[0] & PALGWERN_GUTTER ? "gutter" : "track",
+            r[0] & PALGWERN_COLLAPSED ? "y" : "n", sizes[r[1] >> 32], (uint32_t)r[1], sizes[r[2] >> 32], (uint32_t)r[2],
+            sources[palgwern_word_source(r[0])]);
     }
 }
 

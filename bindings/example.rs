@@ -1,6 +1,6 @@
 //! Reads document 01's worked case and prints its answer.
 mod palgwern;
-use palgwern::{Axis, End, Panel, Record, Refusal, Size};
+use palgwern::{Axis, End, Panel, Record, Refusal, Size, Source};
 
 const SHEET: &str = "axis\tc\t43480000\tmax\tlen\t00000000
 repeat\tc\tfill
@@ -32,10 +32,21 @@ fn size(size: Size) -> String {
     format!("{kind}\t{:08x}", value.to_bits())
 }
 
+fn source(source: Source) -> char {
+    match source {
+        Source::Negative => 'n',
+        Source::Template => 't',
+        Source::Automatic => 'a',
+        Source::Area => 'g',
+        Source::Positive => 'p',
+        Source::Gutter => '-',
+    }
+}
+
 fn record(index: usize, r: &Record) -> String {
     let kind = if r.gutter { "gutter" } else { "track" };
     let collapsed = if r.collapsed { "y" } else { "n" };
-    format!("{index}\t{kind}\t{collapsed}\t{}\t{}", size(r.minimum), size(r.maximum))
+    format!("{index}\t{kind}\t{collapsed}\t{}\t{}\t{}", size(r.minimum), size(r.maximum), source(r.source))
 }
 
 fn end(end: End) -> String {

@@ -85,8 +85,21 @@ enum palgwern_axis_number { PALGWERN_COLUMNS = 0, PALGWERN_ROWS = 1 };
 /* Kinds of an end of a resolved placement. */
 enum palgwern_end { PALGWERN_END_AUTO = 0, PALGWERN_END_LINE = 1, PALGWERN_END_SPAN = 3 };
 
-/* The first word of a record: these added. 0 is an open track. */
+/* The first word of a record: these added, and 4 times its source. */
 enum palgwern_record { PALGWERN_GUTTER = 1, PALGWERN_COLLAPSED = 2 };
+
+/* Where a record came from, whether it is collapsed or not. */
+enum palgwern_source {
+    PALGWERN_SOURCE_NEGATIVE = 0,  /* implicit, before the explicit grid */
+    PALGWERN_SOURCE_TEMPLATE = 1,  /* a single or a counted repeat */
+    PALGWERN_SOURCE_AUTOMATIC = 2, /* an automatic repeat */
+    PALGWERN_SOURCE_AREA = 3,      /* explicit by areas alone */
+    PALGWERN_SOURCE_POSITIVE = 4,  /* implicit, after the explicit grid */
+    PALGWERN_SOURCE_GUTTER = 5     /* no track */
+};
+
+/* The source in a record's first word. */
+static inline uint32_t palgwern_word_source(uint64_t word) { return word >> 2 & 7; }
 
 /* The other two words are its minimum and maximum: kind times 2^32, and the bits of the float; a keyword has bits 0. */
 enum palgwern_size {

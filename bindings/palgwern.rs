@@ -301,6 +301,36 @@ impl Size {
     }
 }
 
+/// Where a record came from, whether it is collapsed or not.
+#[derive(Clone, Copy, Debug, PartialEq, Eq)]
+pub enum Source {
+    /// Implicit, before the explicit grid.
+    Negative = 0,
+    /// A single or a counted repeat.
+    Template = 1,
+    /// An automatic repeat.
+    Automatic = 2,
+    /// Explicit by areas alone.
+    Area = 3,
+    /// Implicit, after the explicit grid.
+    Positive = 4,
+    /// No track.
+    Gutter = 5,
+}
+
+impl Source {
+    fn of(word: u64) -> Source {
+        match word >> 2 & 7 {
+            0 => Source::Negative,
+            1 => Source::Template,
+            2 => Source::Automatic,
+            3 => Source::Area,
+            4 => Source::Positive,
+            _ => Source::Gutter,
+        }
+    }
+}
+
 /// A track record.
 #[derive(Clone, Copy, Debug, PartialEq)]
 pub struct Record {
@@ -308,12 +338,14 @@ pub struct Record {
     pub collapsed: bool,
     pub minimum: Size,
     pub maximum: Size,
+    pub source: Source,
 }
 
 impl Record {
     /// A record from its words.
     pub fn of(words: &[u64; RECORD_WORDS]) -> Record {
-        Record { gutter: words[0] & 1 != 0, collapsed: words[0] & 2 != 0, minimum: Size::of(words[1]), maximum: Size::of(words[2]) }
+        let (minimum, maximum) = (Size::of(words[1]), Size::of(words[2]));
+        Record { gutter: words[0] & 1 != 0, collapsed: words[0] & 2 != 0, minimum, maximum, source: Source::of(words[0]) }
     }
 }
 

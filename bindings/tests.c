@@ -120,19 +120,34 @@ static void answers(void) {
 }
 
 /* Whether record `place` of those in `all` has these words. */
-static int is_record(uint32_t place, uint64_t kind, uint64_t minimum, uint64_t maximum) {
+static int is_record(uint32_t place, uint64_t kind, uint64_t source, uint64_t minimum, uint64_t maximum) {
     const uint64_t *words = all + PALGWERN_RECORD_WORDS * place;
-    return words[0] == kind && words[1] == minimum && words[2] == maximum;
+    return words[0] == kind + 4 * source && palgwern_word_source(words[0]) == source && words[1] == minimum && words[2] == maximum;
+}
+
+/* Whether the tracks in `all` come from so many of each source, one after the other. */
+static int are_sources(const uint32_t *counts) {
+    uint32_t track = 0;
+    for (uint32_t source = 0; source < PALGWERN_SOURCE_GUTTER; source++)
+        for (uint32_t i = 0; i < counts[source]; i++, track++)
+            if (palgwern_word_source(all[PALGWERN_RECORD_WORDS * (2 * track + 1)]) != source) return 0;
+    return 1;
 }
 
 /* Records: of both axes, with the items of each, and a run of them from any on. */
 static void records(void) {
     const uint64_t fraction = (uint64_t)PALGWERN_FR << 32, fit = (uint64_t)PALGWERN_FITL << 32, keyword = (uint64_t)PALGWERN_AUTO << 32;
     CHECK(is_count(palgwern_tables_records(&tables, panel.grid, PALGWERN_ROWS, 0, all, sizeof all / sizeof *all), 51));
-    CHECK(is_record(13, 0, keyword, fit | 0x41a00000) && is_record(14, PALGWERN_GUTTER, 0x40000000, 0x40000000));
+    CHECK(is_record(13, 0, PALGWERN_SOURCE_TEMPLATE, keyword, fit | 0x41a00000));
+    CHECK(is_record(14, PALGWERN_GUTTER, PALGWERN_SOURCE_GUTTER, 0x40000000, 0x40000000));
+    CHECK(are_sources((const uint32_t[]){6, 9, 0, 0, 10}));
     CHECK(is_count(palgwern_tables_records(&tables, panel.grid, PALGWERN_COLUMNS, 0, all, sizeof all / sizeof *all), 71));
-    CHECK(is_record(0, PALGWERN_GUTTER | PALGWERN_COLLAPSED, 0, 0) && is_record(5, 0, 0x41a00000, fraction | 0x3f800000));
-    CHECK(is_record(17, 0, 0x41a00000, 0x41a00000) && is_record(19, PALGWERN_COLLAPSED, 0, 0));
+    CHECK(is_record(0, PALGWERN_GUTTER | PALGWERN_COLLAPSED, PALGWERN_SOURCE_GUTTER, 0, 0));
+    CHECK(is_record(5, 0, PALGWERN_SOURCE_NEGATIVE, 0x41a00000, fraction | 0x3f800000));
+    CHECK(is_record(15, 0, PALGWERN_SOURCE_TEMPLATE, 0x41a00000, 0x41a00000));
+    CHECK(is_record(17, 0, PALGWERN_SOURCE_AUTOMATIC, 0x41a00000, 0x41a00000));
+    CHECK(is_record(19, PALGWERN_COLLAPSED, PALGWERN_SOURCE_AUTOMATIC, 0, 0));
+    CHECK(is_record(55, 0, PALGWERN_SOURCE_POSITIVE, 0x41a00000, fraction | 0x3f800000));
     for (uint32_t first = 0; first < 71; first += 10) {
         palgwern_count_answer run = palgwern_tables_records(&tables, panel.grid, PALGWERN_COLUMNS, first, some, 30);
         CHECK(is_count(run, first < 70 ? 10 : 1) && !memcmp(some, all + 3 * first, run.count * 24));

@@ -76,15 +76,20 @@ fn line_names() {
 #[test]
 fn records() {
     let panel = Panel::read(LAYOUT).unwrap();
-    let open = |minimum, maximum| Record { gutter: false, collapsed: false, minimum, maximum };
+    let open = |minimum, maximum, source| Record { gutter: false, collapsed: false, minimum, maximum, source };
+    let shut = |gutter, source| Record { gutter, collapsed: true, minimum: Size::Length(0.0), maximum: Size::Length(0.0), source };
     let columns = panel.records(Axis::Columns);
-    assert_eq!((columns.len(), columns[0].gutter, columns[0].collapsed), (71, true, true));
-    assert_eq!(columns[5], open(Size::Length(20.0), Size::Fraction(1.0)));
-    assert_eq!((columns[17], columns[19].gutter, columns[19].collapsed), (open(Size::Length(20.0), Size::Length(20.0)), false, true));
+    assert_eq!((columns.len(), columns[0]), (71, shut(true, Source::Gutter)));
+    assert_eq!(columns[5], open(Size::Length(20.0), Size::Fraction(1.0), Source::Negative));
+    assert_eq!(columns[15], open(Size::Length(20.0), Size::Length(20.0), Source::Template));
+    assert_eq!(columns[17], open(Size::Length(20.0), Size::Length(20.0), Source::Automatic));
+    assert_eq!((columns[19], columns[55].source), (shut(false, Source::Automatic), Source::Positive));
     let rows = panel.records(Axis::Rows);
     assert_eq!((rows.len(), rows[2].gutter, rows[2].collapsed, rows[2].minimum), (51, true, false, Size::Length(2.0)));
-    assert_eq!((rows[3], rows[5]), (open(Size::Length(50.0), Size::Length(100.0)), open(Size::MinContent, Size::MaxContent)));
-    assert_eq!((rows[7], rows[13]), (open(Size::Auto, Size::FitContentPercent(0.5)), open(Size::Auto, Size::FitContentLength(20.0))));
+    let negative = |minimum, maximum| open(minimum, maximum, Source::Negative);
+    assert_eq!((rows[3], rows[5]), (negative(Size::Length(50.0), Size::Length(100.0)), negative(Size::MinContent, Size::MaxContent)));
+    assert_eq!(rows[7], negative(Size::Auto, Size::FitContentPercent(0.5)));
+    assert_eq!(rows[13], open(Size::Auto, Size::FitContentLength(20.0), Source::Template));
     let mut whole = vec![0; 213];
     assert_eq!(panel.write_records(Axis::Columns, panel.items(Axis::Columns), 0, &mut whole), Ok(71));
     let mut part = [7; 31];
@@ -92,6 +97,16 @@ fn records() {
         let count = panel.write_records(Axis::Columns, panel.items(Axis::Columns), first, &mut part).unwrap();
         assert_eq!((count, &part[..3 * count], part[30]), (10.min(71 - first as usize), &whole[3 * first as usize..][..3 * count], 7));
     }
+}
+
+/// Every source, in the order of its tracks.
+#[test]
+fn sources() {
+    let sheet = b"area\ta\t1\t2\t1\t4\ntrack\tc\tauto\t00000000\tauto\t00000000\nextra\tc\t1\t1\n";
+    let records = Panel::read(sheet).unwrap().records(Axis::Columns);
+    let found: Vec<Source> = records.iter().map(|record| record.source).filter(|&source| source != Source::Gutter).collect();
+    assert_eq!(found, [Source::Negative, Source::Template, Source::Area, Source::Area, Source::Positive]);
+    assert!(records.iter().step_by(2).all(|record| record.gutter && record.source == Source::Gutter));
 }
 
 #[test]

@@ -153,7 +153,7 @@ def css_records(state, letter, records):
     for j, (track, fit) in enumerate(css.template_tracks(axis, rules.repetitions(axis)), start=1):
         index = 2 * (axis.negative + j) - 1
         empty = fit and axis.negative + j - 1 not in axis.items
-        if records[index] != rules.record(index, "track", empty, track):
+        if rules.bare(records[index]) != rules.record(index, "track", empty, track):
             return f"CSS: record {index} of {letter}: {records[index]!r}"
     return None
 
@@ -169,8 +169,18 @@ def css_invalid(state, letter):
         return f"CSS: the invalid template of {letter} counts"
     for place in range(spanned + axis.positive):
         index = 2 * (axis.negative + place) + 1
-        if state.records[letter][index] != rules.record(index, "track", False, css.implicit_size(axis, place) or rules.AUTO_TRACK):
+        if rules.bare(state.records[letter][index]) != rules.record(index, "track", False, css.implicit_size(axis, place) or rules.AUTO_TRACK):
             return f"CSS: record {index} of {letter}, beside an invalid template: {state.records[letter][index]!r}"
+    return None
+
+
+def css_sources(state, letter, records):
+    """The source of each record by CSS's account of explicit and implicit tracks."""
+    axis = state.panel.axes[letter]
+    sources = css.Sources(axis, rules.repetitions(axis), state.explicit[letter])
+    for index, record in enumerate(records):
+        if record.rpartition("\t")[2] != sources.of_record(index):
+            return f"CSS: source of record {index} of {letter}: {record!r}"
     return None
 
 
@@ -191,6 +201,7 @@ def css_differences(state):
     differences += [css_invalid(state, letter) for letter in model.LETTERS]
     differences += [None if css.gutters_fall_into_one(state.records[letter]) else f"CSS: gutters of {letter}"
                     for letter in model.LETTERS]
+    differences += [css_sources(state, letter, state.records[letter]) for letter in model.LETTERS]
     demand = demand_lines(state)
     if demand is None:
         return differences, False
@@ -253,7 +264,7 @@ def calls_difference(answer, sheet, lines):
 
 def compare_accepted(answer, rust, sheet):
     state = answer.state
-    full = answer.output + answer.names + model.count_lines(state)
+    full = list(map(rules.bare, answer.output)) + answer.names + model.count_lines(state)
     lines = rust.ask(asked_of_the_rust(sheet, state.panel), state.accepted)
     differences = [first_difference("Rust", full, lines)]
     if not differences[0]:

@@ -161,6 +161,34 @@ def implicit_size(axis, place):
     return axis.spares[place % len(axis.spares)] if axis.spares else None
 
 
+class Sources:
+    """Where each record comes from: m implicit tracks, then the explicit grid, which is the larger of the template's tracks and the
+    areas', then implicit tracks again."""
+
+    def __init__(self, axis, repetitions, explicit):
+        self.first = axis.negative
+        self.end = axis.negative + explicit
+        # One past the last track that each component writes, and whether it is an automatic repeat.
+        self.written = []
+        end = self.first
+        for component in counted(axis).components:
+            end += times(component, repetitions) * len(component.tracks)
+            self.written.append((end, component.count in ("fill", "fit")))
+
+    def of_record(self, index):
+        return "-" if index % 2 == 0 else self.of_track(index // 2)
+
+    def of_track(self, place):
+        if place < self.first:
+            return "n"
+        if place >= self.end:
+            return "p"
+        for end, automatic in self.written:
+            if place < end:
+                return "a" if automatic else "t"
+        return "g"
+
+
 def gutters_fall_into_one(records):
     """Whether just one gutter is left between two neighbouring open tracks, and none at the edges.
 

@@ -28,7 +28,7 @@ def invalid_sheets():
     yield "repeated no times", repeat(0, TRACK) + ["name\tc\tx", f"track\tc\t{TRACK}", place_line(X + "-1")], ["size\tc\t0\t0"] + placed("line -2 auto 0")
     yield "filled by no fixed part", drawn + repeat("fill", TRACK) + ["name\tc\tx", place_line(X + "1")], ["size\tc\t0\t1"] + placed("line 3 auto 0")
     yield "filled twice", repeat("fill", ONE) * 2 + ["name\tc\tx", place_line(X + "1")], ["size\tc\t0\t0"] + placed("line 2 auto 0")
-    yield "area over no template", drawn + [f"track\tc\t{ONE}"] + repeat("fill", TRACK), ["size\tc\t0\t1", f"1\ttrack\tn\t{TRACK}"]
+    yield "area over no template", drawn + [f"track\tc\t{ONE}"] + repeat("fill", TRACK), ["size\tc\t0\t1", f"1\ttrack\tn\t{TRACK}\tg"]
     yield "names without a track", ["name\tc\tx", place_line(X + "-1")], placed("line -2 auto 0")
     yield "repeat without a track", ["repeat\tc\t2", "name\tc\tx", "end\tc", place_line(X + "-1")], placed("line -2 auto 0")
     yield "bench four", [axis_line("43a00000"), "area\tlevel\t1\t2\t2\t3"] + repeat("fill", "len\t42c80000\tlen\t42c80000") + \
@@ -55,7 +55,7 @@ def worded_sheets():
         ["size\tc\t0\t3"] + placed("line 1 line 4")
     yield "words of CSS as names", ["name\tc\tspan", f"track\tc\t{TRACK}", "name\tc\tauto", place_line("named\tspan\t1", "named\tauto\t1")], \
         placed("line 1 line 2")
-    yield "minimum beside fit-content", ["track\tc\tlen\t3f800000\tfitl\t3f800000"], ["1\ttrack\tn\tlen\t3f800000\tfitl\t3f800000"]
+    yield "minimum beside fit-content", ["track\tc\tlen\t3f800000\tfitl\t3f800000"], ["1\ttrack\tn\tlen\t3f800000\tfitl\t3f800000\tt"]
     yield "name without a number", ["area\ta\t1\t2\t2\t3", place_line(X + "0"), place_line("named\ta\t0", "named\ta\t0")], \
         placed("line 4 auto 0", "line 2 line 3")
     yield "line 0", [place_line("line\t-\t0"), place_line("line\t-\t0", "nspan\tx\t1")], placed("line 0 auto 0", "line 0 span 1")

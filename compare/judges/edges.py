@@ -32,9 +32,10 @@ SHEETS = {
     "M11": (["area\ta\t1\t2\t2\t4", "name\tc\ta-start", TRACK_100, TRACK_100, TRACK_100,
              "place\tc\tnamed\ta\t0\tnamed\ta-start\t2"], ["place\tc\tline\t1\tline\t2"]),
     "M12": (["axis\tc\t43960000\tmax\tlen\t00000000", "repeat\tc\tfit", TRACK_100, "end\tc", "item\tc\t1"],
-            ["size\tc\t3\t3", "3\ttrack\tn\tlen\t42c80000\tlen\t42c80000"]
-            + [f"{index}\t{kind}\ty\tlen\t00000000\tlen\t00000000"
-               for index, kind in ((0, "gutter"), (1, "track"), (2, "gutter"), (4, "gutter"), (5, "track"), (6, "gutter"))]),
+            ["size\tc\t3\t3", "3\ttrack\tn\tlen\t42c80000\tlen\t42c80000\ta"]
+            + [f"{index}\t{kind}\ty\tlen\t00000000\tlen\t00000000\t{source}"
+               for index, kind, source in ((0, "gutter", "-"), (1, "track", "a"), (2, "gutter", "-"), (4, "gutter", "-"),
+                                           (5, "track", "a"), (6, "gutter", "-"))]),
 }
 
 

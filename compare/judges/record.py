@@ -54,11 +54,13 @@ class Case:
         self.lines = self.answer_lines(rust)
 
     def answer_lines(self, rust):
-        """The Rust's lines where it speaks; the model's for refusals and the numbers of calls."""
+        """The Rust's lines where it speaks, a record's source after them; the model's for refusals and the numbers of calls."""
         if self.refused:
             return self.answer.output
         asked = asked_of_the_rust(self.sheet, self.answer.state.panel)
         lines = rust.ask(asked, self.answer.state.accepted)[:-2]
+        own = self.answer.output + self.answer.names
+        lines = [rules.with_source(line, beside) for line, beside in zip(lines, own, strict=True)]
         return [model.entry_line(number) for number in self.answer.numbers] + lines
 
     def block(self, cut=False):

@@ -430,19 +430,38 @@ def holds_item(axis, place):
     return place in axis.items
 
 
+# Document 02, Req 08: where each track came from, in its letters.
+
+def written_sources(axis):
+    """Of each track that the template writes out: an automatic repeat, or the template otherwise."""
+    sources = []
+    automatic = repetitions(axis)
+    for component in counted_components(axis):
+        count = min(written_tracks(component, automatic), FURTHEST)
+        sources += ["a" if component.automatic() else "t"] * count
+    return sources
+
+
+def sources(axis, explicit):
+    """Negative implicit, template or automatic repeat, area only, positive implicit; collapsing keeps them."""
+    template = written_sources(axis)[:explicit]
+    return ["n"] * axis.negative + template + ["g"] * (explicit - len(template)) + ["p"] * axis.positive
+
+
 def records(axis, explicit):
     """The lines of the 2N + 1 records."""
     tracks = all_tracks(axis, explicit)
+    source = sources(axis, explicit)
     collapsed = [fit and not holds_item(axis, place) for place, (_, fit) in enumerate(tracks)]
     gutters = collapsed_gutters(tracks, collapsed)
     # One text for each track of the sheet, however often it is written.
     texts = {key: sizes_text(False, track) for key, track in {id(track): track for track, _ in tracks}.items()}
     gap = sizes_text(False, Track(axis.gap, axis.gap))
     none = sizes_text(True, None)
-    lines = [f"0\tgutter\t{none if gutters[0] else gap}"]
+    lines = [f"0\tgutter\t{none if gutters[0] else gap}\t-"]
     for place, (track, _) in enumerate(tracks):
-        lines.append(f"{2 * place + 1}\ttrack\t{none if collapsed[place] else texts[id(track)]}")
-        lines.append(f"{2 * place + 2}\tgutter\t{none if gutters[place + 1] else gap}")
+        lines.append(f"{2 * place + 1}\ttrack\t{none if collapsed[place] else texts[id(track)]}\t{source[place]}")
+        lines.append(f"{2 * place + 2}\tgutter\t{none if gutters[place + 1] else gap}\t-")
     return lines
 
 
@@ -454,4 +473,19 @@ def sizes_text(collapsed, track):
 
 
 def record(index, kind, collapsed, track):
+    """A record's line without its source."""
     return f"{index}\t{kind}\t{sizes_text(collapsed, track)}"
+
+
+def is_record(line):
+    return line[:1].isdigit()
+
+
+def bare(line):
+    """A line of the answer as the Rust has it: a record without its source."""
+    return line.rpartition("\t")[0] if is_record(line) else line
+
+
+def with_source(line, own):
+    """The Rust's line, and after a record the source of the model's line."""
+    return line + "\t" + own.rpartition("\t")[2] if is_record(line) else line

@@ -299,6 +299,39 @@ FOUND_BY_THE_RUST = {
 }
 
 
+# Wrong sources of tracks, of which the Rust has none: found by CSS's account of explicit and implicit tracks.
+
+def areas_are_positive(axis, explicit):
+    template = rules.written_sources(axis)[:explicit]
+    return ["n"] * axis.negative + template + ["p"] * (explicit - len(template) + axis.positive)
+
+
+def one_area_more(axis, explicit):
+    sources = right_sources(axis, explicit)
+    end = axis.negative + explicit
+    return sources[:end] + ["g"] * (axis.positive > 0) + sources[end + 1:]
+
+
+def sources_by(is_automatic):
+    """Another reading of what an automatic repeat is."""
+    def written(axis):
+        automatic = rules.repetitions(axis)
+        return [letter for component in axis.components
+                for letter in ("a" if is_automatic(component) else "t") * min(rules.written_tracks(component, automatic), FURTHEST)]
+    return written
+
+
+right_sources = rules.sources
+
+FOUND_BY_CSS = {
+    "a track that only an area makes positive": (rules, "sources", areas_are_positive),
+    "the first positive track an area's": (rules, "sources", one_area_more),
+    "a counted repeat automatic": (rules, "written_sources", sources_by(lambda component: component.count is not None)),
+    "only `fit` an automatic repeat": (rules, "written_sources", sources_by(lambda component: component.count == "fit")),
+    "only `fill` an automatic repeat": (rules, "written_sources", sources_by(lambda component: component.count == "fill")),
+}
+
+
 def without_fault(number):
     """A reader that never sees a fault."""
     class Blind(set):

@@ -13,6 +13,7 @@ SEED = 20
 FROM_THE_RUST = ("Rust", "cut count", "entry count")
 FROM_A_DAMAGE = ("damage",)
 FROM_THE_RECOUNT = ("calls",)
+FROM_CSS = ("CSS",)
 # Readings that no answer of a panel shows, and why.
 NOT_BY_THE_LIBRARY = {"the gaps of tracks past 10,000 counted": "a panel of more than 10,000 tracks is refused by 4"}
 
@@ -113,7 +114,7 @@ def try_library(sheets):
     print("found by the library's answers:")
     for name, reason in NOT_BY_THE_LIBRARY.items():
         print(f"  none | {name} | {reason}")
-    readings = {**wrong.FOUND_BY_THE_RUST, **wrong.FOUND_BY_DAMAGE, **wrong.FOUND_BY_RECOUNT}
+    readings = {**wrong.FOUND_BY_THE_RUST, **wrong.FOUND_BY_DAMAGE, **wrong.FOUND_BY_RECOUNT, **wrong.FOUND_BY_CSS}
     asked = {name: reading for name, reading in readings.items() if name not in NOT_BY_THE_LIBRARY}
     library = Library(build_library(archive))
     missed = try_all(asked, sheets, ByTheLibrary(library))
@@ -130,9 +131,10 @@ def main():
     missed = try_all(wrong.FOUND_BY_THE_RUST, sheets, ByTheJudges(asked, FROM_THE_RUST))
     missed += try_all(wrong.FOUND_BY_DAMAGE, sheets, ByTheJudges(asked, FROM_A_DAMAGE))
     missed += try_all(wrong.FOUND_BY_RECOUNT, sheets, ByTheJudges(asked, FROM_THE_RECOUNT))
+    missed += try_all(wrong.FOUND_BY_CSS, sheets, ByTheJudges(asked, FROM_CSS))
     rust.close()
     missed += try_library(sheets)
-    count = len(wrong.FOUND_BY_THE_RUST) + len(wrong.FOUND_BY_DAMAGE) + len(wrong.FOUND_BY_RECOUNT)
+    count = sum(map(len, (wrong.FOUND_BY_THE_RUST, wrong.FOUND_BY_DAMAGE, wrong.FOUND_BY_RECOUNT, wrong.FOUND_BY_CSS)))
     print(f"{count} wrong readings, {missed} not found")
     return 1 if missed else 0
 

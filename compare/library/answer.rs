@@ -1,5 +1,5 @@
 //! A panel's answers in the output form of document 01, its line names, and the number of its name entries.
-use crate::palgwern::{Axis, End, Panel, Placement, Record, Refusal, Size};
+use crate::palgwern::{Axis, End, Panel, Placement, Record, Refusal, Size, Source};
 use std::io::Write;
 
 const AXES: [Axis; 2] = [Axis::Columns, Axis::Rows];
@@ -24,12 +24,24 @@ fn kind_and_value(size: Size) -> (&'static str, f32) {
     }
 }
 
+fn source_letter(source: Source) -> char {
+    match source {
+        Source::Negative => 'n',
+        Source::Template => 't',
+        Source::Automatic => 'a',
+        Source::Area => 'g',
+        Source::Positive => 'p',
+        Source::Gutter => '-',
+    }
+}
+
 fn print_record(out: &mut Vec<u8>, index: usize, record: &Record) {
     let kind = if record.gutter { "gutter" } else { "track" };
+    let source = source_letter(record.source);
     let collapsed = if record.collapsed { 'y' } else { 'n' };
     let (low, least) = kind_and_value(record.minimum);
     let (high, most) = kind_and_value(record.maximum);
-    writeln!(out, "{index}\t{kind}\t{collapsed}\t{low}\t{:08x}\t{high}\t{:08x}", least.to_bits(), most.to_bits()).unwrap();
+    writeln!(out, "{index}\t{kind}\t{collapsed}\t{low}\t{:08x}\t{high}\t{:08x}\t{source}", least.to_bits(), most.to_bits()).unwrap();
 }
 
 fn print_axis(out: &mut Vec<u8>, panel: &Panel, axis: Axis) {

@@ -5,7 +5,7 @@ use crate::palgwern::{raw, AREA_NAMES_START};
 use std::sync::atomic::{AtomicUsize, Ordering};
 
 /// The faults, from 1 on.
-pub const FAULTS: [&str; 31] = [
+pub const FAULTS: [&str; 32] = [
     "a refused sheet changes a word",
     "a word that the tables held reaches the panel",
     "a sheet writes past the words",
@@ -37,6 +37,7 @@ pub const FAULTS: [&str; 31] = [
     "placements with a short store are not refused",
     "line names are written past their run",
     "line names with a short store are not refused",
+    "a track has the source of a gutter",
 ];
 
 /// The fault in place, 0 for none.
@@ -118,6 +119,7 @@ pub fn in_records(lent: &mut Lent, answer: &mut raw::CountAnswer) {
         18 if answer.number == 0 => answer.count -= 1,
         19 if answer.number == 10 => answer.count = 3,
         20 if answer.number == 0 => words[0] ^= 2,
+        32 if answer.number == 0 => words.chunks_mut(3).take(end / 3).filter(|record| record[0] & 1 == 0).for_each(|record| record[0] = 20),
         _ => (),
     }
 }

@@ -145,9 +145,14 @@ pub fn line_name(lent: &Lent, grid: Grid, numbers: Numbers) -> (u32, Promises) {
     (answer.number, promises)
 }
 
-/// Whether the words of records are such: a kind, and two sizes.
+/// Whether a record's first word is such: a gutter has source 5, a track one below it.
+fn is_kind(word: u64) -> bool {
+    word < 24 && (word & 1 == 1) == (word >> 2 == 5)
+}
+
+/// Whether the words of records are such: a kind with its source, and two sizes.
 fn are_records(words: &[u64]) -> bool {
-    words.chunks(3).all(|record| record[0] <= 3 && record[1] >> 32 <= 7 && record[2] >> 32 <= 7)
+    words.chunks(3).all(|record| is_kind(record[0]) && record[1] >> 32 <= 7 && record[2] >> 32 <= 7)
 }
 
 /// Whether a run that starts one record further holds the same records.
@@ -171,7 +176,7 @@ pub fn records(lent: &Lent, grid: Grid, numbers: Numbers) -> (u32, Promises) {
     promises.push(("only the words lent are written", after.is_but_for(lent, &[(RUN, lent.words[RUN].whole())], &[])));
     promises.push(("as many records are written as there are and fit", !accepted || answer.count == there.min(fit)));
     promises.push(("words past the records stay", written[end..] == lent_words[end..]));
-    promises.push(("a record has a kind and two sizes", are_records(&written[..end])));
+    promises.push(("a record has a kind, a source and two sizes", are_records(&written[..end])));
     promises.push(("a record that isn't there is refused by 4", there != 0 || answer.number == 4));
     promises.push(("words for no record are refused", fit != 0 || !accepted));
     promises.push(("fewer item bytes than tracks are refused", !few_items || !accepted));

@@ -1,5 +1,5 @@
 -- Track records as numbers, three words each, a run of them at a time.
-use Prim.Native.Nat.{ℕ, zero, suc, _+_, _-_, _/_, min}
+use Prim.Native.Nat.{ℕ, zero, suc, _+_, _*_, _-_, _/_, min}
 use mathlib.Core.Bool.{cond, _||_}
 use mathlib.Core.List.{List, [], _∷_, _++_}
 use lib.Dec.{eqb, leb, ltb}
@@ -11,6 +11,8 @@ use Rattle.sizing.specs.Words.{sizeWordOf, kindOf, bitsOf}
 use Rattle.track_rules.specs.declared.GridTrack.{GridTrack}
 use Rattle.track_rules.specs.declared.GridTrackKind.{GridTrackKind}
 use Rattle.track_rules.specs.declared.GridTrackKind.the-variants.{Track, Gutter}
+use Rattle.track_rules.specs.declared.TrackSource.{TrackSource}
+use Rattle.track_rules.specs.declared.TrackSource.the-variants as Source
 use Rattle.track_rules.specs.Records.{tracksIn, recordsIn}
 use Rattle.axis_tables.specs.declared.AxisGrid.{AxisGrid}
 use Rattle.panel_tables.specs.declared.Grid.{Grid}
@@ -27,15 +29,24 @@ abbrev pub kindNumber : GridTrackKind → ℕ
 kindNumber Track = 0
 kindNumber Gutter = 1
 
--- its kind, and 2 more where it is collapsed
+-- in the order of document 02, Req 08: negative implicit, template, automatic repeat, area only, positive implicit, gutter
+abbrev pub sourceNumber : TrackSource → ℕ
+sourceNumber Source.Negative = 0
+sourceNumber Source.Template = 1
+sourceNumber Source.Automatic = 2
+sourceNumber Source.Area = 3
+sourceNumber Source.Positive = 4
+sourceNumber Source.Gutter = 5
+
+-- the number of its kind, 2 more where it is collapsed, and 4 times the number of its source
 abbrev pub kindWord : GridTrack → ℕ
-kindWord r = kindNumber (r .kind) + cond (r .collapsed) 2 0
+kindWord r = kindNumber (r .kind) + cond (r .collapsed) 2 0 + 4 * sourceNumber (r .source)
 
 -- a size: its kind times 2^32, and the bits of its f32
 abbrev pub sizeWord : Sizing → ℕ
 sizeWord s = sizeWordOf (kindOf s) (bitsOf s)
 
--- kind, minimum, maximum
+-- kind and source, minimum, maximum
 abbrev pub recordWords : GridTrack → List ℕ
 recordWords r = kindWord r ∷ sizeWord (r .size .min) ∷ sizeWord (r .size .max) ∷ []
 

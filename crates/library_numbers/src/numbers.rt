@@ -2,7 +2,7 @@
 ghost use mathlib.Core.Path.{_≡_};
 ghost use Rattle.name_resolver.specs.Placements.{resolvedKindOf, resolvedNumberOf};
 ghost use Rattle.library_numbers.specs.Answers.{counted, uncounted, placementNumbers};
-ghost use Rattle.library_numbers.specs.Records.{kindNumber, sizeWord};
+ghost use Rattle.library_numbers.specs.Records.{kindNumber, sourceNumber, sizeWord};
 use crate::CountAnswer;
 use crate::PlacementNumbers;
 use crate::axis::axis_number;
@@ -10,6 +10,7 @@ use name_resolver::NonNamedGridPlacement;
 use panel_rules::PlacementAnswer;
 use sizing::Sizing;
 use track_rules::GridTrackKind;
+use track_rules::TrackSource;
 
 // A count.
 pub fn counted(count: u64) -> CountAnswer
@@ -73,6 +74,20 @@ pub fn kind_number(kind: GridTrackKind) -> u64
     match kind {
         GridTrackKind::Track => 0,
         GridTrackKind::Gutter => 1,
+    }
+}
+
+// The number of a record's source.
+pub fn source_number(source: TrackSource) -> u64
+    ensures { λ r. ⌜ r ≡ sourceNumber source ⌝ }
+{
+    match source {
+        TrackSource::Negative => 0,
+        TrackSource::Template => 1,
+        TrackSource::Automatic => 2,
+        TrackSource::Area => 3,
+        TrackSource::Positive => 4,
+        TrackSource::Gutter => 5,
     }
 }
 

@@ -9,7 +9,8 @@ use mathlib.Core.Path.{_≡_, refl, sym, ap, ap₂, subst, _∙_}
 use mathlib.Core.List.{List}
 use lib.ListN.{length, getD, drop, length-take}
 use Rattle.template_rules.specs.Template.{componentOf, trackAt, templateOf}
-use Rattle.track_rules.specs.declared.WrittenTrack.{WrittenTrack}
+use Rattle.track_rules.specs.declared.TrackSource.the-variants.{Template}
+use Rattle.track_rules.specs.Written.{written}
 use Rattle.track_rules.specs.Records.{itemAt}
 use Rattle.track_rules.specs.Steps.{wordTotal, wordTotals, sumOf, cursor, cursorOf, writtenAt}
 use Rattle.axis_tables.specs.declared.AxisGrid.{AxisGrid}
@@ -42,8 +43,8 @@ module _ (r : ℕ) (ws mi ma : List ℕ) where
       let w = getD ws k 0 in
       let z : t + d + j - (t + d) ≡ j = omega arith in
       let s : offset + (t + d + j - t) ≡ offset + d + j = omega arith in
-      ap (λ (i : ℕ). pairWords g (itemAt items) (t + d + j) (trackAt mi ma (componentOf w .first + (o + i) % componentOf w .length)) (repeatedOf w .fit)) z
-      ∙ sym (ap (λ (y : WrittenTrack). pairWords g (itemAt items) (t + d + j) (y .size) (y .fit))
+      ap (λ (i : ℕ). pairWords g (itemAt items) (t + d + j) (written (componentOf w .count) (trackAt mi ma (componentOf w .first + (o + i) % componentOf w .length)))) z
+      ∙ sym (ap (pairWords g (itemAt items) (t + d + j))
       (ap (λ (i : ℕ). writtenAt (templateOf ws mi ma) (cursorOf (totals r ws) i)) s ∙ track-here r ws mi ma (offset + d) k o n m h small e j less))
 
   -- a part of the template that is taken where `d` of `count` tracks are done, from track `offset` on
@@ -113,7 +114,7 @@ module _ (r : ℕ) (ws mi ma : List ℕ) where
           let there : Runs r ws (offset + (d + j)) (k + j) 0 (n - j) =
           let s : offset + (d + j) ≡ offset + d + j = omega arith in rw s (row-runs r ws k first n m row small (offset + d) at-start j (omega arith)) in
           ap (λ (y : TemplatePart). partPair mi ma items (y .repeated) o (t + d) g (t + d + j)) e
-          ∙ ap₂ (λ (y v : ℕ). pairWords g (itemAt items) v (trackAt mi ma y) false) place u
+          ∙ ap₂ (λ (y v : ℕ). pairWords g (itemAt items) v (record { size = trackAt mi ma y; source = Template; fit = false })) place u
           ∙ ap (λ (y : Repeated). partPair mi ma items y 0 (t + (d + j)) g (t + (d + j) + 0)) (sym (single-repeated (first + j) (getD ws (k + j) 0) single))
           ∙ pair-here items g offset t (d + j) (k + j) 0 (n - j) 1 there (omega (arith, h, row-held r ws k first n m row small)) (row-one r ws k first n m row small j h) 0 (omega arith)
           ∙ ap (templatePair (totals r ws) (templateOf ws mi ma) items offset t g) (sym u)

@@ -9,9 +9,10 @@ use lib.Dec.{leb}
 use mathlib.Core.List.{List, [], _∷_, _++_, append-assoc, append-nil}
 use lib.ListN.{length, getD, set, length-append, length-set}
 use lib.Seq.{sets}
-use Rattle.sizing.specs.declared.MinMax.{MinMax}
 use Rattle.sizing.specs.Words.{minMaxOf}
+use Rattle.track_rules.specs.declared.WrittenTrack.{WrittenTrack}
 use Rattle.track_rules.specs.Records.{itemAt}
+use Rattle.library_numbers.specs.Records.{sourceNumber}
 use Rattle.library_records.specs.declared.Gutters.{Gutters}
 use Rattle.track_record.specs.declared.Repeated.{Repeated}
 use Rattle.library_records.specs.Pairs.{wordOf, recordNumbers, pairWords, joined, partPair}
@@ -31,21 +32,21 @@ pub third-place : (l : List ℕ) (place k low : ℕ) → place + 3 ≤ length l 
 third-place l place k low h = rw (length-set (set l place k) (place + 1) low, length-set l place k) (omega arith)
 
 -- its words one by one
-pub put-three : (l : List ℕ) (place kind : ℕ) (closed : Bool) (low high k m n : ℕ) → k ≡ kind + cond closed 2 0 → m ≡ cond closed 0 low → n ≡ cond closed 0 high →
-    set (set (set l place k) (place + 1) m) (place + 2) n ≡ sets l place (recordNumbers kind closed low high)
-put-three l place kind closed low high k m n e f g = rw (e, f, g, add-one place, add-two place)
+pub put-three : (l : List ℕ) (place kind source : ℕ) (closed : Bool) (low high k m n : ℕ) → k ≡ kind + cond closed 2 0 + 4 * source → m ≡ cond closed 0 low → n ≡ cond closed 0 high →
+    set (set (set l place k) (place + 1) m) (place + 2) n ≡ sets l place (recordNumbers kind source closed low high)
+put-three l place kind source closed low high k m n e f g = rw (e, f, g, add-one place, add-two place)
 
 -- two records are a pair
 pub put-two : (l once twice : List ℕ) (place : ℕ) (a b : List ℕ) → length a ≡ 3 → once ≡ sets l place a → twice ≡ sets once (place + 3) b → twice ≡ sets l place (a ++ b)
 put-two l once twice place a b three e f =
     f ∙ ap₂ (λ (x : List ℕ) (n : ℕ). sets x (place + n) b) e (sym three) ∙ sym (sets-on l place a b)
 
-pub put-pair : (g : Gutters) (item : ℕ → Bool) (t : ℕ) (size : MinMax) (fit : Bool) (l once twice : List ℕ) (place : ℕ) (closed shut : Bool) (low high : ℕ) →
-    closed ≡ (fit && not (item t)) → shut ≡ (closed || leb (g .opened) (t + 1)) → low ≡ wordOf (size .min) → high ≡ wordOf (size .max) →
-    once ≡ sets l place (recordNumbers 0 closed low high) → twice ≡ sets once (place + 3) (recordNumbers 1 shut (g .gap) (g .gap)) →
-    twice ≡ sets l place (pairWords g item t size fit)
-put-pair g item t size fit l once twice place closed shut low high e f m n x y =
-    put-two l once twice place (recordNumbers 0 closed low high) (recordNumbers 1 shut (g .gap) (g .gap)) refl x y ∙ rw (f, e, m, n, add-one t)
+pub put-pair : (g : Gutters) (item : ℕ → Bool) (t : ℕ) (w : WrittenTrack) (l once twice : List ℕ) (place : ℕ) (closed shut : Bool) (source low high : ℕ) →
+    source ≡ sourceNumber (w .source) → closed ≡ (w .fit && not (item t)) → shut ≡ (closed || leb (g .opened) (t + 1)) → low ≡ wordOf (w .size .min) → high ≡ wordOf (w .size .max) →
+    once ≡ sets l place (recordNumbers 0 source closed low high) → twice ≡ sets once (place + 3) (recordNumbers 1 5 shut (g .gap) (g .gap)) →
+    twice ≡ sets l place (pairWords g item t w)
+put-pair g item t w l once twice place closed shut source low high s e f m n x y =
+    put-two l once twice place (recordNumbers 0 source closed low high) (recordNumbers 1 5 shut (g .gap) (g .gap)) refl x y ∙ rw (f, s, e, m, n, add-one t)
 
 module _ (pair : ℕ → List ℕ) where
   pub joined-none : (t : ℕ) → joined pair t 0 ≡ []
@@ -105,6 +106,11 @@ module _ (pair : ℕ → List ℕ) where
       ap₂ (λ (l : List ℕ) (i : ℕ). sets l (place + i) rest) e (sym (joined-length k all t m)) ∙ sym (sets-on lent place (joined pair t m) rest)
       ∙ ap (sets lent place) (sym (joined-split t m (n - m)) ∙ ap (joined pair t) whole)
 
+  -- two runs one after the other
+  pub two-runs : (k : ℕ) → ((u : ℕ) → length (pair u) ≡ k) → (lent once twice : List ℕ) (place t count m : ℕ) → m ≤ count →
+      once ≡ sets lent place (joined pair t m) → twice ≡ sets once (place + k * m) (joined pair (t + m) (count - m)) → twice ≡ sets lent place (joined pair t count)
+  two-runs k all lent once twice place t count m h e f = f ∙ sets-split k all lent once place t count m h e
+
   -- three runs one after the other
   pub three-runs : (k : ℕ) → ((u : ℕ) → length (pair u) ≡ k) → (lent once twice thrice : List ℕ) (place t count m n : ℕ) → m ≤ count → n ≤ count - m →
       once ≡ sets lent place (joined pair t m) → twice ≡ sets once (place + k * m) (joined pair (t + m) n) →
@@ -123,8 +129,12 @@ joined-same f g t (suc n) h =
     (joined-same f g (suc t) n (λ j k. let e : suc t + j ≡ t + suc j = omega arith in rw e (h (suc j) (omega arith))))
 
 -- the track at a place among those that repeat
+abbrev placed : List ℕ → List ℕ → Repeated → ℕ → WrittenTrack
+placed mi ma part inner =
+    record { size = minMaxOf (getD mi (part .first + inner) 0) (getD ma (part .first + inner) 0); source = part .source; fit = part .fit }
+
 pub part-at : (mi ma items : List ℕ) (part : Repeated) (offset t : ℕ) (g : Gutters) (i inner : ℕ) → inner ≡ (offset + i) % part .length →
-    pairWords g (itemAt items) (t + i) (minMaxOf (getD mi (part .first + inner) 0) (getD ma (part .first + inner) 0)) (part .fit) ≡ partPair mi ma items part offset t g (t + i)
+    pairWords g (itemAt items) (t + i) (placed mi ma part inner) ≡ partPair mi ma items part offset t g (t + i)
 part-at mi ma items part offset t g i inner e =
     let z : t + i - t ≡ i = omega arith in
-    ap (λ (n : ℕ). pairWords g (itemAt items) (t + i) (minMaxOf (getD mi (part .first + n) 0) (getD ma (part .first + n) 0)) (part .fit)) (e ∙ ap (λ (n : ℕ). (offset + n) % part .length) (sym z))
+    ap (λ (n : ℕ). pairWords g (itemAt items) (t + i) (placed mi ma part n)) (e ∙ ap (λ (n : ℕ). (offset + n) % part .length) (sym z))

@@ -20,6 +20,8 @@ use Rattle.coordinates.specs.Refusals.{count, short}
 use Rattle.track_rules.specs.declared.GridTrack.{GridTrack}
 use Rattle.track_rules.specs.declared.GridTrackKind.{GridTrackKind}
 use Rattle.track_rules.specs.declared.GridTrackKind.the-variants.{Track, Gutter}
+use Rattle.track_rules.specs.declared.TrackSource.{TrackSource}
+use Rattle.track_rules.specs.declared.TrackSource.the-variants as Source
 use Rattle.track_rules.specs.declared.RecordAnswer.{RecordAnswer}
 use Rattle.track_rules.specs.Records.{tracksIn, recordsIn, itemAt, closedBy}
 use Rattle.track_rules.specs.declared.AxisTracks.{AxisTracks}
@@ -37,9 +39,10 @@ use Rattle.axis_tables.specs.Runs.{partOf}
 use Rattle.track_run.specs.Steps.{stateRecord}
 use Rattle.panel_rules.specs.Calls.{axisTracks, templateIn, sparesIn}
 use Rattle.panel_calls.proofs.Carried.{carried-answer}
+use Rattle.library_numbers.proofs.RecordKinds.{kind-small, source-small}
 use Rattle.library_records.specs.Pairs.{recordNumbers, joined, axisPair, recordAt}
 use Rattle.library_records.proofs.Pairs.{joined-none, joined-one, three-runs}
-use Rattle.library_numbers.specs.Records.{kindNumber, sizeWord, recordWords, runWords, runRefusal, runCount}
+use Rattle.library_numbers.specs.Records.{kindNumber, sourceNumber, sizeWord, recordWords, runWords, runRefusal, runCount}
 
 -- ---- which records there are and fit
 
@@ -112,12 +115,12 @@ tail-room room count head h k = omega arith
 zero-word : 0 ≡ sizeWord (Length zero32)
 zero-word = omega (arith, bits-back 0 (omega arith))
 
-track-words : (size : MinMax) (closed : Bool) → recordNumbers 0 closed (sizeWord (size .min)) (sizeWord (size .max)) ≡ recordWords (trackOf size closed)
-track-words size true = ap (λ (n : ℕ). 2 ∷ n ∷ n ∷ []) zero-word
-track-words size false = refl
+track-words : (x : WrittenTrack) (closed : Bool) → recordNumbers 0 (sourceNumber (x .source)) closed (sizeWord (x .size .min)) (sizeWord (x .size .max)) ≡ recordWords (trackOf x closed)
+track-words x true = ap (λ (n : ℕ). (0 + 2 + 4 * sourceNumber (x .source)) ∷ n ∷ n ∷ []) zero-word
+track-words x false = refl
 
-gutter-words : (gap : Sizing) (closed : Bool) → recordNumbers 1 closed (sizeWord gap) (sizeWord gap) ≡ recordWords (gutterOf gap closed)
-gutter-words gap true = ap (λ (n : ℕ). 3 ∷ n ∷ n ∷ []) zero-word
+gutter-words : (gap : Sizing) (closed : Bool) → recordNumbers 1 5 closed (sizeWord gap) (sizeWord gap) ≡ recordWords (gutterOf gap closed)
+gutter-words gap true = ap (λ (n : ℕ). 23 ∷ n ∷ n ∷ []) zero-word
 gutter-words gap false = refl
 
 module _ (a : AxisTracks) (cs : List Component) (sp : List MinMax) (items : List ℕ) where
@@ -134,12 +137,12 @@ module _ (a : AxisTracks) (cs : List Component) (sp : List MinMax) (items : List
         let half : 2 * t / 2 ≡ t = omega arith in
         let next : suc (2 * t) / 2 ≡ t = omega arith in
         let after : suc (suc (2 * t)) / 2 ≡ suc t = omega arith in
-        let odd : recordOf a cs sp (itemAt items) (suc (2 * t)) ≡ trackOf (x .size) shut =
+        let odd : recordOf a cs sp (itemAt items) (suc (2 * t)) ≡ trackOf x shut =
         record-later a cs sp (itemAt items) (2 * t) ∙ rw (ne-eqb (suc (2 * t) % 2) 0 (λ e. omega arith), half) in
         let even : recordOf a cs sp (itemAt items) (suc (suc (2 * t))) ≡ gutterOf (a .gap) (shut || leb (planOf a cs (itemAt items) .opened) (suc t)) =
         record-later a cs sp (itemAt items) (suc (2 * t)) ∙ rw (eq-eqb (suc (suc (2 * t)) % 2) 0 (omega arith), next, after) in
-        ap₂ _++_ (track-words (x .size) shut ∙ ap recordWords (sym odd))
-        (ap (λ (q : Plan). recordNumbers 1 (shut || leb (q .opened) (suc t)) (sizeWord (a .gap)) (sizeWord (a .gap))) planned
+        ap₂ _++_ (track-words x shut ∙ ap recordWords (sym odd))
+        (ap (λ (q : Plan). recordNumbers 1 5 (shut || leb (q .opened) (suc t)) (sizeWord (a .gap)) (sizeWord (a .gap))) planned
         ∙ gutter-words (a .gap) (shut || leb (planOf a cs (itemAt items) .opened) (suc t)) ∙ ap recordWords (sym even))
 
     pairs-words : (t n : ℕ) → joined (axisPair a p cs sp items) t n ≡ joined wordsAt (2 * t + 1) (2 * n)
@@ -194,48 +197,51 @@ pub edge-record : (a : AxisTracks) (ws mi ma : List ℕ) (sp : List MinMax) (ite
 edge-record a ws mi ma sp items p u r index e f g =
     g ∙ record-of a (templateOf ws mi ma) sp (itemAt items) index p u e (f ∙ ap (λ (ns : List ℕ). cursorAt a ns ((index - 1) / 2)) (sym (totals-words (a .repetitions) ws mi ma)))
 
--- its words, from its kind, whether it is collapsed, and its sizes
+-- its words, from its kind, its source, whether it is collapsed, and its sizes
 abbrev numbersOf : GridTrack → List ℕ
-numbersOf r = recordNumbers (kindNumber (r .kind)) (r .collapsed) (sizeWord (r .size .min)) (sizeWord (r .size .max))
+numbersOf r = recordNumbers (kindNumber (r .kind)) (sourceNumber (r .source)) (r .collapsed) (sizeWord (r .size .min)) (sizeWord (r .size .max))
 
-made-words : (kind : GridTrackKind) (size : MinMax) (closed : Bool) → numbersOf (gridTrack kind size closed) ≡ recordWords (gridTrack kind size closed)
-made-words kind size true = ap (λ (n : ℕ). (kindNumber kind + 2) ∷ n ∷ n ∷ []) zero-word
-made-words kind size false = refl
+made-words : (kind : GridTrackKind) (source : TrackSource) (size : MinMax) (closed : Bool) → numbersOf (gridTrack kind source size closed) ≡ recordWords (gridTrack kind source size closed)
+made-words kind source size true = ap (λ (n : ℕ). (kindNumber kind + 2 + 4 * sourceNumber source) ∷ n ∷ n ∷ []) zero-word
+made-words kind source size false = refl
 
 pub edge-words : (a : AxisTracks) (p : Plan) (cs : List Component) (sp : List MinMax) (item : ℕ → Bool) (u : Cursor) (r : GridTrack) (i : ℕ) → r ≡ recordWith a p cs sp item u i → numbersOf r ≡ recordWords r
-edge-words a p cs sp item u r zero e = rw e (made-words Gutter (record { min = a .gap; max = a .gap }) true)
+edge-words a p cs sp item u r zero e = rw e (made-words Gutter Source.Gutter (record { min = a .gap; max = a .gap }) true)
 edge-words a p cs sp item u r (suc i) e = rw e (go (eqb (suc i % 2) 0))
   where
     x : WrittenTrack
     x = trackWith a (p .written) cs sp u (i / 2)
 
     go : (b : Bool) → let y = pairWith (a .gap) b x (closedBy item x (i / 2)) (leb (p .opened) (suc i / 2)) in numbersOf y ≡ recordWords y
-    go true = made-words Gutter (record { min = a .gap; max = a .gap }) (closedBy item x (i / 2) || leb (p .opened) (suc i / 2))
-    go false = made-words Track (x .size) (closedBy item x (i / 2))
+    go true = made-words Gutter Source.Gutter (record { min = a .gap; max = a .gap }) (closedBy item x (i / 2) || leb (p .opened) (suc i / 2))
+    go false = made-words Track (x .source) (x .size) (closedBy item x (i / 2))
 
 -- the first gutter
-pub first-words : (a : AxisTracks) (cs : List Component) (sp : List MinMax) (items : List ℕ) (index : ℕ) → index ≡ 0 → recordNumbers 1 true 0 0 ≡ wordsAt a cs sp items index
+pub first-words : (a : AxisTracks) (cs : List Component) (sp : List MinMax) (items : List ℕ) (index : ℕ) → index ≡ 0 → recordNumbers 1 5 true 0 0 ≡ wordsAt a cs sp items index
 first-words a cs sp items index e = rw e (gutter-words (a .gap) true ∙ ap recordWords (sym (record-first a cs sp (itemAt items))))
 
 pub kind-fits : (kind : GridTrackKind) (n : ℕ) → n ≡ kindNumber kind → n ≤ 1
-kind-fits Track n e = omega (arith, e)
-kind-fits Gutter n e = omega (arith, e)
+kind-fits kind n e = omega (arith, e, kind-small kind)
+
+pub source-fits : (source : TrackSource) (n : ℕ) → n ≡ sourceNumber source → n ≤ 5
+source-fits source n e = omega (arith, e, source-small source)
 
 -- a record of an axis's state, by what is carried to it
-pub record-written : (s : AxisGrid) (words items : List ℕ) (p : Plan) (index : ℕ) (a : AxisTracks) (ws : List ℕ) (u : Cursor) (r : GridTrack) (k low high : ℕ) (lent after : List ℕ) (place : ℕ) →
+pub record-written : (s : AxisGrid) (words items : List ℕ) (p : Plan) (index : ℕ) (a : AxisTracks) (ws : List ℕ) (u : Cursor) (r : GridTrack) (k from low high : ℕ) (lent after : List ℕ) (place : ℕ) →
     p ≡ planOf (axisTracks s) (templateIn s words) (itemAt items) → a ≡ axisTracks s → ws ≡ partOf words 0 (s .template .components) → u ≡ cursorAt a (wordTotals (a .repetitions) ws) ((index - 1) / 2) →
     r ≡ stateRecord (templateIn s words) (sparesIn s words) (itemAt items) (record { axis = a; plan = p; cursor = u }) index →
-    k ≡ kindNumber (r .kind) → low ≡ sizeWord (r .size .min) → high ≡ sizeWord (r .size .max) →
-    after ≡ sets lent place (recordNumbers k (r .collapsed) low high) → after ≡ sets lent place (recordAt s words items index)
+    k ≡ kindNumber (r .kind) → from ≡ sourceNumber (r .source) → low ≡ sizeWord (r .size .min) → high ≡ sizeWord (r .size .max) →
+    after ≡ sets lent place (recordNumbers k from (r .collapsed) low high) → after ≡ sets lent place (recordAt s words items index)
 unfolding stateRecord
-record-written s words items p index a ws u r k low high lent after place ep ea ew eu er ek el eh e =
+record-written s words items p index a ws u r k from low high lent after place ep ea ew eu er ek es el eh e =
     let cs = templateIn s words in
     let sp = sparesIn s words in
     let cursor : u ≡ cursorAt (axisTracks s) (wordTotals (s .size .repetitions) (partOf words 0 (s .template .components))) ((index - 1) / 2) =
     eu ∙ ap₂ (λ (x : AxisTracks) (l : List ℕ). cursorAt x (wordTotals (x .repetitions) l) ((index - 1) / 2)) ea ew in
     let made : r ≡ recordWith (axisTracks s) p cs sp (itemAt items) u index = er ∙ ap (λ (x : AxisTracks). recordWith x p cs sp (itemAt items) u index) ea in
-    let same : recordNumbers k (r .collapsed) low high ≡ numbersOf r =
-    ap₂ (λ (x y : ℕ). recordNumbers x (r .collapsed) y high) ek el ∙ ap (recordNumbers (kindNumber (r .kind)) (r .collapsed) (sizeWord (r .size .min))) eh in
+    let same : recordNumbers k from (r .collapsed) low high ≡ numbersOf r =
+    ap₂ (λ (x y : ℕ). recordNumbers x y (r .collapsed) low high) ek es
+    ∙ ap₂ (recordNumbers (kindNumber (r .kind)) (sourceNumber (r .source)) (r .collapsed)) el eh in
     e ∙ ap (sets lent place)
     (same ∙ edge-words (axisTracks s) p cs sp (itemAt items) u r index made
     ∙ ap recordWords (edge-record (axisTracks s) (partOf words 0 (s .template .components)) (partOf words 64 (s .template .tracks)) (partOf words 2112 (s .template .tracks)) sp items p u r index ep cursor made))

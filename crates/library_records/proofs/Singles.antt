@@ -13,6 +13,7 @@ use borrow.Author.Tests.{eqb-true}
 use Rattle.template_rules.specs.declared.RepetitionCount.the-variants.{Single, Count, AutoFill, AutoFit}
 use Rattle.template_rules.specs.declared.GridTemplateComponent.{GridTemplateComponent}
 use Rattle.template_rules.specs.Template.{componentOf}
+use Rattle.track_rules.specs.declared.TrackSource.the-variants.{Template}
 use Rattle.track_rules.specs.Steps.{wordTotal, sumOf, cursor}
 use Rattle.track_rules.proofs.Lists.{lt-or-ge}
 use Rattle.track_record.specs.Repeats.{repeatedOf}
@@ -99,11 +100,11 @@ single-total : (r place w : ℕ) → singleAt place w ≡ true → wordTotal r w
 unfolding wordTotal
 single-total r place w e = rw (single-kind place w e)
 
-pub single-repeated : (place w : ℕ) → singleAt place w ≡ true → repeatedOf w ≡ record { first = place; length = 1; fit = false }
+pub single-repeated : (place w : ℕ) → singleAt place w ≡ true → repeatedOf w ≡ record { first = place; length = 1; source = Template; fit = false }
 unfolding repeatedOf singleAt
 single-repeated place w e =
     let f : componentOf w .first ≡ place = eqb-true (componentOf w .first) place (both-last (isSingle (componentOf w .count)) (eqb (componentOf w .first) place) e) in
-    rw (single-kind place w e) (ap (λ (n : ℕ). record { first = n; length = 1; fit = false }) f)
+    rw (single-kind place w e) (ap (λ (n : ℕ). record { first = n; length = 1; source = Template; fit = false }) f)
 
 -- from a component and whether it is single
 module _ (place w : ℕ) (x : GridTemplateComponent) (b : Bool) (e : x ≡ componentOf w) (f : b ≡ isSingle (x .count)) where

@@ -8,6 +8,7 @@ use Rattle.template_rules.specs.declared.RepetitionCount.{RepetitionCount}
 use Rattle.template_rules.specs.declared.RepetitionCount.the-variants.{Single, Count, AutoFill, AutoFit}
 use Rattle.template_rules.specs.Template.{componentOf}
 use Rattle.track_rules.specs.declared.Cursor.{Cursor}
+use Rattle.track_rules.specs.declared.TrackSource.the-variants.{Template}
 use Rattle.track_rules.specs.Steps.{wordTotal, cursor}
 use Rattle.track_record.specs.Repeats.{repeatedOf}
 use Rattle.library_records.specs.declared.TemplatePart.{TemplatePart}
@@ -47,7 +48,7 @@ singlesAt ws u n = cond (eqb (u .offset) 0) (singlesOf (repeatedOf (getD ws (u .
 
 -- m single tracks at a cursor, the size of the first at a place
 abbrev pub singlesPart : ℕ → Cursor → ℕ → TemplatePart
-singlesPart first u m = record { repeated = record { first = first; length = m; fit = false }; count = m; after = cursor (u .component + m) 0 }
+singlesPart first u m = record { repeated = record { first = first; length = m; source = Template; fit = false }; count = m; after = cursor (u .component + m) 0 }
 
 -- the tracks to write at a cursor, at most n of them
 unfoldable pub partAt : ℕ → List ℕ → Cursor → ℕ → TemplatePart

@@ -10,7 +10,7 @@ ghost use Rattle.library_records.specs.Pairs.{joined, guttersOf, axisPai
 use crate::Gutters;
 use crate::Stretch;
 use crate::implicit::write_negative;
-use crate::implicit::write_spares;
+use crate::implicit::write_positive;
 use crate::size::word_of;
 use crate::template::write_template;
 use axis_tables::AxisGrid;
@@ -75,5 +75,15 @@ pub(crate) fn write_pairs(
         place: tracks.place + 6 * (before + written),
     };
     let passed = past_end(end, next as u64);
-    write_spares(minimums, maximums, items, passed, gutters, late, words);
+    let explicit = negative + counts.explicit as u64;
+    write_positive(
+        minimums,
+        maximums,
+        items,
+        explicit,
+        passed,
+        gutters,
+        late,
+        words,
+    );
 }

@@ -10,10 +10,12 @@ ghost use Rattle.library_records.specs.Pairs.{joined, recordAt};
 use crate::Stretch;
 use crate::axis::write_pairs;
 use crate::pair::GUTTER;
+use crate::pair::GUTTER_SOURCE;
 use crate::pair::put_record;
 use axis_tables::AxisGrid;
 use library_numbers::numbers::kind_number;
 use library_numbers::numbers::size_word;
+use library_numbers::numbers::source_number;
 use panel_calls::axis_track::axis_tracks;
 use panel_calls::axis_track::carried_on;
 use panel_calls::axis_track::plan_on;
@@ -41,6 +43,7 @@ fn write_record(
     let at = TrackWalk { axis, plan, cursor };
     let track = carried_on(grid, tables, items, at, index);
     let kind = track.kind;
+    let source = track.source;
     let size = track.size;
     let minimum = size.min;
     let maximum = size.max;
@@ -48,6 +51,7 @@ fn write_record(
         words,
         place,
         kind_number(kind),
+        source_number(source),
         track.collapsed,
         size_word(minimum),
         size_word(maximum),
@@ -72,7 +76,7 @@ fn write_edge(
         return;
     }
     if records.first == 0 {
-        put_record(words, records.place, GUTTER, true, 0, 0);
+        put_record(words, records.place, GUTTER, GUTTER_SOURCE, true, 0, 0);
         return;
     }
     write_record(

@@ -23,6 +23,7 @@ use panel_tables::region::axis_words;
 use track_record::Repeated;
 use track_record::plan::track_count;
 use track_rules::Cursor;
+use track_rules::TrackSource;
 
 mod axis;
 mod edge;
@@ -48,10 +49,11 @@ pub(crate) struct Stretch {
     pub place: usize,
 }
 
-// A track to write: its number, the place of its size in the tables, and whether `fit` writes it.
+// A track to write: its number, the place of its size in the tables, where it comes from, and whether `fit` writes it.
 pub(crate) struct PlacedTrack {
     pub number: u64,
     pub size: u64,
+    pub source: TrackSource,
     pub fit: bool,
 }
 

@@ -1,7 +1,7 @@
 // The words of a record, and of a track with the gutter after it.
 ghost use mathlib.Core.Path.{_≡_};
 ghost use mathlib.Core.Bool.{cond};
-ghost use Prim.Native.Nat.{_+_, _≤_, _<_};
+ghost use Prim.Native.Nat.{_+_, _*_, _≤_, _<_};
 ghost use lib.ListN.{length, getD};
 ghost use lib.Seq.{sets};
 ghost use Rattle.sizing.specs.Words.{minMaxOf};
@@ -10,6 +10,7 @@ ghost use Rattle.library_records.specs.Pairs.{recordNumbers, pairWords};
 use crate::Gutters;
 use crate::PlacedTrack;
 use crate::size::size_at;
+use library_numbers::numbers::source_number;
 use track_record::collapse::gutter_collapses;
 use track_record::collapse::track_collapses;
 
@@ -17,15 +18,19 @@ pub(crate) const TRACK: u64 = 0;
 
 pub(crate) const GUTTER: u64 = 1;
 
-// The first word of a record: its kind, and 2 more where it is collapsed.
-fn kind_word(kind: u64, collapsed: bool) -> u64
+// The source of a gutter.
+pub(crate) const GUTTER_SOURCE: u64 = 5;
+
+// The first word of a record: its kind, 2 more where it is collapsed, and 4 times its source.
+fn kind_word(kind: u64, source: u64, collapsed: bool) -> u64
     requires { ⌜ kind ≤ 1 ⌝ }
-    ensures { λ r. ⌜ r ≡ kind + cond collapsed 2 0 ⌝ }
+    requires { ⌜ source ≤ 5 ⌝ }
+    ensures { λ r. ⌜ r ≡ kind + cond collapsed 2 0 + 4 * source ⌝ }
 {
     if collapsed {
-        return kind + 2;
+        return kind + 2 + 4 * source;
     }
-    kind
+    kind + 4 * source
 }
 
 // A word of its size, 0 where it is collapsed.
@@ -43,15 +48,17 @@ pub(crate) fn put_record(
     words: &mut [u64],
     place: usize,
     kind: u64,
+    source: u64,
     collapsed: bool,
     low: u64,
     high: u64,
 )
     requires { ⌜ kind ≤ 1 ⌝ }
+    requires { ⌜ source ≤ 5 ⌝ }
     requires { ⌜ place + 3 ≤ length (now words) ⌝ }
-    ensures { λ _. ⌜ now (words .exit) ≡ sets (now (words .entry)) place (recordNumbers kind collapsed low high) ⌝ }
+    ensures { λ _. ⌜ now (words .exit) ≡ sets (now (words .entry)) place (recordNumbers kind source collapsed low high) ⌝ }
 {
-    words[place] = kind_word(kind, collapsed);
+    words[place] = kind_word(kind, source, collapsed);
     words[place + 1] = open_word(collapsed, low);
     words[place + 2] = open_word(collapsed, high);
 }
@@ -68,17 +75,27 @@ pub(crate) fn put_pair(
 )
     requires { ⌜ track .number < 4294967296 ⌝ }
     requires { ⌜ place + 6 ≤ length (now words) ⌝ }
-    ensures { λ _. ⌜ now (words .exit) ≡ sets (now (words .entry)) place (pairWords gutters (itemAt (now (items .entry))) (track .number) (minMaxOf (getD (now (minimums .entry)) (track .size) 0) (getD (now (maximums .entry)) (track .size) 0)) (track .fit)) ⌝ }
+    ensures { λ _. ⌜ now (words .exit) ≡ sets (now (words .entry)) place (pairWords gutters (itemAt (now (items .entry))) (track .number) (record { size = minMaxOf (getD (now (minimums .entry)) (track .size) 0) (getD (now (maximums .entry)) (track .size) 0); source = track .source; fit = track .fit })) ⌝ }
 {
+    let source = track.source;
     let collapsed = track_collapses(items, track.fit, track.number);
     put_record(
         words,
         place,
         TRACK,
+        source_number(source),
         collapsed,
         size_at(minimums, track.size),
         size_at(maximums, track.size),
     );
     let shut = gutter_collapses(collapsed, gutters.opened, track.number + 1);
-    put_record(words, place + 3, GUTTER, shut, gutters.gap, gutters.gap);
+    put_record(
+        words,
+        place + 3,
+        GUTTER,
+        GUTTER_SOURCE,
+        shut,
+        gutters.gap,
+        gutters.gap,
+    );
 }

@@ -55,6 +55,7 @@ pub(crate) fn write_part(
     }
     let length = part.length;
     let size = part.first;
+    let source = part.source;
     let fit = part.fit;
     let first = tracks.first;
     let place = tracks.place;
@@ -64,6 +65,7 @@ pub(crate) fn write_part(
         let track = PlacedTrack {
             number: (first + i) as u64,
             size: size + inner,
+            source,
             fit,
         };
         put_pair(

@@ -11,6 +11,7 @@ use track_record::count::before_end;
 use track_record::count::past_end;
 use track_record::cursor::total;
 use track_rules::Cursor;
+use track_rules::TrackSource;
 
 // Whether a component is one track alone.
 fn is_single(count: RepetitionCount) -> bool
@@ -105,6 +106,7 @@ pub(crate) fn part_at(components: &[u64], repetitions: u32, at: Cursor, left: us
     let repeated = Repeated {
         first: part.first,
         length: singles as u64,
+        source: TrackSource::Template,
         fit: false,
     };
     let after = Cursor {

@@ -3,7 +3,7 @@ use Prim.Native.Nat.{ℕ, zero, suc, _+_, _*_, _-_, _≤_, _<_}
 use mathlib.Core.Path.{_≡_, refl, sym, ap, ap₂, _∙_}
 use mathlib.Core.Logic.{_⊎_, inl, inr}
 use mathlib.Core.Bool.{Bool, true, false, cond}
-use mathlib.Core.List.{List, [], _∷_, _++_, List·Memᴰ·not-nil}
+use mathlib.Core.List.{List, [], _∷_, _++_, map, List·Memᴰ·not-nil}
 use native.Mathlib.Omega.{arith}
 use borrow.Author.Tests.{eq-eqb, ne-eqb, leb-true, leb-false, ltb-true, ltb-false, le-leb, lt-leb, le-ltb, lt-ltb}
 use lib.Dec.{eqb, leb, ltb}
@@ -20,17 +20,18 @@ use Rattle.track_rules.specs.Written.{writtenOut}
 use Rattle.track_rules.specs.Lines.{Stands}
 use Rattle.track_rules.specs.Tracks.{zeroGridTrack}
 use Rattle.track_rules.specs.Records.{tracksIn, recordsIn, noTrack, recordAnswerOf}
+use Rattle.track_rules.proofs.Sources.{answer-source}
 use Rattle.track_run.specs.Run.{fillAnswerOf, runAfter}
 use Rattle.axis_tables.specs.declared.AxisGrid.{AxisGrid}
 use Rattle.axis_tables.specs.Runs.{bytesOf}
-use Rattle.axis_tables.specs.View.{AxisLine, componentsOf, axisBytes}
+use Rattle.axis_tables.specs.View.{AxisLine, sizesOf, componentsOf, axisBytes}
 use Rattle.panel_tables.specs.declared.Grid.{Grid}
 use Rattle.panel_tables.specs.declared.Panel.{Panel}
 use Rattle.panel_tables.specs.declared.PlacementPlace.{PlacementPlace}
 use Rattle.panel_tables.specs.View.{PanelView}
 use Rattle.panel_tables.specs.Axes.{viewIn}
 use Rattle.panel_tables.specs.Placements.{placementAt as placeAt}
-use Rattle.sheet_rules.specs.Sheet.{Outcome, sheetOf, entriesOf}
+use Rattle.sheet_rules.specs.Sheet.{Outcome, counted, sheetOf, entriesOf}
 use Rattle.sheet_rules.specs.Rows.{Row, numberOf, HoldsAt, FirstAt, Nowhere}
 use Rattle.sheet_rules.specs.Valid.{ValidTemplate, CssCounted}
 use Rattle.sheet_rules.specs.Panels.{Tables, entryWords, sizedState}
@@ -42,7 +43,7 @@ use Rattle.sheet_rules.proofs.Only.{some-number}
 use Rattle.panel_rules.specs.Calls.{NameTables, NamedWords, namesIn, axisTracks, shortNames, enterRefusal, enterName, trackRecord}
 use Rattle.panel_rules.specs.Placing.{linePlacement, placedBy, resolvePlacement}
 use Rattle.panel_rules.specs.Runs.{Call, Accepted, runOf, marksOf, sizeOf, placementOf, recordWith, runWith}
-use Rattle.panel_rules.specs.Views.{entryName, bytesAfter, entriesAfter, placementAt, placementAfter, sizeAfter, tracksAfter}
+use Rattle.panel_rules.specs.Views.{entryName, bytesAfter, entriesAfter, placementAt, placementAfter, sizeAfter, recordAfter, tracksAfter}
 use Rattle.panel_rules.specs.Added.{sheetAxis, added, refusalAfter}
 use Rattle.panel_rules.specs.Book.{CssTemplate, asWritten, addedFrom, sheetBook, sheetTracks, book, bookBytes, tableRefusal, AllValid, AllCounted, RegularTemplate, Regular}
 use Rattle.panel_rules.specs.Ranges.{largest}
@@ -153,7 +154,7 @@ invalid-theorem s t calls ok a h =
     }
 
 pub second-demand : (s : List ℕ) (t : Tables) (calls : List Call) → Accepted s t → SecondDemand s t calls
-unfolding sizeAfter
+unfolding sizeAfter recordAfter
 second-demand s t calls ok =
     let z = accepted-sheet s t ok .0 in
     record {
@@ -169,6 +170,7 @@ second-demand s t calls ok =
       lists = run-lists s t calls ok;
       names = run-names s t calls ok;
       records = run-records s t calls ok;
+      sources = λ a items long i held. rw (run-records s t calls ok a items i) (answer-source (tracksAfter (sheetAxis s a)) (componentsOf (counted (sheetAxis s a))) (map sizesOf (sheetAxis s a .spares)) items i held long);
       lent = run-filled s t calls ok;
       filled = run-fill s t calls ok;
       marks = λ a. rw (run-marks s t calls ok a) (marks-enough s z a);

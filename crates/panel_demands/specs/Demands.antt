@@ -19,6 +19,7 @@ use Rattle.track_rules.specs.declared.WrittenTrack.{WrittenTrack}
 use Rattle.track_rules.specs.Tracks.{zeroGridTrack, refusedRecord}
 use Rattle.track_rules.specs.Written.{writtenOut}
 use Rattle.track_rules.specs.Records.{tracksIn, recordsIn, noTrack}
+use Rattle.track_rules.specs.Sources.{RecordSource}
 use Rattle.track_rules.specs.Lines.{Stands}
 use Rattle.track_run.specs.Run.{refusedFill, fillAnswerOf, runAfter}
 use Rattle.axis_tables.specs.declared.AxisGrid.{AxisGrid}
@@ -94,7 +95,7 @@ pub record FirstDemand : Type 0 where
   pub runs : (g : AxisGrid) (words items : List ℕ) (run : List GridTrack) → RunAnswered g words items run
 
 -- ==== demand 2: the answers after an accepted sheet and any entry calls are those of the definitions that the Rust is compared with, on the
--- sheet's view and the entries that the table accepts; repeats and placements are CSS's
+-- sheet's view and the entries that the table accepts; repeats, placements and sources are CSS's
 
 -- what the template of an axis gives where it is invalid in CSS's words (document 02, request 04)
 pub record InvalidTheorem (s : List ℕ) (t : Tables) (calls : List Call) (a : Axis) : Type 0 where
@@ -136,6 +137,9 @@ pub record SecondDemand (s : List ℕ) (t : Tables) (calls : List Call) : Type 0
   pub names : (a : Axis) (line place : ℕ) → nameOf (runOf s t calls) a line place ≡ nameAfter (sheetAxis s a) (added s a calls) line place
   -- layer 5
   pub records : (a : Axis) (items : List ℕ) (i : ℕ) → recordWith (runOf s t calls) a items i ≡ recordAfter (sheetAxis s a) items i
+  -- the source of each record is that of CSS's account of explicit and implicit tracks
+  pub sources : (a : Axis) (items : List ℕ) → tracksIn (tracksAfter (sheetAxis s a)) ≤ length items → (i : ℕ) → i < recordsIn (tracksAfter (sheetAxis s a))
+      → RecordSource (tracksAfter (sheetAxis s a)) (componentsOf (counted (sheetAxis s a))) i (recordWith (runOf s t calls) a items i .track .source)
   -- a lent run of records after the call that fills it, and what that call answers
   pub lent : (a : Axis) (items : List ℕ) (run : List GridTrack) → runWith (runOf s t calls) a items run
       ≡ runAfter (tracksAfter (sheetAxis s a)) (componentsOf (counted (sheetAxis s a))) (map sizesOf (sheetAxis s a .spares)) items run

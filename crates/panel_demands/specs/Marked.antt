@@ -18,7 +18,9 @@ use Rattle.template_rules.specs.declared.AutoRepeatStrategy.the-variants.{MaxRe
 use Rattle.track_rules.specs.declared.GridTrack.{GridTrack}
 use Rattle.track_rules.specs.declared.GridTrackKind.{GridTrackKind}
 use Rattle.track_rules.specs.declared.GridTrackKind.the-variants.{Track, Gutter}
+use Rattle.track_rules.specs.declared.WrittenTrack.{WrittenTrack}
 use Rattle.track_rules.specs.Tracks.{gutterOf, trackOf}
+use Rattle.track_rules.specs.Written.{written}
 use Rattle.track_rules.specs.Records.{recordsOf}
 use Rattle.coordinates.specs.Cases as Lines
 use Rattle.template_rules.specs.Cases as Sizes
@@ -81,11 +83,14 @@ fittingRecords =
 abbrev pub shutGutter : GridTrack
 shutGutter = gutterOf (lengthOf 0x4120_0000) true
 
+abbrev pub fitted : WrittenTrack
+fitted = written AutoFit wide
+
 -- only record 3 is open
 abbrev pub tracks : List Bool
 tracks =
     sameRecords fittingRecords
-    (shutGutter ∷ trackOf wide true ∷ shutGutter ∷ trackOf wide false ∷ shutGutter ∷ trackOf wide true ∷ shutGutter ∷ [])
+    (shutGutter ∷ trackOf fitted true ∷ shutGutter ∷ trackOf fitted false ∷ shutGutter ∷ trackOf fitted true ∷ shutGutter ∷ [])
     ∷ []
 
 abbrev pub M1-to-M12 : List Bool

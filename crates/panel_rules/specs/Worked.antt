@@ -19,8 +19,11 @@ use Rattle.name_resolver.specs.declared.NonNamedGridPlacement.{NonNamedGridPlac
 use Rattle.name_resolver.specs.declared.NonNamedGridPlacement.the-variants as Placed
 use Rattle.name_resolver.specs.Placements.{gridLineOf}
 use Rattle.track_rules.specs.declared.GridTrack.{GridTrack}
+use Rattle.track_rules.specs.declared.GridTrackKind.the-variants as Kind
+use Rattle.track_rules.specs.declared.TrackSource.{TrackSource}
+use Rattle.track_rules.specs.declared.TrackSource.the-variants as From
 use Rattle.track_rules.specs.declared.RecordAnswer.{RecordAnswer}
-use Rattle.track_rules.specs.Tracks.{gutterOf, trackOf, refusedRecord}
+use Rattle.track_rules.specs.Tracks.{gridTrack, gutterOf, refusedRecord}
 use Rattle.track_rules.specs.Records.{listed}
 use Rattle.axis_tables.specs.View.{componentsOf}
 use Rattle.panel_tables.specs.View.{PanelView}
@@ -125,11 +128,11 @@ abbrev fixed : ℕ → MinMax
 fixed bits = record { min = ofLength bits; max = ofLength bits }
 
 -- open and collapsed records
-abbrev track : MinMax → GridTrack
-track s = trackOf s false
+abbrev track : TrackSource → MinMax → GridTrack
+track source s = gridTrack Kind.Track source s false
 
-abbrev shutTrack : GridTrack
-shutTrack = trackOf (fixed 0) true
+abbrev shutTrack : TrackSource → GridTrack
+shutTrack source = gridTrack Kind.Track source (fixed 0) true
 
 abbrev gutter : ℕ → GridTrack
 gutter bits = gutterOf (ofLength bits) false
@@ -197,7 +200,7 @@ sample =
       columns = record {
         size = size 2 2;
         names = (x ∷ none ∷ []) ∷ (x ∷ none ∷ []) ∷ (none ∷ none ∷ []) ∷ [];
-        records = shutGutter ∷ track (fixed 0x42c8_0000) ∷ gutter 0 ∷ track (fixed 0x42c8_0000) ∷ shutGutter ∷ [];
+        records = shutGutter ∷ track From.Automatic (fixed 0x42c8_0000) ∷ gutter 0 ∷ track From.Automatic (fixed 0x42c8_0000) ∷ shutGutter ∷ [];
       };
       rows = record { size = size 0 0; names = []; records = shutGutter ∷ [] };
       placements = placed Column (line 2) auto ∷ [];
@@ -252,9 +255,9 @@ rowRun =
         names = [];
         records =
             shutGutter
-            ∷ track (record { min = MinContent; max = Fraction (ofBits binary32 0x3f80_0000) })
+            ∷ track From.Negative (record { min = MinContent; max = Fraction (ofBits binary32 0x3f80_0000) })
             ∷ gutter 0
-            ∷ track (record { min = MinContent; max = Fraction (ofBits binary32 0x3f80_0000) })
+            ∷ track From.Area (record { min = MinContent; max = Fraction (ofBits binary32 0x3f80_0000) })
             ∷ shutGutter
             ∷ [];
       };
@@ -263,13 +266,13 @@ rowRun =
         names = (top ∷ none ∷ []) ∷ (middle ∷ none ∷ []) ∷ (middle ∷ none ∷ []) ∷ (middle ∷ none ∷ []) ∷ (bottom ∷ none ∷ []) ∷ [];
         records =
             shutGutter
-            ∷ track (fixed 0x4120_0000)
+            ∷ track From.Template (fixed 0x4120_0000)
             ∷ gutter 0x4000_0000
-            ∷ shutTrack
+            ∷ shutTrack From.Automatic
             ∷ shutGutter
-            ∷ track (fixed 0x4120_0000)
+            ∷ track From.Automatic (fixed 0x4120_0000)
             ∷ shutGutter
-            ∷ shutTrack
+            ∷ shutTrack From.Automatic
             ∷ shutGutter
             ∷ [];
       };
@@ -317,9 +320,9 @@ otherRun =
         names = (top ∷ none ∷ []) ∷ (last ∷ none ∷ []) ∷ (none ∷ none ∷ []) ∷ [];
         records =
             shutGutter
-            ∷ track (record { min = Auto; max = Auto })
+            ∷ track From.Template (record { min = Auto; max = Auto })
             ∷ gutter 0x4000_0000
-            ∷ track (record { min = Auto; max = Auto })
+            ∷ track From.Area (record { min = Auto; max = Auto })
             ∷ shutGutter
             ∷ [];
       };
@@ -429,9 +432,9 @@ benchFour =
       columns = record {
         size = size 0 2;
         names = [];
-        records = shutGutter ∷ track (record { min = Auto; max = Auto }) ∷ gutter 0 ∷ track (record { min = Auto; max = Auto }) ∷ shutGutter ∷ [];
+        records = shutGutter ∷ track From.Area (record { min = Auto; max = Auto }) ∷ gutter 0 ∷ track From.Area (record { min = Auto; max = Auto }) ∷ shutGutter ∷ [];
       };
-      rows = record { size = size 0 1; names = []; records = shutGutter ∷ track (record { min = Auto; max = Auto }) ∷ shutGutter ∷ [] };
+      rows = record { size = size 0 1; names = []; records = shutGutter ∷ track From.Area (record { min = Auto; max = Auto }) ∷ shutGutter ∷ [] };
       placements = placed Column (line 4) auto ∷ [];
     }
 

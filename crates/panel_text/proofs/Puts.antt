@@ -1,12 +1,12 @@
 -- Texts that are written one after the other. Assumes nothing.
 use Prim.Native.Nat.{ℕ, _+_, _≤_}
-use mathlib.Core.Path.{_≡_, sym, _∙_}
+use mathlib.Core.Path.{_≡_, sym, ap, _∙_}
 use mathlib.Core.List.{List, [], _∷_, _++_, append-assoc}
 use native.Mathlib.Omega.{arith}
 use lib.ListN.{length, drop, length-append}
 use lib.Seq.{sets-eq}
 use Rattle.name_template.proofs.Placing.{sets-append}
-use Rattle.panel_text.specs.Written.{Put, PutField, WritesLine}
+use Rattle.panel_text.specs.Written.{Put, PutField, PutTwo, WritesLine}
 
 -- a text and one after it
 pub put-then : {a b c s t : List ℕ} {i j k m n : ℕ} → Put a i s b j m → Put b j t c k n → Put a i (s ++ t) c k (m + n)
@@ -35,6 +35,11 @@ field-end p q h = record { put = put-near (put-then p q) (omega arith) }
 -- a field, and a text after it
 pub field-then : {a b c f t : List ℕ} {e i j k n : ℕ} → PutField a i f e b j → Put b j t c k n → Put a i (f ++ (e ∷ t)) c k (16 + n)
 field-then {f = f} {t} {e} p q = rw (sym (append-assoc f (e ∷ []) t)) (put-then (p .put) q)
+
+-- two fields, and a text after them
+pub two-then : {a b c f g t : List ℕ} {i j k n : ℕ} → PutTwo a i f g b j → Put b j t c k n → Put a i (f ++ (9 ∷ (g ++ (9 ∷ t)))) c k (32 + n)
+two-then {f = f} {g} {t} p q =
+    put-as (append-assoc f (9 ∷ (g ++ (9 ∷ []))) t ∙ ap (λ (l : List ℕ). f ++ (9 ∷ l)) (append-assoc g (9 ∷ []) t)) (put-then (p .put) q)
 
 -- a line from the start on
 pub line-put : {a line b : List ℕ} {k m : ℕ} → Put a 0 line b k m → m ≤ 128 → WritesLine a line b k

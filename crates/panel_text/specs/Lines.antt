@@ -12,6 +12,8 @@ use Rattle.sheet_forms.specs.Words.{axisWords, sizeWords, endWords}
 use Rattle.track_rules.specs.declared.GridTrack.{GridTrack}
 use Rattle.track_rules.specs.declared.GridTrackKind.{GridTrackKind}
 use Rattle.track_rules.specs.declared.GridTrackKind.the-variants.{Track, Gutter}
+use Rattle.track_rules.specs.declared.TrackSource.{TrackSource}
+use Rattle.track_rules.specs.declared.TrackSource.the-variants as Source
 use Rattle.name_resolver.specs.declared.NonNamedGridPlacement.{NonNamedGridPlacement}
 use Rattle.name_resolver.specs.declared.ResolvedLine.{ResolvedLine}
 use Rattle.name_resolver.specs.Placements.{resolvedKindOf, resolvedNumberOf}
@@ -50,10 +52,19 @@ sizeWord s = getD sizeWords (kindOf s) []
 abbrev pub sizeFields : Sizing → List (List ℕ)
 sizeFields s = sizeWord s ∷ hexadecimal (bitsOf s) ∷ []
 
--- a record: index, kind, collapsed, then the sizes: minimum kind, value, maximum kind, value
+-- "one more field, `n t a g p -` in that order" (document 02, Req 08)
+abbrev pub sourceLetter : TrackSource → ℕ
+sourceLetter Source.Negative = 110
+sourceLetter Source.Template = 116
+sourceLetter Source.Automatic = 97
+sourceLetter Source.Area = 103
+sourceLetter Source.Positive = 112
+sourceLetter Source.Gutter = 45
+
+-- a record: index, kind, collapsed, then the sizes: minimum kind, value, maximum kind, value; last its source
 unfoldable pub recordLine : ℕ → GridTrack → List ℕ
 recordLine index t =
-    lineOf (decimal index ∷ trackWord (t .kind) ∷ collapsedWord (t .collapsed) ∷ (sizeFields (t .size .min) ++ sizeFields (t .size .max)))
+    lineOf (decimal index ∷ trackWord (t .kind) ∷ collapsedWord (t .collapsed) ∷ (sizeFields (t .size .min) ++ (sizeFields (t .size .max) ++ ((sourceLetter (t .source) ∷ []) ∷ []))))
 
 -- one end of a placement: `auto 0`, `line` and its number, or `span` and its number
 abbrev pub endFields : NonNamedGridPlacement → List (List ℕ)

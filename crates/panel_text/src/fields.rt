@@ -1,12 +1,14 @@
 // The fields of a line, each with the tab or the line feed after it.
-ghost use mathlib.Core.List.{[]};
+ghost use mathlib.Core.Path.{_≡_};
+ghost use mathlib.Core.List.{[], _∷_};
 ghost use Prim.Native.Nat.{_≤_};
 ghost use lib.ListN.{length, getD};
+ghost use Rattle.sizing.specs.Words.{bitsOf};
 ghost use Rattle.sheet_forms.specs.Words.{endWords};
 ghost use Rattle.name_resolver.specs.Placements.{resolvedKindOf, resolvedNumberOf};
 ghost use Rattle.panel_text.specs.Numerals.{decimal, wholeNumber, hexadecimal};
-ghost use Rattle.panel_text.specs.Lines.{axisWord, trackWord, collapsedWord, sizeWord};
-ghost use Rattle.panel_text.specs.Written.{Put, PutField};
+ghost use Rattle.panel_text.specs.Lines.{axisWord, trackWord, collapsedWord, sizeWord, sourceLetter};
+ghost use Rattle.panel_text.specs.Written.{Put, PutField, PutTwo};
 use crate::numerals::put_byte;
 use crate::numerals::put_decimal;
 use crate::numerals::put_hexadecimal;
@@ -15,6 +17,7 @@ use coordinates::Axis;
 use name_resolver::NonNamedGridPlacement;
 use sizing::Sizing;
 use track_rules::GridTrackKind;
+use track_rules::TrackSource;
 
 // The bytes of a word.
 fn put_word(out: &mut [u8], place: usize, word: &[u8]) -> usize
@@ -49,7 +52,7 @@ pub(crate) fn put_count(out: &mut [u8], place: usize, number: u32, end: u8) -> u
 }
 
 // The bits of a size.
-pub(crate) fn put_bits(out: &mut [u8], place: usize, bits: u32, end: u8) -> usize
+fn put_bits(out: &mut [u8], place: usize, bits: u32, end: u8) -> usize
     requires { ⌜ place ≤ 150 ⌝ }
     ensures { λ r. ⌜ PutField (now (out .entry)) place (hexadecimal bits) end (now (out .exit)) r ⌝ }
 {
@@ -91,13 +94,45 @@ pub(crate) fn put_collapsed(out: &mut [u8], place: usize, collapsed: bool) -> us
 }
 
 // The kind of a size.
-pub(crate) fn put_kind(out: &mut [u8], place: usize, size: Sizing) -> usize
+fn put_kind(out: &mut [u8], place: usize, size: Sizing) -> usize
     requires { ⌜ place ≤ 150 ⌝ }
     ensures { λ r. ⌜ PutField (now (out .entry)) place (sizeWord size) 9 (now (out .exit)) r ⌝ }
 {
     let kind = sizing::word::kind_of(size) as usize;
     let word = text::part(b"len\tpct\tfr\tauto\tmin\tmax\tfitl\tfitp", 9, kind);
     put_field(out, place, word, 9)
+}
+
+// A size: its kind and its value, each with the tab after it.
+pub(crate) fn put_size(out: &mut [u8], place: usize, size: Sizing) -> usize
+    requires { ⌜ place ≤ 130 ⌝ }
+    ensures { λ r. ⌜ PutTwo (now (out .entry)) place (sizeWord size) (hexadecimal (bitsOf size)) (now (out .exit)) r ⌝ }
+{
+    let at = put_kind(out, place, size);
+    put_bits(out, at, sizing::word::bits_of(size), 9)
+}
+
+// The letter of a record's source.
+fn source_letter(source: TrackSource) -> u8
+    ensures { λ r. ⌜ r ≡ sourceLetter source ⌝ }
+{
+    match source {
+        TrackSource::Negative => 110,
+        TrackSource::Template => 116,
+        TrackSource::Automatic => 97,
+        TrackSource::Area => 103,
+        TrackSource::Positive => 112,
+        TrackSource::Gutter => 45,
+    }
+}
+
+// The source of a record.
+pub(crate) fn put_source(out: &mut [u8], place: usize, source: TrackSource, end: u8) -> usize
+    requires { ⌜ place ≤ 150 ⌝ }
+    ensures { λ r. ⌜ PutField (now (out .entry)) place (sourceLetter source ∷ []) end (now (out .exit)) r ⌝ }
+{
+    let last = put_byte(out, place, source_letter(source));
+    put_byte(out, last, end)
 }
 
 // The kind of an end of a placement.

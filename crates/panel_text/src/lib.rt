@@ -8,16 +8,15 @@ mod numerals;
 use coordinates::Axis;
 use coordinates::Refusal;
 use fields::put_axis;
-use fields::put_bits;
 use fields::put_collapsed;
 use fields::put_count;
 use fields::put_end_kind;
 use fields::put_end_number;
 use fields::put_field;
-use fields::put_kind;
+use fields::put_size;
+use fields::put_source;
 use fields::put_track;
 use name_resolver::ResolvedLine;
-use sizing::word::bits_of;
 use track_rules::GridTrack;
 
 // The line of an axis: its repetitions and its explicit count.
@@ -35,16 +34,16 @@ pub fn record_line(out: &mut [u8], index: u32, track: GridTrack) -> usize
     ensures { λ r. ⌜ WritesLine (now (out .entry)) (recordLine index track) (now (out .exit)) r ⌝ }
 {
     let kind = track.kind;
+    let source = track.source;
     let size = track.size;
     let min = size.min;
     let max = size.max;
     let at = put_count(out, 0, index, 9);
     let at = put_track(out, at, kind);
     let at = put_collapsed(out, at, track.collapsed);
-    let at = put_kind(out, at, min);
-    let at = put_bits(out, at, bits_of(min), 9);
-    let at = put_kind(out, at, max);
-    put_bits(out, at, bits_of(max), 10)
+    let at = put_size(out, at, min);
+    let at = put_size(out, at, max);
+    put_source(out, at, source, 10)
 }
 
 // The line of a placement with its names resolved.

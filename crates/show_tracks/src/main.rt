@@ -6,6 +6,7 @@ use track_counts::TrackCounts;
 use track_rules::AxisTracks;
 use track_rules::GridTrack;
 use track_rules::GridTrackKind;
+use track_rules::TrackSource;
 
 // The kind of a size, in the order of a sheet's words.
 fn kind_of(size: Sizing) -> u64 {
@@ -21,7 +22,20 @@ fn kind_of(size: Sizing) -> u64 {
     }
 }
 
-// A record on its line: its kind, whether it is collapsed, and the kind of its minimum.
+// The source of a record, and the end of its line.
+fn print_source(source: TrackSource) {
+    match source {
+        TrackSource::Negative => io::write_all(STDOUT_FILENO, b"\tn\n"),
+        TrackSource::Template => io::write_all(STDOUT_FILENO, b"\tt\n"),
+        TrackSource::Automatic => io::write_all(STDOUT_FILENO, b"\ta\n"),
+        TrackSource::Area => io::write_all(STDOUT_FILENO, b"\tg\n"),
+        TrackSource::Positive => io::write_all(STDOUT_FILENO, b"\tp\n"),
+        TrackSource::Gutter => io::write_all(STDOUT_FILENO, b"\t-\n"),
+    }
+    ;
+}
+
+// A record on its line: its kind, whether it is collapsed, the kind of its minimum, and its source.
 fn print_record(track: GridTrack) {
     let kind = track.kind;
     match kind {
@@ -37,7 +51,8 @@ fn print_record(track: GridTrack) {
     let size = track.size;
     let min = size.min;
     io::print_decimal(STDOUT_FILENO, kind_of(min));
-    io::write_all(STDOUT_FILENO, b"\n");
+    let source = track.source;
+    print_source(source);
 }
 
 // At most as many as there are.

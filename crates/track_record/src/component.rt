@@ -3,6 +3,7 @@ ghost use mathlib.Core.Path.{_≡_};
 ghost use Rattle.track_record.specs.Repeats.{repeatedOf, hasFit};
 use crate::Repeated;
 use crate::cursor::is_fit;
+use crate::cursor::source_of;
 
 // The tracks of a component.
 pub fn repeated_of(word: u64) -> Repeated
@@ -13,6 +14,7 @@ pub fn repeated_of(word: u64) -> Repeated
     Repeated {
         first: component.first,
         length: component.length,
+        source: source_of(count),
         fit: is_fit(count),
     }
 }

@@ -7,9 +7,12 @@ pub mod cursor;
 pub mod plan;
 pub mod rule;
 
-// Tracks that repeat: the place of the first in the tables of sizes, how many there are, and whether `fit` writes them.
+use track_rules::TrackSource;
+
+// Tracks that repeat: the place of the first in the tables of sizes, how many there are, where they come from, and whether `fit` writes them.
 pub struct Repeated {
     pub first: u64,
     pub length: u64,
+    pub source: TrackSource,
     pub fit: bool,
 }

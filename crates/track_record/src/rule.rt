@@ -99,8 +99,7 @@ pub fn record_with(
         let shut = gutter_collapses(collapsed, plan.opened, index / 2);
         return track_rules::grid_track::gutter(gap, shut);
     }
-    let size = track.size;
-    track_rules::grid_track::track(size, collapsed)
+    track_rules::grid_track::track(track, collapsed)
 }
 
 // The cursor that belongs to record `index`.

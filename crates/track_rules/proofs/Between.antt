@@ -8,11 +8,10 @@ use mathlib.Core.List.{List}
 use lib.Dec.{leb, eqb}
 use borrow.Author.Tests.{eqb-true, eqb-false}
 use Rattle.sizing.specs.declared.MinMax.{MinMax}
-use Rattle.track_rules.specs.declared.GridTrack.{GridTrack}
 use Rattle.track_rules.specs.declared.WrittenTrack.{WrittenTrack}
 use Rattle.track_rules.specs.declared.AxisTracks.{AxisTracks}
 use Rattle.track_rules.specs.Records.{negativeOf, explicitOf, positiveOf, tracksIn, closedBy, openTo}
-use Rattle.track_rules.specs.Rust.{pushes, closeBack, never, State, state, limit}
+use Rattle.track_rules.specs.Rust.{RustTrack, pushes, closeBack, never, State, state, limit}
 use Rattle.track_rules.proofs.Lists.{lt-or-ge}
 use Rattle.track_rules.proofs.Raw.{or-none, or-twice, raw, raw-same, raw-push, raw-close}
 
@@ -70,7 +69,7 @@ module _ (a : AxisTracks) (item : ℕ → Bool) (T : ℕ → WrittenTrack) where
       Good a item T (state (cond (eqb (s .at + n) (negativeOf a + explicitOf a + positiveOf a)) (closeBack o) o) (s .at + n)) (eqb (s .at + n) (tracksIn a))
   fit-good s b g z n h hz hc = go (eqb (s .at + n) (tracksIn a)) refl
     where
-      o : List GridTrack
+      o : List RustTrack
       o = pushes (a .gap) z (λ i. not (item (s .at + i))) n (s .tracks)
 
       pushed : o ≡ raw (a .gap) (sizeBy T) (closedFor item T) (mixed (closedFor item T) (tracksIn a) b) (s .at + n)

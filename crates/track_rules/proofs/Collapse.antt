@@ -85,9 +85,9 @@ gutter-css l item (suc t) h =
     )
 
 -- the mark of a record is what it was made with
-marked : (k : MinMax) (b : Bool) → (trackOf k b) .collapsed ≡ b
-marked k true = refl
-marked k false = refl
+marked : (x : WrittenTrack) (b : Bool) → (trackOf x b) .collapsed ≡ b
+marked x true = refl
+marked x false = refl
 
 module _ (a : AxisTracks) (cs : List Component) (sp : List MinMax) (items : List ℕ) where
   -- record 2t + 1 of the list is collapsed exactly where CSS collapses track t
@@ -96,9 +96,9 @@ module _ (a : AxisTracks) (cs : List Component) (sp : List MinMax) (items : List
       let l = allTracks a cs sp in
       let half : (2 * t + 1) / 2 ≡ t = omega arith in
       let odd : (2 * t + 1) % 2 ≡ 1 = omega arith in
-      let e : recordIn l (itemAt items) (a .gap) (2 * t + 1) ≡ trackOf ((getD l t noTrack) .size) (closedIn l (itemAt items) t) = rw (ne-eqb ((2 * t + 1) % 2) 0 (λ z. omega arith), half) in
+      let e : recordIn l (itemAt items) (a .gap) (2 * t + 1) ≡ trackOf (getD l t noTrack) (closedIn l (itemAt items) t) = rw (ne-eqb ((2 * t + 1) % 2) 0 (λ z. omega arith), half) in
       let m : (getD (recordsOf a cs sp items) (2 * t + 1) d) .collapsed ≡ closedIn l (itemAt items) t =
-      ap (λ (x : GridTrack). x .collapsed) (records-in a cs sp items (2 * t + 1) d (omega arith) ∙ e) ∙ marked ((getD l t noTrack) .size) (closedIn l (itemAt items) t) in
+      ap (λ (x : GridTrack). x .collapsed) (records-in a cs sp items (2 * t + 1) d (omega arith) ∙ e) ∙ marked (getD l t noTrack) (closedIn l (itemAt items) t) in
       ((λ x. track-css l (itemAt items) t .0 (sym m ∙ x)), (λ x. m ∙ track-css l (itemAt items) t .1 x))
 
   -- record 2g of the list is an open gutter exactly where CSS leaves one

@@ -22,13 +22,13 @@ use Rattle.track_rules.proofs.AllTracks.{get-all, track-explicit}
 use Rattle.track_rules.proofs.RecordList.{records-in}
 
 -- what a track record says of its track
-stands : (x : WrittenTrack) (byte : ℕ) → Stands x byte (trackOf (x .size) (x .fit && not (not (eqb byte 0))))
+stands : (x : WrittenTrack) (byte : ℕ) → Stands x byte (trackOf x (x .fit && not (not (eqb byte 0))))
 stands x byte = go (x .fit) refl (eqb byte 0) refl
   where
-    go : (f : Bool) → x .fit ≡ f → (z : Bool) → eqb byte 0 ≡ z → Stands x byte (trackOf (x .size) (f && not (not z)))
-    go true e true q = record { is-track = refl; as-written = λ n. absurd (n (e, eqb-true byte 0 q)); shut = λ n. (refl, refl) }
-    go true e false q = record { is-track = refl; as-written = λ n. (refl, refl); shut = λ n. absurd (eqb-false byte 0 q (n .1)) }
-    go false e z q = record { is-track = refl; as-written = λ n. (refl, refl); shut = λ n. let f = n .0 in let w : _≡_ {A = ℕ} 0 1 = cc in absurd (omega arith) }
+    go : (f : Bool) → x .fit ≡ f → (z : Bool) → eqb byte 0 ≡ z → Stands x byte (trackOf x (f && not (not z)))
+    go true e true q = record { is-track = refl; source-kept = refl; as-written = λ n. absurd (n (e, eqb-true byte 0 q)); shut = λ n. (refl, refl) }
+    go true e false q = record { is-track = refl; source-kept = refl; as-written = λ n. (refl, refl); shut = λ n. absurd (eqb-false byte 0 q (n .1)) }
+    go false e z q = record { is-track = refl; source-kept = refl; as-written = λ n. (refl, refl); shut = λ n. let f = n .0 in let w : _≡_ {A = ℕ} 0 1 = cc in absurd (omega arith) }
 
 -- after line j of a template of at most as many tracks as the grid has stands record 2(m + j) - 1: track j
 pub line-record : (a : AxisTracks) (cs : List Component) (sp : List MinMax) (items : List ℕ) (j : ℕ) (d : GridTrack) →
@@ -47,6 +47,6 @@ line-record a cs sp items j d one low fits =
     get-all a cs sp t in-all ∙ track-explicit a cs sp (itemAt items) t (omega arith) (omega arith)
     ∙ ap (λ (o : ℕ). writtenAt cs (cursorOf (totalsOf (a .repetitions) cs) o)) (let y : t - negativeOf a ≡ j - 1 = omega arith in y)
     ∙ sym (written-at cs (a .repetitions) (j - 1) (omega arith)) in
-    let e : getD (recordsOf a cs sp items) i d ≡ trackOf (x .size) (x .fit && not (itemAt items t)) =
+    let e : getD (recordsOf a cs sp items) i d ≡ trackOf x (x .fit && not (itemAt items t)) =
     records-in a cs sp items i d (omega arith) ∙ rw (ne-eqb (i % 2) 0 (λ z. omega arith), half, same) in
     rw e (stands x (getD items t 0))

@@ -5,7 +5,7 @@ use native.Mathlib.Nat.{mod-eq-of-lt, mod-eq-sub-mod, zero-mul, suc-mul}
 use mathlib.Core.Path.{_≡_, refl, sym, ap, ap₂, _∙_}
 use mathlib.Core.Logic.{_⊎_, inl, inr, ⊎-elim}
 use mathlib.Core.Bool.{Bool, true, false}
-use mathlib.Core.List.{List, [], _∷_, _++_, map}
+use mathlib.Core.List.{List, [], _∷_, _++_, map, map-append}
 use lib.Dec.{ltb}
 use lib.ListN.{length, getD, drop, length-append, List·getD-append}
 use lib.Seq.{getD-append-add, getD-append-seam}
@@ -38,6 +38,14 @@ get-listed f (suc n) i d h =
 pub listed-same : {A : Type 0} (f g : ℕ → A) (n : ℕ) → ((i : ℕ) → i < n → f i ≡ g i) → listed f n ≡ listed g n
 listed-same f g zero h = refl
 listed-same {A} f g (suc n) h = ap₂ (λ (l : List A) (x : A). l ++ (x ∷ [])) (listed-same f g n (λ i k. h i (omega arith))) (h n (omega arith))
+
+pub map-listed : {A B : Type 0} (f : A → B) (g : ℕ → A) (n : ℕ) → map f (listed g n) ≡ listed (λ i. f (g i)) n
+map-listed f g zero = refl
+map-listed {A} {B} f g (suc n) = map-append f (listed g n) (g n ∷ []) ∙ ap (λ (l : List B). l ++ (f (g n) ∷ [])) (map-listed f g n)
+
+pub map-copies : {A B : Type 0} (f : A → B) (n : ℕ) (l : List A) → map f (copies n l) ≡ copies n (map f l)
+map-copies f zero l = refl
+map-copies {A} {B} f (suc n) l = map-append f l (copies n l) ∙ ap (λ (m : List B). map f l ++ m) (map-copies f n l)
 
 -- the element past a first part
 pub get-past : {A : Type 0} (l m : List A) (i : ℕ) (d : A) → length l ≤ i → getD (l ++ m) i d ≡ getD m (i - length l) d

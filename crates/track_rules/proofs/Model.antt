@@ -1,27 +1,27 @@
--- The list of records is what `initialize_grid_tracks` of the Rust makes, for every input, invalid templates beside areas included. Assumes nothing.
+-- The list of records, their sources left out, is what `initialize_grid_tracks` of the Rust makes, for every input, invalid templates beside areas included. Assumes nothing.
 use Prim.Native.Nat.{ℕ, zero, suc, _+_, _*_, _-_, _/_, _%_, _≤_, _<_, min}
 use native.Mathlib.Omega.{arith}
 use native.Mathlib.Nat.{mul-comm, mul-zero, mod-lt}
 use mathlib.Core.Path.{_≡_, refl, sym, ap, _∙_}
 use mathlib.Core.Logic.{⊎-elim}
 use mathlib.Core.Bool.{Bool, true, false, _&&_, _||_}
-use mathlib.Core.List.{List, [], _∷_}
+use mathlib.Core.List.{List, [], _∷_, map}
 use lib.Dec.{leb, eqb}
 use lib.ListN.{length, getD}
 use borrow.Author.Tests.{lt-ltb, le-ltb, eq-eqb, ne-eqb}
 use Rattle.sizing.specs.declared.MinMax.{MinMax}
+use Rattle.sizing.specs.declared.Sizing.{Sizing}
 use Rattle.template_rules.specs.Template.{Component}
 use Rattle.template_rules.specs.declared.RepetitionCount.{RepetitionCount}
 use Rattle.template_rules.specs.declared.RepetitionCount.the-variants.{Single, Count, AutoFill, AutoFit}
-use Rattle.track_rules.specs.declared.GridTrack.{GridTrack}
 use Rattle.track_rules.specs.declared.WrittenTrack.{WrittenTrack}
 use Rattle.track_rules.specs.declared.AxisTracks.{AxisTracks}
 use Rattle.track_rules.specs.Tracks.{autoSize, gutterOf, trackOf}
 use Rattle.track_rules.specs.Written.{repeatsOf, written, writtenOut}
 use Rattle.track_rules.specs.Records.{listed, negativeOf, explicitOf, positiveOf, tracksIn, recordsIn, spareAt, allTracks, noTrack, itemAt, closedBy, openTo, recordIn, recordsOf}
 use Rattle.track_rules.specs.Steps.{totalOf, totalsOf, sumOf, cursorOf, writtenIn, writtenAt, trackAt, closedAt, planOf, pairWith, recordOf}
-use Rattle.track_rules.specs.Rust.{pushes, never, cycled, State, limit, room, plainStep, step, steps, negativePart, explicitPart, positivePart, closeFirst, closeLast, inOrder, initializeGridTracks}
-use Rattle.track_rules.proofs.Lists.{lt-or-ge, listed-same, get-map}
+use Rattle.track_rules.specs.Rust.{RustTrack, bare, rustGutter, rustTrack, pushes, never, cycled, State, limit, room, plainStep, step, steps, negativePart, explicitPart, positivePart, closeFirst, closeLast, inOrder, initializeGridTracks}
+use Rattle.track_rules.proofs.Lists.{lt-or-ge, listed-same, map-listed, get-map}
 use Rattle.track_rules.proofs.Cursors.{sum-nil, sum-cons, written-at, written-head, written-tail}
 use Rattle.track_rules.proofs.Opened.{gutter-late}
 use Rattle.track_rules.proofs.AllTracks.{countIn, track-negative, track-explicit, track-past, closed-negative, closed-past}
@@ -117,6 +117,15 @@ module _ (a : AxisTracks) (item : ℕ → Bool) (T : ℕ → WrittenTrack) where
   steps-good [] s b g h = (b, g, omega (arith, sum-nil (a .repetitions)))
   steps-good (c ∷ cs) s b g h = go-on c cs s (step a item c (c .count) s) h (first-step c cs s b g h) (λ d x y. steps-good cs (step a item c (c .count) s) d x y)
 
+-- a record of the Rust is one of ours without its source
+bare-gutter : (gap : Sizing) (b : Bool) → rustGutter gap b ≡ bare (gutterOf gap b)
+bare-gutter gap true = refl
+bare-gutter gap false = refl
+
+bare-track : (x : WrittenTrack) (b : Bool) → rustTrack (x .size) b ≡ bare (trackOf x b)
+bare-track x true = refl
+bare-track x false = refl
+
 or-shift : (x y z : Bool) → (x || (false || (y || z))) ≡ (x || y || z)
 or-shift true y z = refl
 or-shift false true z = refl
@@ -183,8 +192,8 @@ module _ (a : AxisTracks) (cs : List Component) (sp : List MinMax) (item : ℕ �
       (λ i h. sym (closed-past a cs sp item (s .at + i) (omega arith)))
       (λ i h. flag d (g .ended) (g .within) i h)
       ∙ ap (raw (a .gap) (sizeBy T) F (mixed F (tracksIn a) d)) all in
-      ap (λ (l : List GridTrack). inOrder (closeLast (closeFirst l))) pushed
-      ∙ ap (λ (l : List GridTrack). inOrder (closeLast l)) (raw-first (a .gap) (sizeBy T) F (mixed F (tracksIn a) d) (tracksIn a))
+      ap (λ (l : List RustTrack). inOrder (closeLast (closeFirst l))) pushed
+      ∙ ap (λ (l : List RustTrack). inOrder (closeLast l)) (raw-first (a .gap) (sizeBy T) F (mixed F (tracksIn a) d) (tracksIn a))
       ∙ ap inOrder (raw-last (a .gap) (sizeBy T) F (λ x. eqb x 0 || mixed F (tracksIn a) d x) (tracksIn a))
       ∙ raw-order (a .gap) (sizeBy T) F (closing d) (tracksIn a)
     where
@@ -203,31 +212,32 @@ module _ (a : AxisTracks) (cs : List Component) (sp : List MinMax) (item : ℕ �
       (lt-or-ge (s .at) (tracksIn a)))
       ∙ ap (λ (o : ℕ). F t || leb o (suc t)) (sym (plan-opened a cs sp item))
 
-  shown-record : (s : State) (d : Bool) → Good a item T s d → s .at ≡ before → (i : ℕ) → i < recordsIn a → shown (a .gap) (sizeBy T) F (closing d) i ≡ recordOf a cs sp item i
-  shown-record s d g e zero h = ap (gutterOf (a .gap)) (or-true (eqb 0 (tracksIn a))) ∙ sym (record-first a cs sp item)
+  shown-record : (s : State) (d : Bool) → Good a item T s d → s .at ≡ before → (i : ℕ) → i < recordsIn a → shown (a .gap) (sizeBy T) F (closing d) i ≡ bare (recordOf a cs sp item i)
+  shown-record s d g e zero h = ap (rustGutter (a .gap)) (or-true (eqb 0 (tracksIn a))) ∙ ap bare (sym (record-first a cs sp item))
   shown-record s d g e (suc i) h =
       let o = leb opened (suc i / 2) in
       ⊎-elim
       (λ (k : suc i % 2 < 1).
       let z : suc i % 2 ≡ 0 = omega arith in
       let q : suc i / 2 ≡ suc (i / 2) = omega arith in
-      let x : shown (a .gap) (sizeBy T) F (closing d) (suc i) ≡ gutterOf (a .gap) (closing d (suc (i / 2))) = rw (eq-eqb (suc i % 2) 0 z, q) in
+      let x : shown (a .gap) (sizeBy T) F (closing d) (suc i) ≡ rustGutter (a .gap) (closing d (suc (i / 2))) = rw (eq-eqb (suc i % 2) 0 z, q) in
       let y : pairWith (a .gap) (eqb (suc i % 2) 0) (T (i / 2)) (F (i / 2)) o ≡ gutterOf (a .gap) (F (i / 2) || leb opened (suc (i / 2))) = rw (eq-eqb (suc i % 2) 0 z, q) in
-      x ∙ ap (gutterOf (a .gap)) (closing-late s d g e (i / 2) (omega arith)) ∙ sym (record-later a cs sp item i ∙ y))
+      x ∙ ap (rustGutter (a .gap)) (closing-late s d g e (i / 2) (omega arith)) ∙ bare-gutter (a .gap) (F (i / 2) || leb opened (suc (i / 2))) ∙ ap bare (sym (record-later a cs sp item i ∙ y)))
       (λ (k : 1 ≤ suc i % 2).
       let q : suc i / 2 ≡ i / 2 = omega arith in
-      let x : shown (a .gap) (sizeBy T) F (closing d) (suc i) ≡ trackOf (sizeBy T (i / 2)) (F (i / 2)) = rw (ne-eqb (suc i % 2) 0 (λ z. omega arith), q) in
-      let y : pairWith (a .gap) (eqb (suc i % 2) 0) (T (i / 2)) (F (i / 2)) o ≡ trackOf (sizeBy T (i / 2)) (F (i / 2)) = rw (ne-eqb (suc i % 2) 0 (λ z. omega arith)) in
-      x ∙ sym (record-later a cs sp item i ∙ y))
+      let x : shown (a .gap) (sizeBy T) F (closing d) (suc i) ≡ rustTrack (sizeBy T (i / 2)) (F (i / 2)) = rw (ne-eqb (suc i % 2) 0 (λ z. omega arith), q) in
+      let y : pairWith (a .gap) (eqb (suc i % 2) 0) (T (i / 2)) (F (i / 2)) o ≡ trackOf (T (i / 2)) (F (i / 2)) = rw (ne-eqb (suc i % 2) 0 (λ z. omega arith)) in
+      x ∙ bare-track (T (i / 2)) (F (i / 2)) ∙ ap bare (sym (record-later a cs sp item i ∙ y)))
       (lt-or-ge (suc i % 2) 1)
 
--- the list of records is what the Rust makes
-pub rust-records : (a : AxisTracks) (cs : List Component) (sp : List MinMax) (items : List ℕ) → initializeGridTracks a cs sp (itemAt items) ≡ recordsOf a cs sp items
+-- the list of records, their sources left out, is what the Rust makes
+pub rust-records : (a : AxisTracks) (cs : List Component) (sp : List MinMax) (items : List ℕ) → initializeGridTracks a cs sp (itemAt items) ≡ map bare (recordsOf a cs sp items)
 unfolding initializeGridTracks recordsOf
 rust-records a cs sp items =
     let item = itemAt items in
     let r = explicit-good a cs sp item in
     let s = explicitPart a cs item (negativePart a sp) in
     model-list a cs sp item s (r .0) (r .1) (r .2)
-    ∙ listed-same (shown (a .gap) (sizeBy (T a cs sp item)) (F a cs sp item) (closing a cs sp item (r .0))) (recordIn (allTracks a cs sp) item (a .gap)) (recordsIn a)
-    (λ i h. shown-record a cs sp item s (r .0) (r .1) (r .2) i h ∙ sym (record-same a cs sp item i h))
+    ∙ listed-same (shown (a .gap) (sizeBy (T a cs sp item)) (F a cs sp item) (closing a cs sp item (r .0))) (λ i. bare (recordIn (allTracks a cs sp) item (a .gap) i)) (recordsIn a)
+    (λ i h. shown-record a cs sp item s (r .0) (r .1) (r .2) i h ∙ ap bare (sym (record-same a cs sp item i h)))
+    ∙ sym (map-listed bare (recordIn (allTracks a cs sp) item (a .gap)) (recordsIn a))

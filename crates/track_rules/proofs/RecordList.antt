@@ -69,9 +69,9 @@ module _ (a : AxisTracks) (cs : List Component) (sp : List MinMax) (item : ℕ �
       (λ (k : 1 ≤ suc i % 2).
       let g : suc i / 2 ≡ i / 2 = omega arith in
       let t : i / 2 < tracksIn a = omega arith in
-      let x : recordIn l item (a .gap) (suc i) ≡ trackOf ((getD l (i / 2) noTrack) .size) (closedIn l item (i / 2)) = rw (ne-eqb (suc i % 2) 0 (λ z. omega arith), g) in
-      let y : pairWith (a .gap) (eqb (suc i % 2) 0) (trackAt a cs sp (i / 2)) (closedAt a cs sp item (i / 2)) (leb o (suc i / 2)) ≡ trackOf (trackAt a cs sp (i / 2) .size) (closedAt a cs sp item (i / 2)) = rw (ne-eqb (suc i % 2) 0 (λ z. omega arith)) in
-      x ∙ ap (λ (w : WrittenTrack). trackOf (w .size) (closedBy item w (i / 2))) (get-all a cs sp (i / 2) t) ∙ sym (record-later i ∙ y))
+      let x : recordIn l item (a .gap) (suc i) ≡ trackOf (getD l (i / 2) noTrack) (closedIn l item (i / 2)) = rw (ne-eqb (suc i % 2) 0 (λ z. omega arith), g) in
+      let y : pairWith (a .gap) (eqb (suc i % 2) 0) (trackAt a cs sp (i / 2)) (closedAt a cs sp item (i / 2)) (leb o (suc i / 2)) ≡ trackOf (trackAt a cs sp (i / 2)) (closedAt a cs sp item (i / 2)) = rw (ne-eqb (suc i % 2) 0 (λ z. omega arith)) in
+      x ∙ ap (λ (w : WrittenTrack). trackOf w (closedBy item w (i / 2))) (get-all a cs sp (i / 2) t) ∙ sym (record-later i ∙ y))
       (lt-or-ge (suc i % 2) 1)
 
 -- the list of records
@@ -101,9 +101,9 @@ module _ (a : AxisTracks) (p : Plan) (cs : List Component) (sp : List MinMax) (i
         g ∙ ap (gutterOf (a .gap)) (e ∙ ap (λ (b : Bool). b || leb (p .opened) (i / 2)) (is-shut ∙ ap (λ (y : WrittenTrack). closedBy item y ((i - 1) / 2)) is-track))
         ∙ sym (with-later i later ∙ rw (eq-eqb (i % 2) 0 even))
 
-    pub track-record : (r : GridTrack) → (i % 2 ≡ 0 → ⊥) → r ≡ trackOf (x .size) shut → r ≡ recordWith a p cs sp item u i
+    pub track-record : (r : GridTrack) → (i % 2 ≡ 0 → ⊥) → r ≡ trackOf x shut → r ≡ recordWith a p cs sp item u i
     track-record r odd g =
-        g ∙ ap (trackOf (x .size)) is-shut ∙ ap (λ (y : WrittenTrack). trackOf (y .size) (closedBy item y ((i - 1) / 2))) is-track
+        g ∙ ap (trackOf x) is-shut ∙ ap (λ (y : WrittenTrack). trackOf y (closedBy item y ((i - 1) / 2))) is-track
         ∙ sym (with-later i later ∙ rw (ne-eqb (i % 2) 0 odd))
 
 -- with the plan and the cursor of its place, it is the record of the axis

@@ -4,6 +4,7 @@ pub mod Written
 pub mod Records
 pub mod Steps
 pub mod Css
+pub mod Sources
 pub mod Rust
 pub mod Lines
 pub mod Cases

@@ -16,9 +16,10 @@ use Rattle.track_rules.specs.Tracks.{zeroSize}
 abbrev pub Empty : WrittenTrack → ℕ → Type 0
 Empty x byte = (x .fit ≡ true) × (byte ≡ 0)
 
--- "track j, open and as written out, or collapsed, exactly where `fit` wrote it and it holds no item"
+-- "track j, open and as written out, or collapsed, exactly where `fit` wrote it and it holds no item"; its source is the same either way
 pub record Stands (x : WrittenTrack) (byte : ℕ) (r : GridTrack) : Type 0 where
   pub is-track : r .kind ≡ Track
+  pub source-kept : r .source ≡ x .source
   pub as-written : (Empty x byte → ⊥) → (r .collapsed ≡ false) × (r .size ≡ x .size)
   pub shut : Empty x byte → (r .collapsed ≡ true) × (r .size ≡ zeroSize)
 

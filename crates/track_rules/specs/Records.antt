@@ -105,7 +105,7 @@ abbrev pub recordIn : List WrittenTrack → (ℕ → Bool) → Sizing → ℕ �
 recordIn l item gap i =
     cond (eqb (i % 2) 0)
     (gutterOf gap (shutGutter (closedIn l item) (fitEndsIn l) (length l) (i / 2)))
-    (trackOf ((getD l (i / 2) noTrack) .size) (closedIn l item (i / 2)))
+    (trackOf (getD l (i / 2) noTrack) (closedIn l item (i / 2)))
 
 -- the records of an axis
 unfoldable pub recordsOf : AxisTracks → List Component → List MinMax → List ℕ → List GridTrack

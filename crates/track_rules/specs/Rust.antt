@@ -13,11 +13,34 @@ use Rattle.track_rules.specs.declared.GridTrack.{GridTrack}
 use Rattle.track_rules.specs.declared.GridTrackKind.{GridTrackKind}
 use Rattle.track_rules.specs.declared.GridTrackKind.the-variants.{Track, Gutter}
 use Rattle.track_rules.specs.declared.AxisTracks.{AxisTracks}
-use Rattle.track_rules.specs.Tracks.{autoSize, zeroSize, gutterOf, trackOf}
+use Rattle.track_rules.specs.Tracks.{autoSize, zeroSize}
 use Rattle.track_rules.specs.Records.{negativeOf, explicitOf, positiveOf}
 
+-- `GridTrack` of the Rust, as far as it is set here: it has no source
+pub record RustTrack : Type 0 where
+  pub kind : GridTrackKind
+  pub collapsed : Bool
+  pub size : MinMax
+
+-- a record without its source
+abbrev pub bare : GridTrack → RustTrack
+bare r = record { kind = r .kind; collapsed = r .collapsed; size = r .size }
+
+-- `GridTrack::new_with_kind`, followed by `collapse` or not
+abbrev pub newWithKind : GridTrackKind → MinMax → Bool → RustTrack
+newWithKind kind size true = record { kind = kind; collapsed = true; size = zeroSize }
+newWithKind kind size false = record { kind = kind; collapsed = false; size = size }
+
+-- `GridTrack::gutter`
+abbrev pub rustGutter : Sizing → Bool → RustTrack
+rustGutter gap closed = newWithKind Gutter (record { min = gap; max = gap }) closed
+
+-- `GridTrack::new`
+abbrev pub rustTrack : MinMax → Bool → RustTrack
+rustTrack size closed = newWithKind Track size closed
+
 -- `GridTrack::collapse`
-abbrev pub collapse : GridTrack → GridTrack
+abbrev pub collapse : RustTrack → RustTrack
 collapse x = record { kind = x .kind; collapsed = true; size = zeroSize }
 
 abbrev pub isTrack : GridTrackKind → Bool
@@ -25,15 +48,15 @@ isTrack Track = true
 isTrack Gutter = false
 
 -- n times `push(track)`, `push(gutter)`; both collapse where `closed` says so
-abbrev pub pushes : Sizing → (ℕ → MinMax) → (ℕ → Bool) → ℕ → List GridTrack → List GridTrack
+abbrev pub pushes : Sizing → (ℕ → MinMax) → (ℕ → Bool) → ℕ → List RustTrack → List RustTrack
 pushes gap size closed zero tracks = tracks
-pushes gap size closed (suc n) tracks = gutterOf gap (closed n) ∷ trackOf (size n) (closed n) ∷ pushes gap size closed n tracks
+pushes gap size closed (suc n) tracks = rustGutter gap (closed n) ∷ rustTrack (size n) (closed n) ∷ pushes gap size closed n tracks
 
 abbrev pub never : ℕ → Bool
 never i = false
 
 -- `for previous_track in tracks.iter_mut().rev()`
-abbrev pub closeBack : List GridTrack → List GridTrack
+abbrev pub closeBack : List RustTrack → List RustTrack
 closeBack [] = []
 closeBack (x ∷ tracks) = cond (isTrack (x .kind) && not (x .collapsed)) (x ∷ tracks) (collapse x ∷ closeBack tracks)
 
@@ -43,10 +66,10 @@ cycled sizes i = getD sizes (i % length sizes) autoSize
 
 -- `tracks` and `current_track_index`
 pub record State : Type 0 where
-  pub tracks : List GridTrack
+  pub tracks : List RustTrack
   pub at : ℕ
 
-abbrev pub state : List GridTrack → ℕ → State
+abbrev pub state : List RustTrack → ℕ → State
 state l n = record { tracks = l; at = n }
 
 -- `explicit_track_limit`
@@ -84,7 +107,7 @@ steps a item (c ∷ cs) s = steps a item cs (step a item c (c .count) s)
 abbrev pub negativePart : AxisTracks → List MinMax → State
 negativePart a spares =
     state
-    (pushes (a .gap) (λ i. cycled spares (length spares - negativeOf a % length spares + i)) never (negativeOf a) (gutterOf (a .gap) false ∷ []))
+    (pushes (a .gap) (λ i. cycled spares (length spares - negativeOf a % length spares + i)) never (negativeOf a) (rustGutter (a .gap) false ∷ []))
     (negativeOf a)
 
 -- `if counts.explicit > 0`
@@ -92,24 +115,24 @@ abbrev pub explicitPart : AxisTracks → List Component → (ℕ → Bool) → S
 explicitPart a template item s = cond (ltb 0 (explicitOf a)) (steps a item template s) s
 
 -- `counts.positive_implicit + grid_area_tracks` implicit tracks
-abbrev pub positivePart : AxisTracks → List MinMax → State → List GridTrack
+abbrev pub positivePart : AxisTracks → List MinMax → State → List RustTrack
 positivePart a spares s = pushes (a .gap) (cycled spares) never (positiveOf a + (limit a - s .at)) (s .tracks)
 
 -- `tracks.first_mut()` and `tracks.last_mut()`
-abbrev pub closeFirst : List GridTrack → List GridTrack
+abbrev pub closeFirst : List RustTrack → List RustTrack
 closeFirst [] = []
 closeFirst (x ∷ []) = collapse x ∷ []
 closeFirst (x ∷ y ∷ tracks) = x ∷ closeFirst (y ∷ tracks)
 
-abbrev pub closeLast : List GridTrack → List GridTrack
+abbrev pub closeLast : List RustTrack → List RustTrack
 closeLast [] = []
 closeLast (x ∷ tracks) = collapse x ∷ tracks
 
-abbrev pub inOrder : List GridTrack → List GridTrack
+abbrev pub inOrder : List RustTrack → List RustTrack
 inOrder [] = []
 inOrder (x ∷ tracks) = inOrder tracks ++ (x ∷ [])
 
-unfoldable pub initializeGridTracks : AxisTracks → List Component → List MinMax → (ℕ → Bool) → List GridTrack
+unfoldable pub initializeGridTracks : AxisTracks → List Component → List MinMax → (ℕ → Bool) → List RustTrack
 unfolding steps
 initializeGridTracks a template spares item =
     inOrder (closeLast (closeFirst (positivePart a spares (explicitPart a template item (negativePart a spares)))))

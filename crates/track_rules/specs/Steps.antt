@@ -102,7 +102,7 @@ planOf a cs item = record { written = writtenCount a (totalsOf (a .repetitions) 
 
 -- track t, or the gutter after it
 abbrev pub pairWith : Sizing → Bool → WrittenTrack → Bool → Bool → GridTrack
-pairWith gap even x closed late = cond even (gutterOf gap (closed || late)) (trackOf (x .size) closed)
+pairWith gap even x closed late = cond even (gutterOf gap (closed || late)) (trackOf x closed)
 
 -- record i: from the first gutter on, record i is track (i - 1) / 2 or the gutter after it
 abbrev pub recordWith : AxisTracks → Plan → List Component → List MinMax → (ℕ → Bool) → Cursor → ℕ → GridTrack

@@ -4,12 +4,19 @@ ghost use Rattle.track_rules.specs.Tracks.{gridTrack, gutterOf, trackOf,
 use crate::GridTrack;
 use crate::GridTrackKind;
 use crate::RecordAnswer;
+use crate::TrackSource;
+use crate::WrittenTrack;
 use sizing::MinMax;
 use sizing::Sizing;
 
-// Makes every record. A collapsed one is a fixed one of size 0.
-pub fn new_with_kind(kind: GridTrackKind, size: MinMax, collapsed: bool) -> GridTrack
-    ensures { λ r. ⌜ r ≡ gridTrack kind size collapsed ⌝ }
+// Makes every record. A collapsed one is a fixed one of size 0, from the same source.
+pub fn new_with_kind(
+    kind: GridTrackKind,
+    source: TrackSource,
+    size: MinMax,
+    collapsed: bool,
+) -> GridTrack
+    ensures { λ r. ⌜ r ≡ gridTrack kind source size collapsed ⌝ }
 {
     if collapsed {
         let zero = MinMax {
@@ -19,12 +26,14 @@ pub fn new_with_kind(kind: GridTrackKind, size: MinMax, collapsed: bool) -> Grid
         return GridTrack {
             kind,
             collapsed: true,
+            source,
             size: zero,
         };
     }
     GridTrack {
         kind,
         collapsed: false,
+        source,
         size,
     }
 }
@@ -34,14 +43,16 @@ pub fn gutter(gap: Sizing, collapsed: bool) -> GridTrack
     ensures { λ r. ⌜ r ≡ gutterOf gap collapsed ⌝ }
 {
     let size = MinMax { min: gap, max: gap };
-    new_with_kind(GridTrackKind::Gutter, size, collapsed)
+    new_with_kind(GridTrackKind::Gutter, TrackSource::Gutter, size, collapsed)
 }
 
-// A track of a size.
-pub fn track(size: MinMax, collapsed: bool) -> GridTrack
-    ensures { λ r. ⌜ r ≡ trackOf size collapsed ⌝ }
+// A track as it is written out, or collapsed.
+pub fn track(written: WrittenTrack, collapsed: bool) -> GridTrack
+    ensures { λ r. ⌜ r ≡ trackOf written collapsed ⌝ }
 {
-    new_with_kind(GridTrackKind::Track, size, collapsed)
+    let source = written.source;
+    let size = written.size;
+    new_with_kind(GridTrackKind::Track, source, size, collapsed)
 }
 
 // The zero record.
@@ -52,7 +63,7 @@ pub fn zero() -> GridTrack
         min: Sizing::Length(0.0),
         max: Sizing::Length(0.0),
     };
-    new_with_kind(GridTrackKind::Track, size, false)
+    new_with_kind(GridTrackKind::Track, TrackSource::Negative, size, false)
 }
 
 // A refused answer: the number, and the zero record.

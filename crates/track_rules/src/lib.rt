@@ -13,20 +13,22 @@ pub enum GridTrackKind {
     Gutter,
 }
 
-// A track record. A collapsed one has both sizes length 0.
-pub struct GridTrack {
-    pub kind: GridTrackKind,
-    pub collapsed: bool,
-    pub size: MinMax,
-}
-
-// Where a track came from: before the grid, a single or counted repeat, an automatic repeat, an area alone, after the grid.
+// Where a record came from: before the grid, a single or counted repeat, an automatic repeat, an area alone, after the grid; or it is a gutter.
 pub enum TrackSource {
     Negative,
     Template,
     Automatic,
     Area,
     Positive,
+    Gutter,
+}
+
+// A track record. A collapsed one has both sizes length 0, and keeps its source.
+pub struct GridTrack {
+    pub kind: GridTrackKind,
+    pub collapsed: bool,
+    pub source: TrackSource,
+    pub size: MinMax,
 }
 
 // A track as it is written out, before any collapses, and whether `fit` wrote it.

@@ -69,8 +69,8 @@ sub-before-end c =
 before-end-requires-2 : tie.Need-before-end-requires-2
 before-end-requires-2 c κs = search needs
 
-mul-t27 : tie.Need-mul-t27
-mul-t27 c =
+mul-t28 : tie.Need-mul-t28
+mul-t28 c =
     let a = c .before .before .before .before .before .before .before .before .before .before .before .before .before .before .before .before .before .before .args in
     let p = c .before .before .before .before .before .before .before .before .before .before .before .before .before .before .before .before .before .before .pre in
     let axis = c .before .before .before .before .before .before .before .before .before .before .before .before .before .before .axis-tracks .result in
@@ -79,8 +79,8 @@ mul-t27 c =
     let b = taken-fits before negative (a .tracks .first) (a .tracks .count) (c .before .before .before .before .before .before .before .before-end .ensures) in
     omega (arith, p .1, c .before .before .before .before .before .before .before .before .before .before .before .before .before .before .before .before .before .before .good, b)
 
-add-t28 : tie.Need-add-t28
-add-t28 c =
+add-t29 : tie.Need-add-t29
+add-t29 c =
     let a = c .before .before .before .before .before .before .before .before .before .before .before .before .before .before .before .before .before .before .before .args in
     let p = c .before .before .before .before .before .before .before .before .before .before .before .before .before .before .before .before .before .before .before .pre in
     let axis = c .before .before .before .before .before .before .before .before .before .before .before .before .before .before .before .axis-tracks .result in
@@ -124,6 +124,18 @@ add-next c =
     let w = taken-fits written (negative + a .plan .written) (a .tracks .first + before) (a .tracks .count - before) (c .before .before .before .before .before .before .before-end2 .ensures) in
     omega (arith, p .1, c .before .before .before .before .before .before .before .before .before .before .before .before .before .before .before .before .before .before .before .before .before .before .before .before .good, b, w)
 
+sub-t29 : tie.Need-sub-t29
+sub-t29 c =
+    let a = c .before .before .before .before .before .before .before .before .before .before .before .before .before .before .before .before .before .before .before .before .before .before .before .before .before .args in
+    let p = c .before .before .before .before .before .before .before .before .before .before .before .before .before .before .before .before .before .before .before .before .before .before .before .before .before .pre in
+    let axis = c .before .before .before .before .before .before .before .before .before .before .before .before .before .before .before .before .before .before .before .before .before .axis-tracks .result in
+    let negative = axis .counts .«negative_implicit» in
+    let before = c .before .before .before .before .before .before .before .before .before .before .before .before .before .before .before-end .result in
+    let b = taken-fits before negative (a .tracks .first) (a .tracks .count) (c .before .before .before .before .before .before .before .before .before .before .before .before .before .before .before-end .ensures) in
+    let written = c .before .before .before .before .before .before .before .before-end2 .result in
+    let w = taken-fits written (negative + a .plan .written) (a .tracks .first + before) (a .tracks .count - before) (c .before .before .before .before .before .before .before .before-end2 .ensures) in
+    omega (arith, p .1, c .before .before .before .before .before .before .before .before .before .before .before .before .before .before .before .before .before .before .before .before .before .before .before .before .before .good, b, w)
+
 sub-t28 : tie.Need-sub-t28
 sub-t28 c =
     let a = c .before .before .before .before .before .before .before .before .before .before .before .before .before .before .before .before .before .before .before .before .before .before .before .before .before .args in
@@ -136,8 +148,8 @@ sub-t28 c =
     let w = taken-fits written (negative + a .plan .written) (a .tracks .first + before) (a .tracks .count - before) (c .before .before .before .before .before .before .before .before-end2 .ensures) in
     omega (arith, p .1, c .before .before .before .before .before .before .before .before .before .before .before .before .before .before .before .before .before .before .before .before .before .before .before .before .before .good, b, w)
 
-sub-t27 : tie.Need-sub-t27
-sub-t27 c =
+add-t32 : tie.Need-add-t32
+add-t32 c =
     let a = c .before .before .before .before .before .before .before .before .before .before .before .before .before .before .before .before .before .before .before .before .before .before .before .before .before .args in
     let p = c .before .before .before .before .before .before .before .before .before .before .before .before .before .before .before .before .before .before .before .before .before .before .before .before .before .pre in
     let axis = c .before .before .before .before .before .before .before .before .before .before .before .before .before .before .before .before .before .before .before .before .before .axis-tracks .result in
@@ -148,8 +160,8 @@ sub-t27 c =
     let w = taken-fits written (negative + a .plan .written) (a .tracks .first + before) (a .tracks .count - before) (c .before .before .before .before .before .before .before .before-end2 .ensures) in
     omega (arith, p .1, c .before .before .before .before .before .before .before .before .before .before .before .before .before .before .before .before .before .before .before .before .before .before .before .before .before .good, b, w)
 
-add-t31 : tie.Need-add-t31
-add-t31 c =
+mul-t33 : tie.Need-mul-t33
+mul-t33 c =
     let a = c .before .before .before .before .before .before .before .before .before .before .before .before .before .before .before .before .before .before .before .before .before .before .before .before .before .args in
     let p = c .before .before .before .before .before .before .before .before .before .before .before .before .before .before .before .before .before .before .before .before .before .before .before .before .before .pre in
     let axis = c .before .before .before .before .before .before .before .before .before .before .before .before .before .before .before .before .before .before .before .before .before .axis-tracks .result in
@@ -160,20 +172,8 @@ add-t31 c =
     let w = taken-fits written (negative + a .plan .written) (a .tracks .first + before) (a .tracks .count - before) (c .before .before .before .before .before .before .before .before-end2 .ensures) in
     omega (arith, p .1, c .before .before .before .before .before .before .before .before .before .before .before .before .before .before .before .before .before .before .before .before .before .before .before .before .before .good, b, w)
 
-mul-t32 : tie.Need-mul-t32
-mul-t32 c =
-    let a = c .before .before .before .before .before .before .before .before .before .before .before .before .before .before .before .before .before .before .before .before .before .before .before .before .before .args in
-    let p = c .before .before .before .before .before .before .before .before .before .before .before .before .before .before .before .before .before .before .before .before .before .before .before .before .before .pre in
-    let axis = c .before .before .before .before .before .before .before .before .before .before .before .before .before .before .before .before .before .before .before .before .before .axis-tracks .result in
-    let negative = axis .counts .«negative_implicit» in
-    let before = c .before .before .before .before .before .before .before .before .before .before .before .before .before .before .before-end .result in
-    let b = taken-fits before negative (a .tracks .first) (a .tracks .count) (c .before .before .before .before .before .before .before .before .before .before .before .before .before .before .before-end .ensures) in
-    let written = c .before .before .before .before .before .before .before .before-end2 .result in
-    let w = taken-fits written (negative + a .plan .written) (a .tracks .first + before) (a .tracks .count - before) (c .before .before .before .before .before .before .before .before-end2 .ensures) in
-    omega (arith, p .1, c .before .before .before .before .before .before .before .before .before .before .before .before .before .before .before .before .before .before .before .before .before .before .before .before .before .good, b, w)
-
-add-t33 : tie.Need-add-t33
-add-t33 c =
+add-t34 : tie.Need-add-t34
+add-t34 c =
     let a = c .before .before .before .before .before .before .before .before .before .before .before .before .before .before .before .before .before .before .before .before .before .before .before .before .before .before .args in
     let p = c .before .before .before .before .before .before .before .before .before .before .before .before .before .before .before .before .before .before .before .before .before .before .before .before .before .before .pre in
     let axis = c .before .before .before .before .before .before .before .before .before .before .before .before .before .before .before .before .before .before .before .before .before .before .axis-tracks .result in
@@ -187,20 +187,29 @@ add-t33 c =
 past-end-requires-2 : tie.Need-past-end-requires-2
 past-end-requires-2 c κs = search needs
 
-write-spares-requires : tie.Need-write-spares-requires
-write-spares-requires c κs =
-    let a = c .before .before .before .before .before .before .before .before .before .before .before .before .before .before .before .before .before .before .before .before .before .before .before .before .before .before .before .before .args in
-    let p = c .before .before .before .before .before .before .before .before .before .before .before .before .before .before .before .before .before .before .before .before .before .before .before .before .before .before .before .before .pre in
-    let axis = c .before .before .before .before .before .before .before .before .before .before .before .before .before .before .before .before .before .before .before .before .before .before .before .before .axis-tracks .result in
+cast-explicit : tie.Need-cast-explicit
+cast-explicit c = search needs
+
+add-explicit : tie.Need-add-explicit
+add-explicit c = search needs
+
+write-positive-requires : tie.Need-write-positive-requires
+write-positive-requires c κs =
+    let a = c .before .before .before .before .before .before .before .before .before .before .before .before .before .before .before .before .before .before .before .before .before .before .before .before .before .before .before .before .before .args in
+    let p = c .before .before .before .before .before .before .before .before .before .before .before .before .before .before .before .before .before .before .before .before .before .before .before .before .before .before .before .before .before .pre in
+    let axis = c .before .before .before .before .before .before .before .before .before .before .before .before .before .before .before .before .before .before .before .before .before .before .before .before .before .axis-tracks .result in
     let negative = axis .counts .«negative_implicit» in
-    let before = c .before .before .before .before .before .before .before .before .before .before .before .before .before .before .before .before .before .before-end .result in
-    let b = taken-fits before negative (a .tracks .first) (a .tracks .count) (c .before .before .before .before .before .before .before .before .before .before .before .before .before .before .before .before .before .before-end .ensures) in
-    let written = c .before .before .before .before .before .before .before .before .before .before .before-end2 .result in
-    let w = taken-fits written (negative + a .plan .written) (a .tracks .first + before) (a .tracks .count - before) (c .before .before .before .before .before .before .before .before .before .before .before-end2 .ensures) in
-    let kept : length (c .before .before .before .before .before .before .write-template .last .1 .1 .1 .1 .1 .1 .0) ≡ length (a .words .now) =
-    ap length (c .before .before .before .before .before .before .write-template .ensures) ∙ simp length-sets (ap length (c .before .before .before .before .before .before .before .before .before .before .before .before .before .before .before .write-negative .ensures) ∙ simp length-sets) in (
-      rest-tracks (a .tracks .first) (a .tracks .count) before written b w (p .1 .0),
-      subst (λ (n : ℕ). a .tracks .place + 6 * (before + written) + 6 * (a .tracks .count - before - written) ≤ n) (sym kept) (rest-room (a .tracks .place) (length (a .words .now)) (a .tracks .count) before written b w (p .1 .1)),
+    let before = c .before .before .before .before .before .before .before .before .before .before .before .before .before .before .before .before .before .before .before-end .result in
+    let b = taken-fits before negative (a .tracks .first) (a .tracks .count) (c .before .before .before .before .before .before .before .before .before .before .before .before .before .before .before .before .before .before .before-end .ensures) in
+    let written = c .before .before .before .before .before .before .before .before .before .before .before .before-end2 .result in
+    let w = taken-fits written (negative + a .plan .written) (a .tracks .first + before) (a .tracks .count - before) (c .before .before .before .before .before .before .before .before .before .before .before .before-end2 .ensures) in
+    let kept : length (c .before .before .before .before .before .before .before .write-template .last .1 .1 .1 .1 .1 .1 .0) ≡ length (a .words .now) =
+    ap length (c .before .before .before .before .before .before .before .write-template .ensures) ∙ simp length-sets (ap length (c .before .before .before .before .before .before .before .before .before .before .before .before .before .before .before .before .write-negative .ensures) ∙ simp length-sets) in (
+      omega (arith, c .before .before .past-end2 .ensures, track-room (a .tracks .first) (a .tracks .count) before written b w (p .1 .0)),
+      (
+        rest-tracks (a .tracks .first) (a .tracks .count) before written b w (p .1 .0),
+        subst (λ (n : ℕ). a .tracks .place + 6 * (before + written) + 6 * (a .tracks .count - before - written) ≤ n) (sym kept) (rest-room (a .tracks .place) (length (a .words .now)) (a .tracks .count) before written b w (p .1 .1)),
+      ),
     )
 
 same-length : tie.Need-same-length
@@ -208,13 +217,13 @@ same-length c = search needs
 
 returns : tie.Need-returns
 returns c =
-    let a = c .before .before .before .before .before .before .before .before .before .before .before .before .before .before .before .before .before .before .before .before .before .before .before .before .before .before .before .before .before .before .before .args in
-    pairs-written (a .grid) (a .plan) (a .tables .now) (a .items .now) (c .before .before .before .before .before .before .before .before .before .before .before .before .before .before .before .before .before .before .before .before .before .before .before .before .before .before .before .axis-tracks .result) (c .before .before .before .before .before .before .before .before .before .before .before .before .before .before .before .before .before .before .before .before .before .before .spare-minimums-of .result .now) (c .before .before .before .before .before .before .before .before .before .before .before .before .before .before .before .before .before .before .before .before .before .spare-maximums-of .result .now) (c .before .before .before .before .before .before .before .before .before .before .before .before .before .before .before .before .before .before .before .before .before .before .before .gutters-of .result)
-    (c .before .before .before .before .before .before .before .before .before .before .before .before .before .before .before .before .before .before .before .before .before-end .result) (c .before .before .before .before .before .before .before .before .before .before .before .before .before .before-end2 .result) (c .before .before .before .before .before .before .before .before .before .before .before .past-end .result) (c .before .before .before .before .past-end2 .result) (a .tracks .first) (a .tracks .count) (a .tracks .place)
-    (a .words .now) (c .before .before .before .before .before .before .before .before .before .before .before .before .before .before .before .before .before .before .write-negative .last .1 .1 .1 .1 .1 .1 .0) (c .before .before .before .before .before .before .before .before .before .write-template .last .1 .1 .1 .1 .1 .1 .0) (c .before .before .write-spares .last .1 .1 .1 .1 .1 .1 .0)
-    (c .before .before .before .before .before .before .before .before .before .before .before .before .before .before .before .before .before .before .before .before .before .before .before .before .before .before .before .axis-tracks .ensures) (c .before .before .before .before .before .before .before .before .before .before .before .before .before .before .before .before .before .before .before .before .before .before .spare-minimums-of .ensures) (c .before .before .before .before .before .before .before .before .before .before .before .before .before .before .before .before .before .before .before .before .before .spare-maximums-of .ensures) (c .before .before .before .before .before .before .before .before .before .before .before .before .before .before .before .before .before .before .before .before .before .before .before .gutters-of .ensures) (c .before .before .before .before .before .before .before .before .before .before .before .before .before .before .before .before .before .before .before .before .before .before .before .before .before .before .before .before .before .before .before .pre .0)
-    (c .before .before .before .before .before .before .before .before .before .before .before .before .before .before .before .before .before .before .before .before .before-end .ensures) (c .before .before .before .before .before .before .before .before .before .before .before .before .before .before-end2 .ensures) (c .before .before .before .before .before .before .before .before .before .before .before .past-end .ensures) (c .before .before .before .before .past-end2 .ensures)
-    (c .before .before .before .before .before .before .before .before .before .before .before .before .before .before .before .before .before .before .write-negative .ensures) (c .before .before .before .before .before .before .before .before .before .write-template .ensures) (c .before .before .write-spares .ensures)
+    let a = c .before .before .before .before .before .before .before .before .before .before .before .before .before .before .before .before .before .before .before .before .before .before .before .before .before .before .before .before .before .before .before .before .args in
+    pairs-written (a .grid) (a .plan) (a .tables .now) (a .items .now) (c .before .before .before .before .before .before .before .before .before .before .before .before .before .before .before .before .before .before .before .before .before .before .before .before .before .before .before .before .axis-tracks .result) (c .before .before .before .before .before .before .before .before .before .before .before .before .before .before .before .before .before .before .before .before .before .before .before .spare-minimums-of .result .now) (c .before .before .before .before .before .before .before .before .before .before .before .before .before .before .before .before .before .before .before .before .before .before .spare-maximums-of .result .now) (c .before .before .before .before .before .before .before .before .before .before .before .before .before .before .before .before .before .before .before .before .before .before .before .before .gutters-of .result)
+    (c .before .before .before .before .before .before .before .before .before .before .before .before .before .before .before .before .before .before .before .before .before .before-end .result) (c .before .before .before .before .before .before .before .before .before .before .before .before .before .before .before-end2 .result) (c .before .before .before .before .before .before .before .before .before .before .before .before .past-end .result) (c .before .before .before .before .before .past-end2 .result) (a .tracks .first) (a .tracks .count) (a .tracks .place)
+    (a .words .now) (c .before .before .before .before .before .before .before .before .before .before .before .before .before .before .before .before .before .before .before .write-negative .last .1 .1 .1 .1 .1 .1 .0) (c .before .before .before .before .before .before .before .before .before .before .write-template .last .1 .1 .1 .1 .1 .1 .0) (c .before .before .write-positive .last .1 .1 .1 .1 .1 .1 .1 .0)
+    (c .before .before .before .before .before .before .before .before .before .before .before .before .before .before .before .before .before .before .before .before .before .before .before .before .before .before .before .before .axis-tracks .ensures) (c .before .before .before .before .before .before .before .before .before .before .before .before .before .before .before .before .before .before .before .before .before .before .before .spare-minimums-of .ensures) (c .before .before .before .before .before .before .before .before .before .before .before .before .before .before .before .before .before .before .before .before .before .before .spare-maximums-of .ensures) (c .before .before .before .before .before .before .before .before .before .before .before .before .before .before .before .before .before .before .before .before .before .before .before .before .gutters-of .ensures) (c .before .before .before .before .before .before .before .before .before .before .before .before .before .before .before .before .before .before .before .before .before .before .before .before .before .before .before .before .before .before .before .before .pre .0)
+    (c .before .before .before .before .before .before .before .before .before .before .before .before .before .before .before .before .before .before .before .before .before .before-end .ensures) (c .before .before .before .before .before .before .before .before .before .before .before .before .before .before .before-end2 .ensures) (c .before .before .before .before .before .before .before .before .before .before .before .before .past-end .ensures) (c .before .before .before .before .before .past-end2 .ensures)
+    (c .before .before .before .before .before .before .before .before .before .before .before .before .before .before .before .before .before .before .before .write-negative .ensures) (c .before .before .before .before .before .before .before .before .before .before .write-template .ensures) (c .before .before .write-positive .ensures)
 
 pub write-pairs-spec : {M : Type 1} → statement M
 write-pairs-spec =
@@ -232,17 +241,19 @@ write-pairs-spec =
     add-first
     sub-before-end
     before-end-requires-2
-    mul-t27
-    add-t28
+    mul-t28
+    add-t29
     past-end-requires
     write-template-requires
     add-next
+    sub-t29
     sub-t28
-    sub-t27
-    add-t31
-    mul-t32
-    add-t33
+    add-t32
+    mul-t33
+    add-t34
     past-end-requires-2
-    write-spares-requires
+    cast-explicit
+    add-explicit
+    write-positive-requires
     same-length
     returns)

@@ -16,7 +16,7 @@ returns : tie.Need-returns
 returns c =
     let a = c .before .before .before .before .before .before .args in
     let mi = a .spare-minimums .now in
-    put-none (sparePair (sparesOf mi (a .spare-maximums .now)) (a .items .now) (a .offset) (a .tracks .first) (a .gutters)) (a .words .now) (a .tracks .place) (a .tracks .first) (a .tracks .count) (c .if1 .taken)
+    put-none (sparePair (a .source) (sparesOf mi (a .spare-maximums .now)) (a .items .now) (a .offset) (a .tracks .first) (a .gutters)) (a .words .now) (a .tracks .place) (a .tracks .first) (a .tracks .count) (c .if1 .taken)
 
 slice-aggregate-write-part : tie.Need-slice-aggregate-write-part
 slice-aggregate-write-part c = search needs
@@ -37,8 +37,8 @@ returns-2 c =
     let auto : List ℕ = 12884901888 ∷ [] in
     c .before .before .write-part .ensures
     ∙ ap (sets (a .words .now) (a .tracks .place))
-    (joined-same (partPair auto auto (a .items .now) (record { first = 0; length = 1; fit = false }) 0 (a .tracks .first) (a .gutters)) (sparePair (sparesOf mi (a .spare-maximums .now)) (a .items .now) (a .offset) (a .tracks .first) (a .gutters)) (a .tracks .first) (a .tracks .count)
-    (λ j h. pair-auto mi (a .spare-maximums .now) (a .items .now) (a .offset) (a .tracks .first) (a .gutters) auto refl (c .before .before .before .before .before .before .if2 .taken) j))
+    (joined-same (partPair auto auto (a .items .now) (record { first = 0; length = 1; source = a .source; fit = false }) 0 (a .tracks .first) (a .gutters)) (sparePair (a .source) (sparesOf mi (a .spare-maximums .now)) (a .items .now) (a .offset) (a .tracks .first) (a .gutters)) (a .tracks .first) (a .tracks .count)
+    (λ j h. pair-auto mi (a .spare-maximums .now) (a .items .now) (a .source) (a .offset) (a .tracks .first) (a .gutters) auto refl (c .before .before .before .before .before .before .if2 .taken) j))
 
 write-part-requires-2 : tie.Need-write-part-requires-2
 write-part-requires-2 c κs = search needs
@@ -52,8 +52,8 @@ returns-3 c =
     let mi = a .spare-minimums .now in
     c .before .before .write-part2 .ensures
     ∙ ap (sets (a .words .now) (a .tracks .place))
-    (joined-same (partPair mi (a .spare-maximums .now) (a .items .now) (record { first = 0; length = length mi; fit = false }) (a .offset) (a .tracks .first) (a .gutters)) (sparePair (sparesOf mi (a .spare-maximums .now)) (a .items .now) (a .offset) (a .tracks .first) (a .gutters)) (a .tracks .first) (a .tracks .count)
-    (λ j h. pair-spare mi (a .spare-maximums .now) (a .items .now) (a .offset) (a .tracks .first) (a .gutters) (c .before .before .before .before .if2 .left) j))
+    (joined-same (partPair mi (a .spare-maximums .now) (a .items .now) (record { first = 0; length = length mi; source = a .source; fit = false }) (a .offset) (a .tracks .first) (a .gutters)) (sparePair (a .source) (sparesOf mi (a .spare-maximums .now)) (a .items .now) (a .offset) (a .tracks .first) (a .gutters)) (a .tracks .first) (a .tracks .count)
+    (λ j h. pair-spare mi (a .spare-maximums .now) (a .items .now) (a .source) (a .offset) (a .tracks .first) (a .gutters) (c .before .before .before .before .if2 .left) j))
 
 pub write-spares-spec : {M : Type 1} → statement M
 write-spares-spec =

@@ -23,7 +23,7 @@ mul-words-2 c = search needs
 
 slice-write-words-2 : tie.Need-slice-write-words-2
 slice-write-words-2 c =
-    second-place (c .before .before .before .args .words .now) (c .before .before .before .args .place) (c .before .kind-word .result) (c .before .before .before .pre .1)
+    second-place (c .before .before .before .args .words .now) (c .before .before .before .args .place) (c .before .kind-word .result) (c .before .before .before .pre .1 .1)
 
 open-word-requires-2 : tie.Need-open-word-requires-2
 open-word-requires-2 c κs = search needs
@@ -36,7 +36,7 @@ mul-words-3 c = search needs
 
 slice-write-words-3 : tie.Need-slice-write-words-3
 slice-write-words-3 c =
-    third-place (c .before .before .before .before .args .words .now) (c .before .before .before .before .args .place) (c .before .before .kind-word .result) (c .before .open-word .result) (c .before .before .before .before .pre .1)
+    third-place (c .before .before .before .before .args .words .now) (c .before .before .before .before .args .place) (c .before .before .kind-word .result) (c .before .open-word .result) (c .before .before .before .before .pre .1 .1)
 
 same-length : tie.Need-same-length
 same-length c = search needs
@@ -44,7 +44,7 @@ same-length c = search needs
 returns : tie.Need-returns
 returns c =
     let a = c .before .before .before .before .args in
-    put-three (a .words .now) (a .place) (a .kind) (a .collapsed) (a .low) (a .high) (c .before .before .kind-word .result) (c .before .open-word .result) (c .open-word2 .result)
+    put-three (a .words .now) (a .place) (a .kind) (a .source) (a .collapsed) (a .low) (a .high) (c .before .before .kind-word .result) (c .before .open-word .result) (c .open-word2 .result)
     (c .before .before .kind-word .ensures) (c .before .open-word .ensures) (c .open-word2 .ensures)
 
 pub put-record-spec : {M : Type 1} → statement M

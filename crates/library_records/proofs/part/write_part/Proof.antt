@@ -11,12 +11,12 @@ use Rattle.library_records.proofs.part.write_part.Statement.{statement}
 use Rattle.library_records.proofs.part.write_part.Tie as tie
 
 abbrev Inv-loop : tie.InvT-loop
-Inv-loop minimums maximums items offset gutters words₀ count span size fit first place inner₀ i₀ words inner i =
+Inv-loop minimums maximums items offset gutters words₀ count span size source fit first place inner₀ i₀ words inner i =
     (i ≤ count) × (inner ≡ (offset + i) % span) × (length words ≡ length words₀)
-    × (written (partPair minimums maximums items (record { first = size; length = span; fit = fit }) offset first gutters) words place first count i ≡ sets words₀ place (joined (partPair minimums maximums items (record { first = size; length = span; fit = fit }) offset first gutters) first count))
+    × (written (partPair minimums maximums items (record { first = size; length = span; source = source; fit = fit }) offset first gutters) words place first count i ≡ sets words₀ place (joined (partPair minimums maximums items (record { first = size; length = span; source = source; fit = fit }) offset first gutters) first count))
 
 abbrev μ-loop : tie.MeasureT-loop
-μ-loop minimums maximums items offset gutters words₀ count span size fit first place inner₀ i₀ words inner i =
+μ-loop minimums maximums items offset gutters words₀ count span size source fit first place inner₀ i₀ words inner i =
     count - i
 
 returns : tie.Need-returns Inv-loop μ-loop
@@ -34,13 +34,13 @@ loop-holds c =
     let a = c .before .before .before .before .before .before .args in
     (omega arith, c .inner-of .ensures ∙ ap (λ (n : ℕ). n % a .part .length) (sym (add-zero (a .offset))), refl, written-none (partPair (a .minimums .now) (a .maximums .now) (a .items .now) (a .part) (a .offset) (a .tracks .first) (a .gutters)) (a .words .now) (a .tracks .place) (a .tracks .first) (a .tracks .count))
 
-add-t20 : tie.Need-add-t20 Inv-loop μ-loop
-add-t20 c =
+add-t21 : tie.Need-add-t21 Inv-loop μ-loop
+add-t21 c =
     let p = c .before .before .before .before .before .before .before .before .pre in
     omega (arith, p .1, c .loop-test .taken)
 
-add-t22 : tie.Need-add-t22 Inv-loop μ-loop
-add-t22 c =
+add-t23 : tie.Need-add-t23 Inv-loop μ-loop
+add-t23 c =
     let a = c .before .before .before .before .before .before .before .before .args in
     let p = c .before .before .before .before .before .before .before .before .pre in
     let pos : 0 < a .part .length = p .0 (omega (arith, c .before .before .before .if1 .left)) in
@@ -114,8 +114,8 @@ write-part-spec =
     returns
     inner-of-requires
     loop-holds
-    add-t20
-    add-t22
+    add-t21
+    add-t23
     mul-put-pair
     add-put-pair
     put-pair-requires

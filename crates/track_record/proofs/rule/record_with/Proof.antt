@@ -39,10 +39,10 @@ track-requires c κs = search needs
 
 returns-3 : tie.Need-returns-3
 returns-3 c =
-    let a = c .before .before .before .before .before .before .before .before .before .before .before .before .before .before .args in
-    track-record (a .at .axis) (a .at .plan) (templateOf (a .components .now) (a .minimums .now) (a .maximums .now)) (sparesOf (a .spare-minimums .now) (a .spare-maximums .now)) (itemAt (a .items .now)) (a .at .cursor) (a .index) (c .before .before .before .before .before .if1 .left)
-    (c .before .before .before .before .track-with .result) (c .before .before .before .track-collapses .result) (c .before .before .before .before .track-with .ensures) (c .before .before .before .track-collapses .ensures)
-    (c .track .result) (c .before .before .if2 .left) (c .track .ensures)
+    let a = c .before .before .before .before .before .before .before .before .before .before .before .before .before .args in
+    track-record (a .at .axis) (a .at .plan) (templateOf (a .components .now) (a .minimums .now) (a .maximums .now)) (sparesOf (a .spare-minimums .now) (a .spare-maximums .now)) (itemAt (a .items .now)) (a .at .cursor) (a .index) (c .before .before .before .before .if1 .left)
+    (c .before .before .before .track-with .result) (c .before .before .track-collapses .result) (c .before .before .before .track-with .ensures) (c .before .before .track-collapses .ensures)
+    (c .track .result) (c .before .if2 .left) (c .track .ensures)
 
 pub record-with-spec : {M : Type 1} → statement M
 record-with-spec =
