@@ -50,7 +50,7 @@ enum palgwern_limit {
     PALGWERN_TRACKS = 10000,          /* explicit tracks, and each implicit count */
     PALGWERN_LARGEST_RECORDS = 60001, /* records of the largest axis */
     PALGWERN_RECORD_WORDS = 3,        /* words of a record */
-    PALGWERN_PLACEMENT_NUMBERS = 6    /* numbers of a resolved placement in a run */
+    PALGWERN_PLACEMENT_NUMBERS = 8    /* numbers of a resolved placement in a run */
 };
 
 /* Lengths of the arrays that are lent, and of the regions that they are made of. */
@@ -58,7 +58,7 @@ enum palgwern_length {
     PALGWERN_PANEL_WORDS = 25600,     /* words: the columns', the rows', those of areas and of placements */
     PALGWERN_PANEL_BYTES = 78432,     /* bytes: item marks of the columns and of the rows, names of areas and of placements */
     PALGWERN_STORE_BYTES = 32768,     /* columnstore, rowstore: the bytes of line names; at least so many, else 10 */
-    PALGWERN_PLACEMENT_RUN = 1536,    /* numbers of a run of placements: six for each that a panel can have */
+    PALGWERN_PLACEMENT_RUN = 2048,    /* numbers of a run of placements: eight for each that a panel can have */
     PALGWERN_LINE_NAME_RUN = 4096,    /* names of a run of line names: a word for each entry that an axis can have */
     PALGWERN_AXIS_WORDS = 12480,      /* of an axis: components, track sizes, spare sizes, name records, name entries */
     PALGWERN_AREA_WORDS = 128,        /* edges, then names */
@@ -185,6 +185,8 @@ typedef struct palgwern_panel_answer { uint32_t number; uint32_t line; palgwern_
 typedef struct palgwern_size_answer { uint32_t number; uint32_t repetitions; uint32_t explicit_count; } palgwern_size_answer;
 typedef struct palgwern_count_answer { uint32_t number; uint64_t count; } palgwern_count_answer;
 typedef struct palgwern_name_answer { uint32_t number; uint32_t offset; uint32_t length; } palgwern_name_answer;
+/* A mark is 1 where the line of its end was held within -10,000..10,000 of the first explicit line, or a line on the way to it was: a
+ * written line, the line of a name, the line beside a named span. 0 says that it would be the same if lines were never held. */
 typedef struct palgwern_placement_answer {
     uint32_t number;
     uint32_t axis;
@@ -192,6 +194,8 @@ typedef struct palgwern_placement_answer {
     int32_t startnumber;
     uint32_t endkind;
     int32_t endnumber;
+    uint32_t startheld;   /* the marks of both ends */
+    uint32_t endheld;
 } palgwern_placement_answer;
 
 /* The panel that a sheet describes. Refuses by 1 to 8 with the line (0: too long; the line after the last: what the whole sheet
@@ -222,7 +226,7 @@ palgwern_placement_answer palgwern_resolve_placement(
     const uint8_t *columnstore, size_t columnstore_bytes, const uint8_t *rowstore, size_t rowstore_bytes,
     uint32_t index);
 
-/* Placements from `first` on with their names resolved, as many as there are and as fit in `numbers` (all that a sheet gives), six
+/* Placements from `first` on with their names resolved, as many as there are and as fit in `numbers` (all that a sheet gives), eight
  * numbers each in the order of palgwern_placement_answer; answers how many. Numbers past them stay as they are. The same answers as
  * one by one, but the names are grouped once for all. Refuses by 4 (`first` is no placement), then by 10 (a short store). */
 palgwern_count_answer palgwern_resolve_placements(

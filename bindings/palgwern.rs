@@ -12,7 +12,7 @@ pub const PANEL_WORDS: usize = 25_600;
 pub const PANEL_BYTES: usize = 78_432;
 pub const STORE_BYTES: usize = 32_768;
 /// The numbers of a run of placements, and the words of a run of line names.
-pub const PLACEMENT_RUN: usize = 1_536;
+pub const PLACEMENT_RUN: usize = 2_048;
 pub const LINE_NAME_RUN: usize = 4_096;
 /// Where the regions of the words start, and their lengths.
 pub const COLUMNS_START: usize = 0;
@@ -35,7 +35,7 @@ pub const ENTRIES: usize = 4_096;
 /// The words of a record.
 pub const RECORD_WORDS: usize = 3;
 /// The numbers of a resolved placement in a run.
-pub const PLACEMENT_NUMBERS: usize = 6;
+pub const PLACEMENT_NUMBERS: usize = 8;
 
 /// The space of an axis; `crates/axis_tables/src/lib.rt` says what the fields of an axis are.
 #[repr(C)]
@@ -165,6 +165,8 @@ pub mod raw {
         pub startnumber: i32,
         pub endkind: u32,
         pub endnumber: i32,
+        pub startheld: u32,
+        pub endheld: u32,
     }
 
     extern "C" {
@@ -205,7 +207,7 @@ pub mod raw {
 const _: () = assert!(size_of::<AxisGrid>() == 56 && size_of::<AxisRoom>() == 20);
 const _: () = assert!(size_of::<Grid>() == 120 && size_of::<Room>() == 48 && size_of::<State>() == 168);
 const _: () = assert!(size_of::<raw::PanelAnswer>() == 176 && size_of::<raw::CountAnswer>() == 16);
-const _: () = assert!(size_of::<raw::SizeAnswer>() == 12 && size_of::<raw::NameAnswer>() == 12 && size_of::<raw::PlacementAnswer>() == 24);
+const _: () = assert!(size_of::<raw::SizeAnswer>() == 12 && size_of::<raw::NameAnswer>() == 12 && size_of::<raw::PlacementAnswer>() == 32);
 
 /// A refusal by document 01's word.
 #[derive(Clone, Copy, Debug, PartialEq, Eq)]
@@ -265,11 +267,15 @@ pub enum End {
     Span(u16),
 }
 
+/// A resolved placement. An end is marked where its line was held within -10,000..10,000 of the first explicit line, or a line on the
+/// way to it was: without a mark it would be the same if lines were never held.
 #[derive(Clone, Copy, Debug, PartialEq, Eq)]
 pub struct Placement {
     pub axis: Axis,
     pub start: End,
     pub end: End,
+    pub startheld: bool,
+    pub endheld: bool,
 }
 
 /// The minimum or the maximum of a track.
@@ -400,9 +406,10 @@ fn counted(answer: raw::CountAnswer) -> Result<usize, Refusal> {
 impl Placement {
     /// A placement from its numbers in a run.
     pub fn of(numbers: &[i32; PLACEMENT_NUMBERS]) -> Placement {
-        let [_, axis, startkind, startnumber, endkind, endnumber] = *numbers;
+        let [_, axis, startkind, startnumber, endkind, endnumber, startheld, endheld] = *numbers;
         let axis = if axis == 0 { Axis::Columns } else { Axis::Rows };
-        Placement { axis, start: end_of(startkind as u32, startnumber), end: end_of(endkind as u32, endnumber) }
+        let (start, end) = (end_of(startkind as u32, startnumber), end_of(endkind as u32, endnumber));
+        Placement { axis, start, end, startheld: startheld != 0, endheld: endheld != 0 }
     }
 }
 
@@ -491,7 +498,8 @@ impl Answers {
             return Err(Refusal::of(answer.number, 0));
         }
         let axis = if answer.axis == 0 { Axis::Columns } else { Axis::Rows };
-        Ok(Placement { axis, start: end_of(answer.startkind, answer.startnumber), end: end_of(answer.endkind, answer.endnumber) })
+        let (start, end) = (end_of(answer.startkind, answer.startnumber), end_of(answer.endkind, answer.endnumber));
+        Ok(Placement { axis, start, end, startheld: answer.startheld != 0, endheld: answer.endheld != 0 })
     }
 
     /// All placements with their names resolved, in one run: the answers of `placement`, with the names grouped once.
@@ -501,7 +509,7 @@ impl Answers {
         numbers.chunks_exact(PLACEMENT_NUMBERS).take(written).map(|n| Placement::of(n.try_into().unwrap())).collect()
     }
 
-    /// Writes placements from `first` on, as many as there are, six numbers each; answers how many.
+    /// Writes placements from `first` on, as many as there are, eight numbers each; answers how many.
     pub fn write_placements(&self, first: u32, numbers: &mut [i32; PLACEMENT_RUN]) -> Result<usize, Refusal> {
         // SAFETY: as in `Panel::read_again`; `numbers` is borrowed mutably, so it is none of the others.
         let answer = unsafe {

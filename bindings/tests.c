@@ -14,7 +14,7 @@ _Static_assert(offsetof(palgwern_grid, areas) == 112 && offsetof(palgwern_room, 
 _Static_assert(sizeof(palgwern_panel_answer) == 176 && offsetof(palgwern_panel_answer, panel) == 8, "panel answer");
 _Static_assert(sizeof(palgwern_size_answer) == 12 && sizeof(palgwern_name_answer) == 12, "answers of three numbers");
 _Static_assert(sizeof(palgwern_count_answer) == 16 && offsetof(palgwern_count_answer, count) == 8, "count answer");
-_Static_assert(sizeof(palgwern_placement_answer) == 24, "placement answer");
+_Static_assert(sizeof(palgwern_placement_answer) == 32, "placement answer");
 
 _Static_assert(PALGWERN_PLACEMENT_RUN == PALGWERN_PLACEMENTS * PALGWERN_PLACEMENT_NUMBERS, "run of placements");
 _Static_assert((int)PALGWERN_LINE_NAME_RUN == (int)PALGWERN_ENTRIES, "run of line names");
@@ -113,10 +113,10 @@ static void answers(void) {
     CHECK(is_name(palgwern_tables_name(&tables, panel.grid, PALGWERN_ROWS, 2, 1), 8, 1));
     palgwern_placement_answer p = palgwern_tables_placement(&tables, panel.grid, 0);
     CHECK(p.number == 0 && p.axis == PALGWERN_COLUMNS && p.startkind == PALGWERN_END_LINE && p.startnumber == 5);
-    CHECK(p.endkind == PALGWERN_END_SPAN && p.endnumber == 6);
+    CHECK(p.endkind == PALGWERN_END_SPAN && p.endnumber == 6 && p.startheld == 0 && p.endheld == 0);
     p = palgwern_tables_placement(&tables, panel.grid, 1);
     CHECK(p.number == 0 && p.axis == PALGWERN_ROWS && p.startkind == PALGWERN_END_LINE && p.startnumber == -3);
-    CHECK(p.endkind == PALGWERN_END_LINE && p.endnumber == 12);
+    CHECK(p.endkind == PALGWERN_END_LINE && p.endnumber == 12 && p.startheld == 0 && p.endheld == 0);
 }
 
 /* Whether record `place` of those in `all` has these words. */
@@ -173,13 +173,27 @@ static int filled_from(size_t number, size_t name, size_t record) {
 static void placements(void) {
     fill_runs();
     palgwern_count_answer run = palgwern_tables_placements(&tables, panel.grid, 0, numbers);
-    CHECK(is_count(run, panel.grid.placements) && filled_from(6 * run.count, 0, 0));
+    CHECK(is_count(run, panel.grid.placements) && filled_from(PALGWERN_PLACEMENT_NUMBERS * run.count, 0, 0));
     for (uint32_t i = 0; i < panel.grid.placements; i++) {
         palgwern_placement_answer p = palgwern_tables_placement(&tables, panel.grid, i);
-        CHECK(!memcmp(&p, numbers + 6 * i, sizeof p));
+        CHECK(!memcmp(&p, numbers + PALGWERN_PLACEMENT_NUMBERS * i, sizeof p));
     }
     fill_runs();
-    CHECK(is_count(palgwern_tables_placements(&tables, panel.grid, 1, numbers), 1) && numbers[1] == PALGWERN_ROWS && filled_from(6, 0, 0));
+    CHECK(is_count(palgwern_tables_placements(&tables, panel.grid, 1, numbers), 1) && numbers[1] == PALGWERN_ROWS && filled_from(8, 0, 0));
+}
+
+/* Marks, of a start alone and of an end alone, asked for one by one and in a run; no two fields that follow each other have the same value. */
+static void marks(void) {
+    static palgwern_tables marked;
+    palgwern_panel held = palgwern_tables_read(&marked, TEXT("place\tr\tline\t-\t10002\tspan\t-\t9\nplace\tc\tspan\t-\t7\tline\t-\t-10002\n")).panel;
+    const int32_t start[] = {0, PALGWERN_ROWS, PALGWERN_END_LINE, 10002, PALGWERN_END_SPAN, 9, 1, 0};
+    const int32_t end[] = {0, PALGWERN_COLUMNS, PALGWERN_END_SPAN, 7, PALGWERN_END_LINE, -10002, 0, 1};
+    CHECK(is_count(palgwern_tables_placements(&marked, held.grid, 0, numbers), 2));
+    CHECK(!memcmp(numbers, start, sizeof start) && !memcmp(numbers + PALGWERN_PLACEMENT_NUMBERS, end, sizeof end));
+    palgwern_placement_answer p = palgwern_tables_placement(&marked, held.grid, 0);
+    CHECK(p.number == 0 && p.axis == PALGWERN_ROWS && p.startnumber == 10002 && p.endnumber == 9 && p.startheld == 1 && p.endheld == 0);
+    p = palgwern_tables_placement(&marked, held.grid, 1);
+    CHECK(p.number == 0 && p.axis == PALGWERN_COLUMNS && p.startnumber == 7 && p.endnumber == -10002 && p.startheld == 0 && p.endheld == 1);
 }
 
 /* Of a number of placements that no sheet gives a run answers as many as fit. */
@@ -236,7 +250,8 @@ static int name_refused(palgwern_name_answer a, uint32_t number) {
 }
 
 static int placement_refused(palgwern_placement_answer a, uint32_t number) {
-    return a.number == number && a.axis == 0 && a.startkind == 0 && a.startnumber == 0 && a.endkind == 0 && a.endnumber == 0 && untouched();
+    return a.number == number && a.axis == 0 && a.startkind == 0 && a.startnumber == 0 && a.endkind == 0 && a.endnumber == 0 && a.startheld == 0 &&
+        a.endheld == 0 && untouched();
 }
 
 #define AXIS_LINE "axis\tc\t-\tmax\tlen\t00000000\n"
@@ -290,7 +305,7 @@ static void refused_by_count(void) {
     CHECK(placement_refused(palgwern_tables_placement(&tables, forged, 1), PALGWERN_COUNT));
     CHECK(count_refused(palgwern_tables_names(&tables, forged, PALGWERN_ROWS, names), PALGWERN_COUNT));
     CHECK(palgwern_tables_placement(&tables, forged, 0).number == 0);
-    CHECK(is_count(palgwern_tables_placements(&tables, forged, 0, numbers), 2) && numbers[0] == 0 && numbers[6] == PALGWERN_COUNT);
+    CHECK(is_count(palgwern_tables_placements(&tables, forged, 0, numbers), 2) && numbers[0] == 0 && numbers[8] == PALGWERN_COUNT);
     fill_runs();
 }
 
@@ -438,6 +453,7 @@ int main(int count, char **words) {
     records();
     placements();
     many_placements();
+    marks();
     line_names(PALGWERN_COLUMNS);
     refusals();
     entries();

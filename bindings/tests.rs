@@ -51,12 +51,12 @@ fn answers() {
     assert_eq!(panel.size(Axis::Rows), AxisSize { repetitions: 0, explicit: 9 });
     assert_eq!((panel.lists(Axis::Columns), panel.lists(Axis::Rows)), (21, 10));
     assert_eq!((panel.record_count(Axis::Columns), panel.record_count(Axis::Rows)), (71, 51));
-    assert_eq!(panel.placement(0), Ok(Placement { axis: Axis::Columns, start: End::Line(5), end: End::Span(6) }));
-    assert_eq!(panel.placement(1), Ok(Placement { axis: Axis::Rows, start: End::Line(-3), end: End::Line(12) }));
+    assert_eq!(panel.placement(0), Ok(Placement { axis: Axis::Columns, start: End::Line(5), end: End::Span(6), startheld: false, endheld: false }));
+    assert_eq!(panel.placement(1), Ok(Placement { axis: Axis::Rows, start: End::Line(-3), end: End::Line(12), startheld: false, endheld: false }));
     assert_eq!(panel.resolved(), [panel.placement(0).unwrap(), panel.placement(1).unwrap()]);
     let mut run = [7; PLACEMENT_RUN];
-    assert_eq!((panel.write_placements(1, &mut run), &run[..7]), (Ok(1), &[0, 1, 1, -3, 1, 12, 7][..]));
-    assert!(run[6..].iter().all(|&number| number == 7));
+    assert_eq!((panel.write_placements(1, &mut run), &run[..9]), (Ok(1), &[0, 1, 1, -3, 1, 12, 0, 0, 7][..]));
+    assert!(run[8..].iter().all(|&number| number == 7));
 }
 
 #[test]
@@ -175,6 +175,15 @@ fn entries() {
     }
     assert_eq!(panel.resolved(), [panel.placement(0).unwrap(), panel.placement(1).unwrap()]);
     assert_eq!((panel.placement(0).unwrap().start, panel.placement(1).unwrap().end), (End::Line(5), End::Line(12)));
+}
+
+#[test]
+fn marks() {
+    let panel = Panel::read(b"place\tr\tline\t-\t10002\tspan\t-\t9\nplace\tc\tspan\t-\t7\tline\t-\t-10002\n").unwrap();
+    let first = Placement { axis: Axis::Rows, start: End::Line(10002), end: End::Span(9), startheld: true, endheld: false };
+    let second = Placement { axis: Axis::Columns, start: End::Span(7), end: End::Line(-10002), startheld: false, endheld: true };
+    assert_eq!(panel.resolved(), [first, second]);
+    assert_eq!((panel.placement(0), panel.placement(1)), (Ok(first), Ok(second)));
 }
 
 #[test]

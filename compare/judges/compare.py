@@ -264,6 +264,7 @@ def calls_difference(answer, sheet, lines):
 
 def compare_accepted(answer, rust, sheet):
     state = answer.state
+    # The Rust has neither sources nor marks.
     full = list(map(rules.bare, answer.output)) + answer.names + model.count_lines(state)
     lines = rust.ask(asked_of_the_rust(sheet, state.panel), state.accepted)
     differences = [first_difference("Rust", full, lines)]
@@ -286,9 +287,9 @@ def column_answers(answer):
     own = answer.output
     rows = next(place for place, line in enumerate(own) if line.startswith("size\tr"))
     numbers = [number for call, number in zip(answer.calls, answer.numbers) if call[0] == "c"]
-    named = own[rows:] + answer.names
+    named = own[rows:] + answer.names + answer.marks
     return [f"call {number}" for number in numbers] + own[:rows] + \
-        [line for line in named if line.startswith(("place\tc", "names\tc"))]
+        [line for line in named if line.startswith(("place\tc", "names\tc", "held\tc"))]
 
 
 def columns_alone(sheet, calls):
@@ -309,4 +310,5 @@ def any_order(sheet, calls):
         return None
     entries = [(letter, line, name.encode()) for letter, line, name in answer.state.accepted]
     other = model.Answer(sheet, entries[::-1])
-    return first_difference("any order", model.placement_lines(answer.state), model.placement_lines(other.state))
+    placed = [model.placement_lines(one.state) + one.marks for one in (answer, other)]
+    return first_difference("any order", *placed)

@@ -1,4 +1,4 @@
-"""Document 01's edges M1 to M12, with the answers that it writes beside them; of M7 those of document 02, Req 05."""
+"""Document 01's edges M1 to M12, with the answers that it writes beside them; of M7 those of document 02, Req 05; and the marks of document 02."""
 
 TRACK_100 = "track\tc\tlen\t42c80000\tlen\t42c80000"
 
@@ -37,6 +37,19 @@ SHEETS = {
                for index, kind, source in ((0, "gutter", "-"), (1, "track", "a"), (2, "gutter", "-"), (4, "gutter", "-"),
                                            (5, "track", "a"), (6, "gutter", "-"))]),
 }
+
+
+# Marks: a written line at each limit and one past it, a line found past the limit and one only counted past, a span that takes a mark over,
+# and no mark where there is no line. x is on line 2, and a on none.
+X_ON_2 = [TRACK_100, "name\tc\tx", TRACK_100, TRACK_100]
+SHEETS.update({
+    "marks of lines": (X_ON_2 + ["place\tc\tline\t-\t10001\tline\t-\t10002", "place\tc\tline\t-\t-10005\tline\t-\t-10004"],
+                       ["held\tc\tn\ty", "held\tc\ty\tn"]),
+    "marks of names": (X_ON_2 + ["place\tc\tnamed\ta\t9997\tnamed\ta\t9998"], ["place\tc\tline\t10001\tline\t10001", "held\tc\tn\ty"]),
+    "marks of spans": (X_ON_2 + ["place\tc\tnspan\tx\t1\tline\t-\t10002", "place\tc\tnspan\ta\t10001\tline\t-\t2"],
+                       ["place\tc\tline\t2\tline\t10002", "held\tc\ty\ty", "place\tc\tline\t-10004\tline\t2", "held\tc\ty\tn"]),
+    "no marks": (X_ON_2 + ["place\tc\tline\t-\t0\tnspan\tx\t1", "place\tc\tspan\t-\t65535\tauto\t-\t0"], ["held\tc\tn\tn"]),
+})
 
 
 # Limits: each just met, and just passed with the refusal (number, line) of document 01's table.

@@ -106,6 +106,13 @@ def name_lines(state):
     return lines
 
 
+def mark_lines(state):
+    """For each placement whether its start and its end were held, in the form that README.md gives."""
+    names = {letter: state.names(letter) for letter in LETTERS}
+    marks = [(placement.axis, names[placement.axis].marks(placement)) for placement in state.panel.placements]
+    return ["\t".join(["held", letter, *("y" if mark else "n" for mark in both)]) for letter, both in marks]
+
+
 def count_lines(state):
     """The number of name entries of each axis."""
     return [f"entries\t{letter}\t{len(state.entries[letter])}" for letter in LETTERS]
@@ -138,9 +145,14 @@ class Answer:
         """The line names after the entry calls."""
         return [] if self.refused else name_lines(self.state)
 
+    @cached_property
+    def marks(self):
+        """The marks of the placements after the entry calls."""
+        return [] if self.refused else mark_lines(self.state)
+
     def full_answer(self, names=True):
-        """The answers of the calls, document 01's output and, where asked, the line names."""
-        return [entry_line(number) for number in self.numbers] + self.output + (self.names if names else [])
+        """The answers of the calls, document 01's output and, where asked, the line names and the marks."""
+        return [entry_line(number) for number in self.numbers] + self.output + (self.names + self.marks if names else [])
 
 
 def text_of(lines):

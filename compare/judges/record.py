@@ -54,14 +54,14 @@ class Case:
         self.lines = self.answer_lines(rust)
 
     def answer_lines(self, rust):
-        """The Rust's lines where it speaks, a record's source after them; the model's for refusals and the numbers of calls."""
+        """The Rust's lines where it speaks, a record's source after them; the model's for refusals, the numbers of calls and marks."""
         if self.refused:
             return self.answer.output
         asked = asked_of_the_rust(self.sheet, self.answer.state.panel)
         lines = rust.ask(asked, self.answer.state.accepted)[:-2]
         own = self.answer.output + self.answer.names
         lines = [rules.with_source(line, beside) for line, beside in zip(lines, own, strict=True)]
-        return [model.entry_line(number) for number in self.answer.numbers] + lines
+        return [model.entry_line(number) for number in self.answer.numbers] + lines + self.answer.marks
 
     def block(self, cut=False):
         lines = cut_lines(self.lines) if cut else self.lines
@@ -242,7 +242,7 @@ def short_block(name, sheet, stores, calls):
     try:
         state = model.read_sheet(sheet, stores)
         numbers = [model.enter(state, *call, lent) for lent, call in calls]
-        lines = [model.entry_line(number) for number in numbers] + model.sheet_lines(state) + model.name_lines(state)
+        lines = [model.entry_line(number) for number in numbers] + model.sheet_lines(state) + model.name_lines(state) + model.mark_lines(state)
     except reader.Refused as refused:
         lines = [model.refusal_line(refused.number, refused.line)]
     expected = model.text_of(lines).encode()
@@ -266,12 +266,13 @@ def write_short():
 
 
 def line_row(explicit, line):
-    """explicit count, grid line, refusal number, origin-zero line, back."""
+    """explicit count, grid line, refusal number, origin-zero line, back, and its mark."""
     number = reader.COUNT if explicit > rules.FURTHEST else reader.ZERO_LINE if line == 0 else 0
     if number:
-        return f"{explicit}\t{line}\t{number}\t0\t0\n".encode()
+        return f"{explicit}\t{line}\t{number}\t0\t0\tn\n".encode()
     found = rules.origin_zero_line(line, explicit)
-    return f"{explicit}\t{line}\t0\t{found}\t{rules.grid_line(found, explicit)}\n".encode()
+    mark = "y" if rules.conversion_mark(line, explicit) else "n"
+    return f"{explicit}\t{line}\t0\t{found}\t{rules.grid_line(found, explicit)}\t{mark}\n".encode()
 
 
 def origin_row(explicit, line):
@@ -290,7 +291,7 @@ def write_lines(rust):
     near = [-32768, -32767, -20002, -20001, -10003, -10002, -10001, -10000, -5, -4, -3, -1, 0, 1, 2, 4, 9999, 10000, 10001, 10002, 32766, 32767]
     rows = [line_row(explicit, line) for explicit, line, _, _ in edges.LINES.values()]
     for explicit, line, found, back in edges.LINES.values():
-        if line_row(explicit, line) != f"{explicit}\t{line}\t0\t{found}\t{back}\n".encode():
+        if not line_row(explicit, line).startswith(f"{explicit}\t{line}\t0\t{found}\t{back}\t".encode()):
             raise build.CannotCompare("not recorded: an edge of layer 1 is answered otherwise than document 01 says")
     for explicit in [0, 1, 2, 3, 4999, 9998, 9999, 10000] + [chance.randrange(10001) for _ in range(4)]:
         if compare_lines(rust, explicit):

@@ -21,9 +21,24 @@ def held(line):
     return max(-FURTHEST, min(FURTHEST, line))
 
 
+def uncut_line(grid_line, explicit):
+    """A grid line that is not 0, as an origin-zero line, before it is held."""
+    return grid_line - 1 if grid_line > 0 else grid_line + explicit + 1
+
+
 def origin_zero_line(grid_line, explicit):
-    """A grid line that is not 0, as an origin-zero line, held."""
-    return held(grid_line - 1 if grid_line > 0 else grid_line + explicit + 1)
+    """The same, held."""
+    return held(uncut_line(grid_line, explicit))
+
+
+def lies_outside(line):
+    """Whether an uncut number lies outside -10,000..10,000, so that holding it sets a mark."""
+    return not -FURTHEST <= line <= FURTHEST
+
+
+def conversion_mark(grid_line, explicit):
+    """Document 02: whether converting a grid line held it; line 0 carries no mark."""
+    return grid_line != 0 and lies_outside(uncut_line(grid_line, explicit))
 
 
 def grid_line(line, explicit):
@@ -304,33 +319,33 @@ class Names:
         return min(self.lines(area + SUFFIXES[end]), default=None)
 
     def forward(self, name, first, index):
-        """The index-th line of the name from `first` on; missing ones lie past the end."""
+        """The index-th line of the name from `first` on, uncut; missing ones lie past the end."""
         first = max(first, 0)
         lines = self.lines(name)
         lines = lines[bisect_left(lines, first):]
         if index <= len(lines):
-            return held(lines[index - 1])
-        return held(max(first, self.explicit + 1) + (index - len(lines)) - 1)
+            return lines[index - 1]
+        return max(first, self.explicit + 1) + (index - len(lines)) - 1
 
     def backward(self, name, last, index):
-        """The index-th line of the name from `last` back; missing ones lie before the start."""
+        """The index-th line of the name from `last` back, uncut; missing ones lie before the start."""
         last = self.last_looked_at(last)
         lines = self.lines(name)
         lines = lines[:bisect_right(lines, last)]
         if index <= len(lines):
-            return held(lines[-index])
-        return held(min(last, -1) - (index - len(lines)) + 1)
+            return lines[-index]
+        return min(last, -1) - (index - len(lines)) + 1
 
     def last_looked_at(self, last):
         """Counting back looks at no line past the explicit end."""
         return min(last, self.explicit)
 
     def named_line(self, name, index, end):
-        """The origin-zero line of a named line at an end (0 start, 1 end)."""
+        """The origin-zero line of a named line at an end (0 start, 1 end), uncut."""
         if index == 0:
             edge = self.area_edge(name, end)
             if edge is not None:
-                return held(edge)
+                return edge
             index = 1
         if index > 0:
             return self.forward(name, 0, index)
@@ -340,16 +355,18 @@ class Names:
         """A named line becomes a line; any other kind stays."""
         if end.kind != "named":
             return end.kind, end.number
-        return "line", grid_line(self.named_line(end.name, end.number, which), self.explicit)
+        return "line", grid_line(held(self.named_line(end.name, end.number, which)), self.explicit)
 
-    def span_from(self, name, number, line, which):
-        """The grid line that a named span at an end counts to from the line at the other end."""
+    def counted(self, name, number, line, which):
+        """The origin-zero line that a named span at an end counts to from the grid line at the other end, uncut."""
         line = origin_zero_line(line, self.explicit)
         if which == 1:
-            reached = self.forward(name, line + 1, max(number, 1))
-        else:
-            reached = self.backward(name, line - 1, max(number, 1))
-        return "line", grid_line(reached, self.explicit)
+            return self.forward(name, line + 1, max(number, 1))
+        return self.backward(name, line - 1, max(number, 1))
+
+    def span_from(self, name, number, line, which):
+        """The grid line that this is, held."""
+        return "line", grid_line(held(self.counted(name, number, line, which)), self.explicit)
 
     def resolve(self, placement):
         """Both ends as kinds and numbers."""
@@ -366,6 +383,29 @@ class Names:
         if other_kind == "line" and other != 0:
             return self.span_from(ends[which].name, number, other, which)
         return "span", 1
+
+    # Document 02, Req 06: marks.
+
+    def marks(self, placement):
+        """For each end whether any step on the way to it held a line."""
+        ends = (placement.start, placement.end)
+        return [self.mark(ends, which) for which in (0, 1)]
+
+    def line_mark(self, end, which):
+        """A written line's own mark is its conversion's; a named line is marked where the line that is found was held."""
+        if end.kind == "line":
+            return conversion_mark(end.number, self.explicit)
+        return end.kind == "named" and lies_outside(self.named_line(end.name, end.number, which))
+
+    def mark(self, ends, which):
+        """A named span beside a line takes over that line's mark, and gets one where the line that it counts to was held."""
+        end, other = ends[which], ends[1 - which]
+        if end.kind != "nspan":
+            return self.line_mark(end, which)
+        kind, number = self.found(other, 1 - which)
+        if kind != "line" or number == 0:
+            return False
+        return self.line_mark(other, 1 - which) or lies_outside(self.counted(end.name, end.number, number, which))
 
 
 def line_names(entries, explicit):

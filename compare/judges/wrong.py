@@ -123,7 +123,7 @@ def span_from_unheld(self, name, number, line, which):
         reached = self.forward(name, line + 1, max(number, 1))
     else:
         reached = self.backward(name, line - 1, max(number, 1))
-    return "line", rules.grid_line(reached, self.explicit)
+    return "line", rules.grid_line(rules.held(reached), self.explicit)
 
 
 def suffixed_has_no_area(self, name, index, end):
@@ -143,9 +143,9 @@ def highest_edge(self, area, end):
 def missing_after_last_name(self, name, first, index):
     lines = [line for line in self.lines(name) if line >= max(first, 0)]
     if index <= len(lines):
-        return rules.held(lines[index - 1])
+        return lines[index - 1]
     last = max([max(first, 0) - 1, self.explicit] + lines)
-    return rules.held(last + index - len(lines))
+    return last + index - len(lines)
 
 
 def entries_of_invalid_kept(axis):
@@ -392,6 +392,57 @@ FOUND_BY_RECOUNT = {
     "an entered line tested before the name": (model, "enter", line_before_name),
     "the store filled by written-out entries": (model.State, "__init__", store_by_entries),
     "the bytes of an invalid template free": (model.State, "__init__", bytes_of_invalid_free),
+}
+
+
+def outside_at_the_limit(line):
+    return abs(line) >= FURTHEST
+
+
+def never_outside(line):
+    return False
+
+
+def mark_of_the_line_reached(self, ends, which):
+    """A span without the mark of the line beside it."""
+    end, other = ends[which], ends[1 - which]
+    if end.kind != "nspan":
+        return self.line_mark(end, which)
+    kind, number = self.found(other, 1 - which)
+    return kind == "line" and number != 0 and rules.lies_outside(self.counted(end.name, end.number, number, which))
+
+
+def mark_of_the_start(self, placement):
+    return [right_marks(self, placement)[0]] * 2
+
+
+def marks_swapped(self, placement):
+    return right_marks(self, placement)[::-1]
+
+
+def no_conversion_mark(grid_line, explicit):
+    return False
+
+
+def marked_past_the_end(self, end, which):
+    """A line counted past the explicit end marked."""
+    if end.kind != "named":
+        return right_line_mark(self, end, which)
+    return not 0 <= self.named_line(end.name, end.number, which) <= self.explicit
+
+
+right_marks = Names.marks
+right_line_mark = Names.line_mark
+
+# Readings of marks, which the Rust doesn't have: found by the library's answers alone.
+FOUND_BY_THE_LIBRARY = {
+    "a mark at the limit": (rules, "lies_outside", outside_at_the_limit),
+    "no mark at all": (rules, "lies_outside", never_outside),
+    "a span without the other end's mark": (Names, "mark", mark_of_the_line_reached),
+    "the start's mark for both ends": (Names, "marks", mark_of_the_start),
+    "the marks swapped": (Names, "marks", marks_swapped),
+    "a written line without its mark": (rules, "conversion_mark", no_conversion_mark),
+    "a mark for each line past the explicit end": (Names, "line_mark", marked_past_the_end),
 }
 
 

@@ -28,13 +28,19 @@ CHANGES = [
     ("a refusal for a short store", "short", "short good 1", "refused\t10\t0", ["refused\t10\t1"]),
     ("an entry call that is refused", "entries", "general 28", "refused\t2\t0", ["entered\t0\t0"]),
     ("an entry call that is accepted", "cases", "d12-enter-past-end", "entered\t0\t0", ["refused\t4\t0"]),
+    ("a start's mark", "cases", "marks of lines", "held\tc\ty\tn", ["held\tc\tn\tn"]),
+    ("an end's mark", "cases", "marks of lines", "held\tc\tn\ty", ["held\tc\tn\tn"]),
+    ("the axis of marks", "cases", "marks of names", "held\tc\tn\ty", ["held\tr\tn\ty"]),
+    ("marks that are missing", "cases", "marks of names", "held\tc\tn\ty", []),
 ]
 
 # The same for conversions: what is wrong, the row, and what stands in its place.
 CHANGED_ROWS = [
-    ("a conversion's refusal", "0\t0\t9\t0\t0", "0\t0\t4\t0\t0"),
-    ("an origin-zero line", "3\t-5\t0\t-1\t-5", "3\t-5\t0\t-2\t-5"),
-    ("a line back", "3\t-5\t0\t-1\t-5", "3\t-5\t0\t-1\t-4"),
+    ("a conversion's refusal", "0\t0\t9\t0\t0\tn", "0\t0\t4\t0\t0\tn"),
+    ("an origin-zero line", "3\t-5\t0\t-1\t-5\tn", "3\t-5\t0\t-2\t-5\tn"),
+    ("a line back", "3\t-5\t0\t-1\t-5\tn", "3\t-5\t0\t-1\t-4\tn"),
+    ("a conversion's mark that is missing", "3\t32767\t0\t10000\t10001\ty", "3\t32767\t0\t10000\t10001\tn"),
+    ("a conversion's mark at the limit", "3\t10001\t0\t10000\t10001\tn", "3\t10001\t0\t10000\t10001\ty"),
     ("a line outside that is converted", "3\t-\t4\t10001\t0\t4\t0\t4\t0", "3\t-\t0\t10001\t0\t4\t0\t4\t0"),
     ("the tracks that a line outside implies", "3\t-\t4\t10001\t0\t4\t0\t4\t0", "3\t-\t4\t10001\t0\t4\t0\t0\t9998"),
 ]

@@ -114,7 +114,7 @@ def try_library(sheets):
     print("found by the library's answers:")
     for name, reason in NOT_BY_THE_LIBRARY.items():
         print(f"  none | {name} | {reason}")
-    readings = {**wrong.FOUND_BY_THE_RUST, **wrong.FOUND_BY_DAMAGE, **wrong.FOUND_BY_RECOUNT, **wrong.FOUND_BY_CSS}
+    readings = {**wrong.FOUND_BY_THE_RUST, **wrong.FOUND_BY_DAMAGE, **wrong.FOUND_BY_RECOUNT, **wrong.FOUND_BY_CSS, **wrong.FOUND_BY_THE_LIBRARY}
     asked = {name: reading for name, reading in readings.items() if name not in NOT_BY_THE_LIBRARY}
     library = Library(build_library(archive))
     missed = try_all(asked, sheets, ByTheLibrary(library))
@@ -134,7 +134,7 @@ def main():
     missed += try_all(wrong.FOUND_BY_CSS, sheets, ByTheJudges(asked, FROM_CSS))
     rust.close()
     missed += try_library(sheets)
-    count = sum(map(len, (wrong.FOUND_BY_THE_RUST, wrong.FOUND_BY_DAMAGE, wrong.FOUND_BY_RECOUNT, wrong.FOUND_BY_CSS)))
+    count = sum(map(len, (wrong.FOUND_BY_THE_RUST, wrong.FOUND_BY_DAMAGE, wrong.FOUND_BY_RECOUNT, wrong.FOUND_BY_CSS, wrong.FOUND_BY_THE_LIBRARY)))
     print(f"{count} wrong readings, {missed} not found")
     return 1 if missed else 0
 

@@ -83,6 +83,12 @@ fn print_names(out: &mut Vec<u8>, panel: &Panel, axis: Axis) {
     }
 }
 
+/// The marks of a placement.
+fn print_marks(out: &mut Vec<u8>, found: Placement) {
+    let letter_of = |held: bool| if held { 'y' } else { 'n' };
+    writeln!(out, "held\t{}\t{}\t{}", letter(found.axis), letter_of(found.startheld), letter_of(found.endheld)).unwrap();
+}
+
 pub fn print_refusal(out: &mut Vec<u8>, refusal: Refusal) {
     writeln!(out, "refused\t{}\t{}", refusal.number(), refusal.line).unwrap();
 }
@@ -90,8 +96,10 @@ pub fn print_refusal(out: &mut Vec<u8>, refusal: Refusal) {
 /// The whole answer of a panel.
 pub fn print_panel(out: &mut Vec<u8>, panel: &Panel) {
     AXES.into_iter().for_each(|axis| print_axis(out, panel, axis));
-    panel.resolved().into_iter().enumerate().for_each(|(index, found)| print_placement(out, panel, index, found));
+    let resolved = panel.resolved();
+    resolved.iter().enumerate().for_each(|(index, found)| print_placement(out, panel, index, *found));
     AXES.into_iter().for_each(|axis| print_names(out, panel, axis));
+    resolved.iter().for_each(|found| print_marks(out, *found));
     let grid = panel.grid();
     writeln!(out, "entries\tc\t{}\nentries\tr\t{}", grid.columns.entries, grid.rows.entries).unwrap();
 }

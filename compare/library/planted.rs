@@ -1,11 +1,11 @@
 //! Faults put into the calls one at a time, to show that the tests of the promises find each.
 use crate::calls::Numbers;
 use crate::lent::*;
-use crate::palgwern::{raw, AREA_NAMES_START};
+use crate::palgwern::{raw, AREA_NAMES_START, PLACEMENT_NUMBERS};
 use std::sync::atomic::{AtomicUsize, Ordering};
 
 /// The faults, from 1 on.
-pub const FAULTS: [&str; 32] = [
+pub const FAULTS: [&str; 34] = [
     "a refused sheet changes a word",
     "a word that the tables held reaches the panel",
     "a sheet writes past the words",
@@ -38,6 +38,8 @@ pub const FAULTS: [&str; 32] = [
     "line names are written past their run",
     "line names with a short store are not refused",
     "a track has the source of a gutter",
+    "a refused placement has a mark",
+    "what is no line has a mark",
 ];
 
 /// The fault in place, 0 for none.
@@ -97,6 +99,8 @@ pub fn in_placement(lent: &mut Lent, answer: &mut raw::PlacementAnswer) {
         11 if answer.startkind == 1 => lent.words[PANEL].content_mut()[PLACEMENTS.start + 3] ^= 1,
         12 if answer.number == 10 => answer.endkind = 1,
         13 => answer.endnumber += i32::from(lent.bytes[COLUMN_STORE].read_before() == 0xc3),
+        32 if answer.number == 4 => answer.endheld = 1,
+        33 if answer.startkind != 1 && answer.number == 0 => answer.startheld = 1,
         _ => (),
     }
 }
@@ -126,7 +130,7 @@ pub fn in_records(lent: &mut Lent, answer: &mut raw::CountAnswer) {
 
 pub fn in_placements(lent: &mut Lent, answer: &mut raw::CountAnswer) {
     match planted() {
-        21 if answer.count > 0 => lent.words[RUN].content_mut()[3 * answer.count as usize - 1] ^= 1,
+        21 if answer.count > 0 => lent.words[RUN].content_mut()[PLACEMENT_NUMBERS / 2 * answer.count as usize - 1] ^= 1,
         28 if answer.number == 0 => lent.words[RUN].write_past(7),
         29 if answer.number == 10 => answer.number = 0,
         _ => (),

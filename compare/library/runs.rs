@@ -45,18 +45,18 @@ fn names(lent: &mut Lent, grid: Grid, numbers: Numbers) -> raw::CountAnswer {
     answer
 }
 
-/// The three words of a placement that is asked for alone.
-fn alone(lent: &mut Lent, grid: Grid, numbers: Numbers) -> [u64; 3] {
+/// The words of a placement that is asked for alone.
+fn alone(lent: &mut Lent, grid: Grid, numbers: Numbers) -> [u64; PLACEMENT_NUMBERS / 2] {
     let p = calls::resolve_placement(lent, grid, numbers);
     let word = |low: u32, high: u32| u64::from(low) | u64::from(high) << 32;
-    [word(p.number, p.axis), word(p.startkind, p.startnumber as u32), word(p.endkind, p.endnumber as u32)]
+    [word(p.number, p.axis), word(p.startkind, p.startnumber as u32), word(p.endkind, p.endnumber as u32), word(p.startheld, p.endheld)]
 }
 
 pub fn resolve_placements(lent: &Lent, grid: Grid, numbers: Numbers) -> (u32, Promises) {
     let Twice { answer, after, mut promises } = twice(lent, |lent| placements(lent, grid, numbers));
     let (held, written) = (lent.words[RUN].content(), after.words[RUN].content());
     let there = u64::from(grid.placements).saturating_sub(u64::from(numbers.place));
-    let end = (3 * answer.count.min(MOST_PLACEMENTS)) as usize;
+    let end = PLACEMENT_NUMBERS / 2 * answer.count.min(MOST_PLACEMENTS) as usize;
     let expected = if there == 0 { 4 } else if lent.is_short() { 10 } else { 0 };
     let mut other = lent.clone();
     let mut same = |(i, words): (usize, &[u64])| *words == alone(&mut other, grid, Numbers { place: numbers.place + i as u32, ..numbers });
@@ -66,7 +66,7 @@ pub fn resolve_placements(lent: &Lent, grid: Grid, numbers: Numbers) -> (u32, Pr
     let all = answer.count == there.min(MOST_PLACEMENTS);
     promises.push(("as many placements are written as there are and fit", answer.number != 0 || all));
     promises.push(("numbers past the placements stay", written[end..] == held[end..]));
-    promises.push(("a placement of a run is the one asked for alone", written[..end].chunks(3).enumerate().all(&mut same)));
+    promises.push(("a placement of a run is the one asked for alone", written[..end].chunks(PLACEMENT_NUMBERS / 2).enumerate().all(&mut same)));
     (answer.number, promises)
 }
 

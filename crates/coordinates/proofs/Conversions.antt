@@ -9,11 +9,11 @@ use lib.IntN.{ℤ, pos, negsuc, _+ℤ_, _-ℤ_}
 use Rattle.coordinates.specs.Refusals.{zeroLine}
 use Rattle.coordinates.specs.Lines.{outside, toGridLine}
 use Rattle.coordinates.specs.Signed.{sixteenBits}
-use Rattle.coordinates.specs.Answers.{heldLine, refusedLine, convertedLine, gridLineOf, impliedNegative, impliedPositive}
+use Rattle.coordinates.specs.Answers.{heldLine, refusedConversion, convertedLine, gridLineOf, impliedNegative, impliedPositive}
 use Rattle.coordinates.proofs.Integers.{minus-at, minus-before}
 
 module _ (n : ℕ) (g : ℤ) where
-  pub converted-zero : (m : ℕ) → pos m ≡ g → m ≡ 0 → refusedLine zeroLine ≡ convertedLine n g
+  pub converted-zero : (m : ℕ) → pos m ≡ g → m ≡ 0 → refusedConversion zeroLine ≡ convertedLine n g
   converted-zero m e z = rw (← e, z)
 
   pub converted-at : (m : ℕ) (z : ℤ) → pos m ≡ g → (m ≡ 0 → ⊥) → z ≡ g -ℤ pos 1 → heldLine z ≡ convertedLine n g

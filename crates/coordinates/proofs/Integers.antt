@@ -56,18 +56,6 @@ pub sixteen-held : (z : ℤ) → sixteenBits (held z) ≡ held z
 sixteen-held (pos n) = ap pos (omega arith)
 sixteen-held (negsuc n) = ap negsuc (omega arith)
 
-pub held-at : (n : ℕ) → n ≤ 10000 → pos n ≡ held (pos n)
-held-at n h = ap pos (omega arith)
-
-pub held-past : (n : ℕ) → 10000 < n → pos 10000 ≡ held (pos n)
-held-past n h = ap pos (omega arith)
-
-pub held-before : (k : ℕ) → k ≤ 9999 → negsuc k ≡ held (negsuc k)
-held-before k h = ap negsuc (omega arith)
-
-pub held-far : (k : ℕ) → 9999 < k → negsuc 9999 ≡ held (negsuc k)
-held-far k h = ap negsuc (omega arith)
-
 -- numbers of 16 bits
 pub fits-pos : (n : ℕ) → n < 32768 → SFits w16 (pos n)
 fits-pos n h = record { sfits = h }

@@ -4,10 +4,12 @@ use mathlib.Core.Logic.{_⊎_, inl, inr, ⊎-elim}
 use Prim.Native.Nat.{ℕ, zero, suc, _+_, _-_, _≤_, _<_, min}
 use native.Mathlib.Decide.{decLt}
 use native.Mathlib.Omega.{arith}
+use mathlib.Core.Bool.{true, false}
+use borrow.Author.Tests.{ltb-true, ltb-false}
 use lib.Dec.{T, leb→le, le→leb}
 use lib.Signed.{_≤ℤ_, leZ}
 use lib.IntN.{ℤ, pos, negsuc, _+ℤ_, _-ℤ_, subℕ}
-use Rattle.coordinates.specs.Lines.{held, Within, uncut, toOriginZero, toGridLine, SameSide, SameLine}
+use Rattle.coordinates.specs.Lines.{held, Within, outside, uncut, toOriginZero, toGridLine, SameSide, SameLine}
 use Rattle.coordinates.proofs.Integers.{sub-le, sub-lt}
 
 pub lt-or-ge : (m n : ℕ) → (m < n) ⊎ (n ≤ m)
@@ -21,6 +23,17 @@ held-within (negsuc l) = omega arith
 pub held-same : (l : ℤ) → Within l → held l ≡ l
 held-same (pos l) h = ap pos (omega arith)
 held-same (negsuc l) h = ap negsuc (omega arith)
+
+-- a mark says exactly that holding changed the number
+pub held-exactly : (l : ℤ) → (outside l ≡ true → held l ≡ l → ⊥) × (outside l ≡ false → held l ≡ l)
+held-exactly (pos l) = (
+  λ o e. let h : 10000 < l = ltb-true 10000 l o in let q : min l 10000 ≡ l = cc in omega arith,
+  λ o. held-same (pos l) (ltb-false 10000 l o),
+)
+held-exactly (negsuc l) = (
+  λ o e. let h : 9999 < l = ltb-true 9999 l o in let q : min l 9999 ≡ l = cc in omega arith,
+  λ o. held-same (negsuc l) (ltb-false 9999 l o),
+)
 
 pub origin-zero-within : (n : ℕ) (g : ℤ) → Within (toOriginZero n g)
 origin-zero-within n g = held-within (uncut n g)

@@ -4,10 +4,11 @@ use mathlib.Core.Bool.{Bool, true, false, cond}
 use lib.Dec.{ltb}
 use lib.IntN.{ℤ, pos, negsuc}
 use Rattle.coordinates.specs.Refusals.{noRefusal, refusalOf, count, zeroLine}
-use Rattle.coordinates.specs.Lines.{held, outside, toOriginZero, toGridLine}
+use Rattle.coordinates.specs.Lines.{held, outside, uncut, toGridLine}
 use Rattle.coordinates.specs.declared.line.OriginZeroLine.{OriginZeroLine}
 use Rattle.coordinates.specs.declared.line.GridLine.{GridLine}
 use Rattle.coordinates.specs.declared.line.OriginZeroAnswer.{OriginZeroAnswer}
+use Rattle.coordinates.specs.declared.line.ConvertedLine.{ConvertedLine}
 use Rattle.coordinates.specs.declared.line.GridLineAnswer.{GridLineAnswer}
 use Rattle.coordinates.specs.declared.line.CountAnswer.{CountAnswer}
 
@@ -21,18 +22,23 @@ lineAnswer l = record { refusal = noRefusal; line = record { 0 = l } }
 abbrev pub refusedLine : ℕ → OriginZeroAnswer
 refusedLine n = record { refusal = refusalOf n; line = record { 0 = pos 0 } }
 
-abbrev pub heldLine : ℤ → OriginZeroAnswer
-heldLine l = lineAnswer (held l)
+-- a line held, and its mark: "exactly when the uncut number lies outside -10,000..10,000" (document 02, Req 06)
+abbrev pub heldLine : ℤ → ConvertedLine
+heldLine l = record { refusal = noRefusal; line = record { 0 = held l }; held = outside l }
+
+-- a refused conversion has line 0 and no mark beside it
+abbrev pub refusedConversion : ℕ → ConvertedLine
+refusedConversion n = record { refusal = refusalOf n; line = record { 0 = pos 0 }; held = false }
 
 -- a grid line as an origin-zero line; "conversion of line 0" is refused by 9
-abbrev pub convertedLine : ℕ → ℤ → OriginZeroAnswer
-convertedLine n (pos zero) = refusedLine zeroLine
-convertedLine n (pos (suc g)) = lineAnswer (toOriginZero n (pos (suc g)))
-convertedLine n (negsuc g) = lineAnswer (toOriginZero n (negsuc g))
+abbrev pub convertedLine : ℕ → ℤ → ConvertedLine
+convertedLine n (pos zero) = refusedConversion zeroLine
+convertedLine n (pos (suc g)) = heldLine (uncut n (pos (suc g)))
+convertedLine n (negsuc g) = heldLine (uncut n (negsuc g))
 
 -- more than 10,000 explicit tracks are refused by 4, and that first
-unfoldable pub originZeroAnswer : ℕ → ℤ → OriginZeroAnswer
-originZeroAnswer n g = cond (ltb 10000 n) (refusedLine count) (convertedLine n g)
+unfoldable pub originZeroAnswer : ℕ → ℤ → ConvertedLine
+originZeroAnswer n g = cond (ltb 10000 n) (refusedConversion count) (convertedLine n g)
 
 -- back: a count above 10,000 or a line outside -10,000..10,000 is refused by 4
 abbrev pub gridLineOf : ℤ → GridLineAnswer

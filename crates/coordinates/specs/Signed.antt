@@ -2,6 +2,8 @@
 use mathlib.Core.Path.{_≡_}
 use Prim.Native.Nat.{ℕ, _<_, min}
 use lib.IntN.{ℤ, pos, negsuc}
+use Rattle.coordinates.specs.Lines.{held, outside}
+use Rattle.coordinates.specs.declared.signed.HeldLine.{HeldLine}
 use Rattle.coordinates.specs.declared.signed.Signed.{Signed}
 use Rattle.coordinates.specs.declared.signed.Signed.the-variants.{NonNegative, Negative}
 
@@ -23,3 +25,8 @@ Small (Negative k) = k < 32768
 pub record Split (value : ℤ) (r : Signed) : Type 0 where
   pub is : integerOf r ≡ value
   pub small : Small r
+
+-- a number held within -10,000..10,000, with its mark: set exactly where the number lies outside
+pub record HeldAs (z : ℤ) (r : HeldLine) : Type 0 where
+  pub line : integerOf (r .line) ≡ held z
+  pub mark : r .held ≡ outside z

@@ -4,7 +4,7 @@ ghost use Rattle.coordinates.specs.Lines.{outside};
 ghost use Prim.Native.Nat.{_-_};
 ghost use Rattle.coordinates.specs.Signed.{integerOf, sixteenBits};
 ghost use Rattle.coordinates.specs.Refusals.{count};
-ghost use Rattle.coordinates.specs.Answers.{clampedOf, heldLine, refusedLine, originZeroAnswer, gridLineOf, refusedGridLine, gridLineAnswer, countAnswer, refusedCount, impliedNegativeAnswer, impliedPositiveAnswer};
+ghost use Rattle.coordinates.specs.Answers.{clampedOf, heldLine, refusedConversion, originZeroAnswer, gridLineOf, refusedGridLine, gridLineAnswer, countAnswer, refusedCount, impliedNegativeAnswer, impliedPositiveAnswer};
 use crate::refusal;
 use crate::refusal::Refusal;
 use crate::signed;
@@ -20,6 +20,13 @@ pub struct OriginZeroLine(pub i16);
 pub struct OriginZeroAnswer {
     pub refusal: Refusal,
     pub line: OriginZeroLine,
+}
+
+// A grid line as an origin-zero line, or why there is none; and its mark: whether it was held at an end.
+pub struct ConvertedLine {
+    pub refusal: Refusal,
+    pub line: OriginZeroLine,
+    pub held: bool,
 }
 
 // A grid line, or why there is none.
@@ -45,24 +52,28 @@ pub fn is_outside(line: OriginZeroLine) -> bool
     }
 }
 
-// The line of a number by its sign, held.
-fn held_line(number: Signed) -> OriginZeroAnswer
+// The line of a number by its sign, held, with its mark.
+fn held_line(number: Signed) -> ConvertedLine
     ensures { λ r. ⌜ r ≡ heldLine (integerOf number) ⌝ }
 {
-    let line = OriginZeroLine(signed::joined(signed::hold(number)));
-    OriginZeroAnswer {
+    let held = signed::hold(number);
+    let within = held.line;
+    let line = OriginZeroLine(signed::joined(within));
+    ConvertedLine {
         refusal: refusal::no_refusal(),
         line,
+        held: held.held,
     }
 }
 
-// No line.
-fn refused_line(number: u32) -> OriginZeroAnswer
-    ensures { λ r. ⌜ r ≡ refusedLine number ⌝ }
+// No line, and no mark.
+fn refused_line(number: u32) -> ConvertedLine
+    ensures { λ r. ⌜ r ≡ refusedConversion number ⌝ }
 {
-    OriginZeroAnswer {
+    ConvertedLine {
         refusal: refusal::refusal_of(number),
         line: OriginZeroLine(0),
+        held: false,
     }
 }
 
@@ -115,8 +126,8 @@ fn past(l: u32, n: u32) -> u32
 }
 
 impl GridLine {
-    // The origin-zero line, held. Refused: more than 10,000 explicit tracks (4), and then line 0 (9).
-    pub fn into_origin_zero_line(self, explicit: u16) -> OriginZeroAnswer
+    // The origin-zero line, held, with its mark. Refused: more than 10,000 explicit tracks (4), and then line 0 (9).
+    pub fn into_origin_zero_line(self, explicit: u16) -> ConvertedLine
         ensures { λ r. ⌜ r ≡ originZeroAnswer explicit (self .0) ⌝ }
     {
         if 10000 < explicit {
@@ -140,7 +151,9 @@ impl OriginZeroLine {
     pub fn clamped(line: i32) -> OriginZeroLine
         ensures { λ r. ⌜ r ≡ clampedOf line ⌝ }
     {
-        OriginZeroLine(signed::joined(signed::hold(signed::split(line))))
+        let held = signed::hold(signed::split(line));
+        let within = held.line;
+        OriginZeroLine(signed::joined(within))
     }
 
     // The grid line. Refused by 4: more than 10,000 explicit tracks, and a line outside -10,000..10,000.

@@ -2,13 +2,18 @@
 ghost use mathlib.Core.Path.{_≡_};
 ghost use Prim.Native.Nat.{_<_, min};
 ghost use lib.IntN.{pos, _+ℤ_, _-ℤ_};
-ghost use Rattle.coordinates.specs.Lines.{held};
-ghost use Rattle.coordinates.specs.Signed.{integerOf, sixteenBits, Split};
+ghost use Rattle.coordinates.specs.Signed.{HeldAs, integerOf, sixteenBits, Split};
 
 // `NonNegative(n)` is n, and `Negative(k)` is -(k + 1).
 pub enum Signed {
     NonNegative(u32),
     Negative(u32),
+}
+
+// A line that is held within -10,000..10,000, and its mark: whether it lay outside.
+pub struct HeldLine {
+    pub line: Signed,
+    pub held: bool,
 }
 
 // A number by its sign.
@@ -37,11 +42,11 @@ fn count_of_16_bits(n: u32) -> i16
     n as i16
 }
 
-// The smaller of a count and the largest number of 16 bits.
-fn at_most_16_bits(n: u32) -> u32
-    ensures { λ r. ⌜ r ≡ min n 32767 ⌝ }
+// The smaller of a count and a limit.
+fn at_most(n: u32, limit: u32) -> u32
+    ensures { λ r. ⌜ r ≡ min n limit ⌝ }
 {
-    if n < 32767 { n } else { 32767 }
+    if n < limit { n } else { limit }
 }
 
 // The number of 16 bits, or the nearest there is.
@@ -49,8 +54,8 @@ pub fn joined(value: Signed) -> i16
     ensures { λ r. ⌜ r ≡ sixteenBits (integerOf value) ⌝ }
 {
     match value {
-        Signed::NonNegative(n) => count_of_16_bits(at_most_16_bits(n)),
-        Signed::Negative(k) => -1 - count_of_16_bits(at_most_16_bits(k)),
+        Signed::NonNegative(n) => count_of_16_bits(at_most(n, 32767)),
+        Signed::Negative(k) => -1 - count_of_16_bits(at_most(k, 32767)),
     }
 }
 
@@ -98,22 +103,18 @@ pub fn difference(a: u16, b: u16) -> Signed
     Signed::Negative(n - m - 1)
 }
 
-// Held within -10,000..10,000.
-pub fn hold(value: Signed) -> Signed
-    ensures { λ r. ⌜ integerOf r ≡ held (integerOf value) ⌝ }
+// Held within -10,000..10,000, with its mark.
+pub fn hold(value: Signed) -> HeldLine
+    ensures { λ r. ⌜ HeldAs (integerOf value) r ⌝ }
 {
     match value {
-        Signed::NonNegative(n) => {
-            if n <= 10000 {
-                return Signed::NonNegative(n);
-            }
-            Signed::NonNegative(10000)
-        }
-        Signed::Negative(k) => {
-            if k <= 9999 {
-                return Signed::Negative(k);
-            }
-            Signed::Negative(9999)
-        }
+        Signed::NonNegative(n) => HeldLine {
+            line: Signed::NonNegative(at_most(n, 10000)),
+            held: 10000 < n,
+        },
+        Signed::Negative(k) => HeldLine {
+            line: Signed::Negative(at_most(k, 9999)),
+            held: 9999 < k,
+        },
     }
 }

@@ -1,6 +1,6 @@
 -- The answers of the calls on a panel, as numbers. An axis is a number: 0 the columns, 1 the rows; any other is refused by 4.
 use Prim.Native.Nat.{ℕ, _-_, min}
-use mathlib.Core.Bool.{Bool, cond}
+use mathlib.Core.Bool.{Bool, true, false, cond}
 use lib.Dec.{leb}
 use Rattle.coordinates.specs.Refusals.{name, count}
 use Rattle.name_rules.specs.Css.{Bytes}
@@ -81,7 +81,12 @@ recordCountOf g axis = cond (isAxis axis) (counted (recordsIn (axisTracks (gridI
 
 -- ---- `palgwern_resolve_placement`
 
--- kinds 0 `auto`, 1 `line`, 3 `span`, each with its number
+-- a mark is 1 where it is set
+abbrev pub markNumber : Bool → ℕ
+markNumber true = 1
+markNumber false = 0
+
+-- kinds 0 `auto`, 1 `line`, 3 `span`, each with its number, and the marks of both ends
 unfoldable pub placementNumbers : PlacementAnswer → PlacementNumbers
 placementNumbers a =
     record {
@@ -91,6 +96,8 @@ placementNumbers a =
       startnumber = resolvedNumberOf (a .line .start);
       endkind = resolvedKindOf (a .line .end);
       endnumber = resolvedNumberOf (a .line .end);
+      startheld = markNumber (a .held .start);
+      endheld = markNumber (a .held .end);
     }
 
 -- ---- `palgwern_line_name`

@@ -37,7 +37,8 @@ pub struct NameAnswer {
     pub length: u32,
 }
 
-// A resolved placement, or a refusal and zeros: its axis, and for each end its kind (0 `auto`, 1 `line`, 3 `span`) and number.
+// A resolved placement, or a refusal and zeros: its axis, for each end its kind (0 `auto`, 1 `line`, 3 `span`) and number, and then for each end its mark: 1 where a step on the way
+// to its line held it.
 #[repr(C)]
 pub struct PlacementNumbers {
     pub number: u32,
@@ -46,4 +47,6 @@ pub struct PlacementNumbers {
     pub startnumber: i32,
     pub endkind: u32,
     pub endnumber: i32,
+    pub startheld: u32,
+    pub endheld: u32,
 }

@@ -1,7 +1,7 @@
 // Answers and records as numbers.
 ghost use mathlib.Core.Path.{_≡_};
 ghost use Rattle.name_resolver.specs.Placements.{resolvedKindOf, resolvedNumberOf};
-ghost use Rattle.library_numbers.specs.Answers.{counted, uncounted, placementNumbers};
+ghost use Rattle.library_numbers.specs.Answers.{counted, markNumber, uncounted, placementNumbers};
 ghost use Rattle.library_numbers.specs.Records.{kindNumber, sourceNumber, sizeWord};
 use crate::CountAnswer;
 use crate::PlacementNumbers;
@@ -48,6 +48,16 @@ fn end_number(end: NonNamedGridPlacement) -> i32
     }
 }
 
+// The number of a mark.
+fn mark_number(held: bool) -> u32
+    ensures { λ r. ⌜ r ≡ markNumber held ⌝ }
+{
+    if held {
+        return 1;
+    }
+    0
+}
+
 // A resolved placement.
 pub fn placement_numbers(answer: PlacementAnswer) -> PlacementNumbers
     ensures { λ r. ⌜ r ≡ placementNumbers answer ⌝ }
@@ -55,6 +65,7 @@ pub fn placement_numbers(answer: PlacementAnswer) -> PlacementNumbers
     let refusal = answer.refusal;
     let axis = answer.axis;
     let line = answer.line;
+    let held = answer.held;
     let start = line.start;
     let end = line.end;
     PlacementNumbers {
@@ -64,6 +75,8 @@ pub fn placement_numbers(answer: PlacementAnswer) -> PlacementNumbers
         startnumber: end_number(start),
         endkind: end_kind(end),
         endnumber: end_number(end),
+        startheld: mark_number(held.start),
+        endheld: mark_number(held.end),
     }
 }
 

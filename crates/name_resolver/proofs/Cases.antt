@@ -9,7 +9,7 @@ use Rattle.name_rules.specs.Css.{AxisNames}
 use Rattle.name_rules.specs.Rule.{named?, seek}
 use Rattle.name_entries.specs.Entries.{entryOf, entriesOf, wordOf}
 use Rattle.name_lines.specs.Areas.{areasOf, axisNames}
-use Rattle.name_resolver.specs.Placements.{gridLineOf, resolutionOf}
+use Rattle.name_resolver.specs.Placements.{gridLineOf, noMarks, resolutionOf}
 use Rattle.name_resolver.specs.declared.GridPlacement.{GridPlacement}
 use Rattle.name_resolver.specs.declared.GridPlacement.the-variants.{Auto, Line, NamedLine, NamedSpan}
 use Rattle.name_resolver.specs.declared.NonNamedGridPlacement.{NonNamedGridPlacement}
@@ -31,7 +31,7 @@ asked : AxisNames → GridPlacement → GridPlacement → Resolution
 asked x p q = resolutionOf x (120 ∷ 97 ∷ 45 ∷ 115 ∷ 116 ∷ 97 ∷ 114 ∷ 116 ∷ []) (record { start = p; end = q })
 
 answered : NonNamedGridPlacement → NonNamedGridPlacement → Resolution
-answered p q = record { refusal = noRefusal; line = record { start = p; end = q } }
+answered p q = record { refusal = noRefusal; line = record { start = p; end = q }; held = noMarks }
 
 m8 : (asked twoLines (NamedLine (record { offset = 0; length = 1 }) (pos 2)) Auto ≡ answered (Plain.Line (gridLineOf (pos 3))) Plain.Auto)
     × (asked twoLines (NamedLine (record { offset = 0; length = 1 }) (pos 3)) Auto ≡ answered (Plain.Line (gridLineOf (pos 5))) Plain.Auto)

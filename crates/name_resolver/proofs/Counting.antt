@@ -1,12 +1,12 @@
 -- 0 told from the other numbers, an index as a count, and a line past the limit. Assumes nothing.
-use mathlib.Core.Path.{_≡_, refl, ap}
+use mathlib.Core.Path.{_≡_, refl, sym, ap}
 use mathlib.Core.Bool.{Bool, true, false, _||_, true≢false}
-use Prim.Native.Nat.{ℕ, zero, suc, _+_, _-_, _≤_}
+use Prim.Native.Nat.{ℕ, zero, suc, _+_, _-_, _≤_, _<_}
 use native.Mathlib.Omega.{arith}
-use borrow.Author.Tests.{ne-eqb, ltb-true, ltb-false}
+use borrow.Author.Tests.{ne-eqb, ltb-true, ltb-false, lt-ltb}
 use lib.Dec.{eqb, ltb}
 use lib.IntN.{ℤ, pos}
-use Rattle.coordinates.specs.Lines.{held}
+use Rattle.coordinates.specs.Signed.{HeldAs}
 use Rattle.coordinates.specs.declared.signed.Signed.the-variants.{NonNegative}
 use Rattle.name_resolver.specs.Counts.{isZero, indexCount}
 use Rattle.name_resolver.specs.declared.count.Count.the-variants.{Forwards}
@@ -21,15 +21,15 @@ pub index-pos : (e i : ℕ) → (i ≡ 0 → ⊥) → Forwards (NonNegative 0) (
 index-pos e zero h = absurd (h refl)
 index-pos e (suc i) h = let q : suc i - 1 ≡ i = omega arith in rw q
 
--- a line past 10,000 is held there
-pub held-past : (n : ℕ) → 10000 ≤ n → pos 10000 ≡ held (pos n)
-held-past n h = ap pos (omega arith)
+-- a line past 10,000 is held there, with a mark
+pub held-past : (n : ℕ) → 10000 < n → HeldAs (pos n) (record { line = NonNegative 10000; held = true })
+held-past n h = record { line = ap pos (omega arith); mark = sym (lt-ltb 10000 n h) }
 
 -- two numbers tested at once for one past 10,000
-pub either-past : (a b n : ℕ) → (ltb 10000 a || ltb 10000 b) ≡ true → a ≤ n → 10000 ≤ n + b
+pub either-past : (a b n : ℕ) → (ltb 10000 a || ltb 10000 b) ≡ true → a ≤ n → 10000 < n + b
 either-past a b n h l = go (ltb 10000 a) refl h
   where
-    go : (t : Bool) → ltb 10000 a ≡ t → (t || ltb 10000 b) ≡ true → 10000 ≤ n + b
+    go : (t : Bool) → ltb 10000 a ≡ t → (t || ltb 10000 b) ≡ true → 10000 < n + b
     go true e h = omega (arith, ltb-true 10000 a e)
     go false e h = omega (arith, ltb-true 10000 b h)
 

@@ -1,6 +1,6 @@
 -- The line before a line, and lines that are held, as numbers of 16 bits. Assumes nothing.
-use mathlib.Core.Path.{_≡_}
-use mathlib.Core.Bool.{Bool, true, false, cond, true≢false}
+use mathlib.Core.Path.{_≡_, _∙_, ap, ap₂}
+use mathlib.Core.Bool.{Bool, true, false, cond, _||_, true≢false}
 use Prim.Native.Nat.{ℕ, zero, suc, _+_, _-_, _≤_}
 use native.Mathlib.Omega.{arith}
 use borrow.Author.Tests.{le-ltb}
@@ -9,14 +9,18 @@ use lib.IntN.{ℤ, pos, negsuc, _-ℤ_}
 use mir.Syntax.{w16}
 use mir.Val.{SFits}
 use Rattle.coordinates.specs.Refusals.{count}
-use Rattle.coordinates.specs.Lines.{held, Within, outside, toOriginZero, toGridLine}
-use Rattle.coordinates.specs.Signed.{integerOf, Small}
+use Rattle.coordinates.specs.Lines.{held, Within, outside, uncut, toOriginZero, toGridLine}
+use Rattle.coordinates.specs.Signed.{integerOf, sixteenBits, Small, HeldAs}
+use Rattle.coordinates.specs.declared.signed.HeldLine.{HeldLine}
 use Rattle.coordinates.specs.declared.signed.Signed.{Signed}
-use Rattle.coordinates.proofs.Integers.{minus-at, minus-before, fits-pos, fits-neg, split-small}
+use Rattle.coordinates.proofs.Integers.{minus-at, minus-before, sixteen-held, fits-pos, fits-neg, split-small}
 use Rattle.coordinates.proofs.Lines.{held-within, origin-zero-within}
-use Rattle.coordinates.specs.Answers.{refusedLine, convertedLine, originZeroAnswer, gridLineAnswer}
+use Rattle.coordinates.specs.Answers.{refusedConversion, convertedLine, originZeroAnswer, gridLineAnswer}
 use Rattle.name_resolver.specs.Counts.{isZero}
 use Rattle.name_resolver.specs.Placements.{gridLineOf}
+use Rattle.name_resolver.specs.Steps.{endOnLine, endOnHeld}
+use Rattle.name_resolver.specs.declared.NonNamedGridPlacement.the-variants as Plain
+use Rattle.name_resolver.specs.declared.ResolvedEnd.{ResolvedEnd}
 
 -- the line before a line within the limits
 minus-fits : (z : ℤ) → Within z → SFits w16 (z -ℤ pos 1)
@@ -37,7 +41,7 @@ pub answer-within : (n : ℕ) (g : ℤ) → Within (originZeroAnswer n g .line .
 unfolding originZeroAnswer
 answer-within n g = go (ltb 10000 n)
   where
-    go : (b : Bool) → Within (cond b (refusedLine count) (convertedLine n g) .line .0)
+    go : (b : Bool) → Within (cond b (refusedConversion count) (convertedLine n g) .line .0)
     go true = omega arith
     go false = converted-within n g
 
@@ -55,3 +59,17 @@ unfolding originZeroAnswer
 origin-zero-answer n (pos zero) h z = absurd (true≢false z)
 origin-zero-answer n (pos (suc g)) h z = rw (le-ltb 10000 n h)
 origin-zero-answer n (negsuc g) h z = rw (le-ltb 10000 n h)
+
+-- the mark of a conversion that isn't refused; line 0 has none
+pub conversion-mark : (n : ℕ) (g : ℤ) → n ≤ 10000 → originZeroAnswer n g .held ≡ outside (uncut n g)
+unfolding originZeroAnswer
+conversion-mark n (pos zero) h = rw (le-ltb 10000 n h)
+conversion-mark n (pos (suc g)) h = rw (le-ltb 10000 n h)
+conversion-mark n (negsuc g) h = rw (le-ltb 10000 n h)
+
+-- an end on a line that was held is the end on that line
+pub end-held : (n : ℕ) (before : Bool) (z : ℤ) (l : HeldLine) → HeldAs z l → endOnHeld n before l ≡ endOnLine n before z
+end-held n before z l h = ap₂ made (ap sixteenBits (h .line) ∙ sixteen-held z) (h .mark)
+  where
+    made : ℤ → Bool → ResolvedEnd
+    made k b = record { placement = Plain.Line (gridLineAnswer n k .line); held = before || b }

@@ -1,5 +1,6 @@
 -- The counts that an index and a span ask for. Assumes nothing.
 use mathlib.Core.Path.{_≡_, refl}
+use mathlib.Core.Bool.{Bool, false}
 use Prim.Native.Nat.{ℕ, zero, suc, _<_}
 use native.Mathlib.Omega.{arith}
 use lib.IntN.{ℤ, pos, negsuc}
@@ -22,7 +23,7 @@ index-fits e (pos zero) = tt
 index-fits e (pos (suc i)) = tt
 index-fits e (negsuc i) = tt
 
-pub named-counted : (e : ℕ) (name : Name) (i : ℤ) (s : Side) → countQuestion e name (indexEdge i s) (indexCount e i) ≡ namedQuestion e name i s
+pub named-counted : (e : ℕ) (name : Name) (i : ℤ) (s : Side) → countQuestion e name (indexEdge i s) (indexCount e i) false ≡ namedQuestion e name i s
 named-counted e name (pos zero) s = refl
 named-counted e name (pos (suc i)) s = refl
 named-counted e name (negsuc i) s = refl
@@ -38,9 +39,9 @@ span-fits start n o (Backwards last over) h w q = small-back last over (minus-sm
 span-fits end n o (Forwards first over) h w q = tt
 span-fits end n o (Backwards last over) h w q = absurd q
 
-pub span-counted : (e : ℕ) (name : Name) (n : ℕ) (s : Side) (o : ℤ) (c : Count) → CountedSpan s n o c
-    → countQuestion e name Neither c ≡ spanQuestionFrom e name n s o
-span-counted e name n start o (Forwards first over) h = absurd h
-span-counted e name n start o (Backwards last over) h = rw (h .0, h .1)
-span-counted e name n end o (Forwards first over) h = rw (h .0, h .1)
-span-counted e name n end o (Backwards last over) h = absurd h
+pub span-counted : (e : ℕ) (name : Name) (n : ℕ) (s : Side) (o : ℤ) (m : Bool) (c : Count) → CountedSpan s n o c
+    → countQuestion e name Neither c m ≡ spanQuestionFrom e name n s o m
+span-counted e name n start o m (Forwards first over) h = absurd h
+span-counted e name n start o m (Backwards last over) h = rw (h .0, h .1)
+span-counted e name n end o m (Forwards first over) h = rw (h .0, h .1)
+span-counted e name n end o m (Backwards last over) h = absurd h

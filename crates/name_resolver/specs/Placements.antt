@@ -1,6 +1,6 @@
 -- Placements as written and as resolved (document 01, "Panel sheet": kinds `auto line named span nspan`, each with its number).
 use Prim.Native.Nat.{ℕ}
-use mathlib.Core.Bool.{cond}
+use mathlib.Core.Bool.{false, cond}
 use mathlib.Core.List.{List}
 use lib.Dec.{leb}
 use lib.IntN.{ℤ, pos}
@@ -8,7 +8,8 @@ use lib.ListN.{take, drop}
 use Rattle.coordinates.specs.Refusals.{noRefusal, refusalOf, count}
 use Rattle.name_rules.specs.Css as Css
 use Rattle.name_rules.specs.Css.{Bytes, AxisNames}
-use Rattle.name_rules.specs.Rule.{named?, resolve}
+use Rattle.name_rules.specs.CssMarks as CssMarks
+use Rattle.name_rules.specs.Rule.{named?, resolve, heldEnds}
 use Rattle.coordinates.specs.declared.line.GridLine.{GridLine}
 use Rattle.name_resolver.specs.declared.Name.{Name}
 use Rattle.name_resolver.specs.declared.GridPlacement.{GridPlacement}
@@ -17,6 +18,7 @@ use Rattle.name_resolver.specs.declared.NonNamedGridPlacement.{NonNamedG
 use Rattle.name_resolver.specs.declared.NonNamedGridPlacement.the-variants as Plain
 use Rattle.name_resolver.specs.declared.Line.{Line}
 use Rattle.name_resolver.specs.declared.ResolvedLine.{ResolvedLine}
+use Rattle.name_resolver.specs.declared.HeldEnds.{HeldEnds}
 use Rattle.name_resolver.specs.declared.Resolution.{Resolution}
 
 -- the grid line of a number
@@ -64,21 +66,35 @@ endsOf r = record { start = answerOf (r .first); end = answerOf (r .last) }
 abbrev pub resolvedEnds : ResolvedLine → Css.ResolvedEnds
 resolvedEnds l = record { first = resolvedOf (l .start); last = resolvedOf (l .end) }
 
--- the zero value of a resolved placement: every enum its 0 case
+-- the marks of both ends as the answer has them, and back
+abbrev pub heldAnswer : CssMarks.HeldEnds → HeldEnds
+heldAnswer h = record { start = h .first; end = h .last }
+
+abbrev pub heldMarks : HeldEnds → CssMarks.HeldEnds
+heldMarks h = record { first = h .start; last = h .end }
+
+-- the zero value of a resolved placement: every enum its 0 case; and no mark
 abbrev pub zeroLine : ResolvedLine
 zeroLine = record { start = Plain.Auto; end = Plain.Auto }
+
+abbrev pub noMarks : HeldEnds
+noMarks = record { start = false; end = false }
 
 -- a placement beside the names of an axis, by the rule
 abbrev pub resolvedLine : AxisNames → List ℕ → Line → ResolvedLine
 resolvedLine x names l = endsOf (resolve (x .explicit) (named? x) (placementOf names (l .start)) (placementOf names (l .end)))
 
+-- and the marks of its ends
+abbrev pub heldLine : AxisNames → List ℕ → Line → HeldEnds
+heldLine x names l = heldAnswer (heldEnds (x .explicit) (named? x) (placementOf names (l .start)) (placementOf names (l .end)))
+
 -- a refused answer: number 4, line 0 and the zero value
 abbrev pub refusedResolution : Resolution
-refusedResolution = record { refusal = refusalOf count; line = zeroLine }
+refusedResolution = record { refusal = refusalOf count; line = zeroLine; held = noMarks }
 
 -- an explicit count above 10,000 is refused by 4
 unfoldable pub resolutionOf : AxisNames → List ℕ → Line → Resolution
 resolutionOf x names l =
     cond (leb (x .explicit) 10000)
-    (record { refusal = noRefusal; line = resolvedLine x names l })
+    (record { refusal = noRefusal; line = resolvedLine x names l; held = heldLine x names l })
     refusedResolution

@@ -10,8 +10,8 @@ use Rattle.name_lines.specs.declared.suffix.AreaEdge.the-variants.{Start, End, 
 use Rattle.name_resolver.specs.Placements.{nameOf}
 use Rattle.name_resolver.specs.Steps.{firstEnd, secondEnd, resolvedEndsIn, questionOf, foundEnd}
 use Rattle.name_resolver.specs.declared.Line.{Line}
-use Rattle.name_resolver.specs.declared.NonNamedGridPlacement.{NonNamedGridPlacement}
-use Rattle.name_resolver.specs.declared.ResolvedLine.{ResolvedLine}
+use Rattle.name_resolver.specs.declared.ResolvedEnd.{ResolvedEnd}
+use Rattle.name_resolver.specs.declared.Resolution.{Resolution}
 use Rattle.name_resolver.specs.declared.Question.{Question}
 use Rattle.name_resolver.specs.declared.Asked.{Asked}
 use Rattle.name_resolver.specs.declared.Asked.the-variants as Says
@@ -32,12 +32,12 @@ unfoldable pub foundBy : (Bytes → ℕ → Bool) → Bytes → Question → See
 foundBy names nm q = orElse (edgeFound names nm (q .edge)) (walk (q .way) (λ (l : ℕ). names nm (suc l)) (startOf (q .way) (q .from)) (q .over))
 
 -- what an end that asks comes to; `bytes` hold the names of placements
-abbrev pub answered : (Bytes → ℕ → Bool) → List ℕ → ℕ → Asked → NonNamedGridPlacement
+abbrev pub answered : (Bytes → ℕ → Bool) → List ℕ → ℕ → Asked → ResolvedEnd
 answered names bytes explicit (Says.Resolved r) = r
 answered names bytes explicit (Says.Line q) = foundEnd explicit q (foundBy names (nameOf bytes (q .name)) q)
 
 -- a placement whose ends are asked for one after the other
-unfoldable pub answeredLine : (Bytes → ℕ → Bool) → List ℕ → ℕ → Line → ResolvedLine
+unfoldable pub answeredLine : (Bytes → ℕ → Bool) → List ℕ → ℕ → Line → Resolution
 answeredLine names bytes explicit l =
     let f = answered names bytes explicit (questionOf explicit (firstEnd l)) in
     resolvedEndsIn l f (answered names bytes explicit (questionOf explicit (secondEnd l f)))

@@ -1,7 +1,7 @@
 // What an end of a placement asks for.
 ghost use Rattle.coordinates.specs.Signed.{integerOf};
 ghost use Rattle.name_lines.specs.Areas.{sideOf};
-ghost use Rattle.name_resolver.specs.Steps.{BackFits, CountFits, countQuestion, indexEdge, namedQuestion, questionBack, questionOf, spanQuestion};
+ghost use Rattle.name_resolver.specs.Steps.{BackFits, CountFits, countQuestion, indexEdge, namedQuestion, questionBack, questionOf, spanQuestion, unmarkedEnd, writtenEnd};
 ghost use mathlib.Core.Path.{_≡_};
 use crate::Asked;
 use crate::End;
@@ -9,9 +9,10 @@ use crate::GridPlacement;
 use crate::Name;
 use crate::NonNamedGridPlacement;
 use crate::Question;
+use crate::ResolvedEnd;
 use crate::count;
 use crate::count::Count;
-use crate::found::grid_line;
+use crate::found::end_on_line;
 use coordinates::GridLine;
 use coordinates::signed;
 use coordinates::signed::Signed;
@@ -19,6 +20,27 @@ use name_lines::GridAreaEnd;
 use name_lines::Way;
 use name_lines::suffix::AreaEdge;
 use name_lines::suffix::edge_at;
+
+// An end without a mark.
+fn unmarked_end(placement: NonNamedGridPlacement) -> ResolvedEnd
+    ensures { λ r. ⌜ r ≡ unmarkedEnd placement ⌝ }
+{
+    ResolvedEnd {
+        placement,
+        held: false,
+    }
+}
+
+// A written line as it stands, with the mark of its conversion.
+fn written_end(explicit: u16, line: GridLine) -> ResolvedEnd
+    ensures { λ r. ⌜ r ≡ writtenEnd explicit line ⌝ }
+{
+    let converted = line.into_origin_zero_line(explicit);
+    ResolvedEnd {
+        placement: NonNamedGridPlacement::Line(line),
+        held: converted.held,
+    }
+}
 
 // The edge of an area that a name with that index asks for first.
 fn edge_of_index(index: Signed, side: GridAreaEnd) -> AreaEdge
@@ -31,9 +53,9 @@ fn edge_of_index(index: Signed, side: GridAreaEnd) -> AreaEdge
 }
 
 // The question of a count back: a line before the first is counted to without a search.
-fn question_back(explicit: u16, name: Name, last: Signed, over: u32) -> Asked
+fn question_back(explicit: u16, name: Name, last: Signed, over: u32, held: bool) -> Asked
     requires { ⌜ BackFits (integerOf last) over ⌝ }
-    ensures { λ r. ⌜ r ≡ questionBack explicit name (integerOf last) over ⌝ }
+    ensures { λ r. ⌜ r ≡ questionBack explicit name (integerOf last) over held ⌝ }
 {
     match last {
         Signed::NonNegative(line) => Asked::Line(Question {
@@ -42,18 +64,19 @@ fn question_back(explicit: u16, name: Name, last: Signed, over: u32) -> Asked
             way: Way::Down,
             from: count::explicit_end(explicit, line),
             over,
+            held,
         }),
         Signed::Negative(k) => {
             let line = signed::hold(Signed::Negative(k + over));
-            Asked::Resolved(NonNamedGridPlacement::Line(grid_line(line, explicit)))
+            Asked::Resolved(end_on_line(explicit, held, line))
         }
     }
 }
 
 // The question of a count of a name's lines.
-fn question_of_count(explicit: u16, name: Name, edge: AreaEdge, count: Count) -> Asked
+fn question_of_count(explicit: u16, name: Name, edge: AreaEdge, count: Count, held: bool) -> Asked
     requires { ⌜ CountFits count ⌝ }
-    ensures { λ r. ⌜ r ≡ countQuestion explicit name edge count ⌝ }
+    ensures { λ r. ⌜ r ≡ countQuestion explicit name edge count held ⌝ }
 {
     match count {
         Count::Forwards(first, over) => Asked::Line(Question {
@@ -62,8 +85,9 @@ fn question_of_count(explicit: u16, name: Name, edge: AreaEdge, count: Count) ->
             way: Way::Up,
             from: count::first_line(first),
             over,
+            held,
         }),
-        Count::Backwards(last, over) => question_back(explicit, name, last, over),
+        Count::Backwards(last, over) => question_back(explicit, name, last, over, held),
     }
 }
 
@@ -73,20 +97,28 @@ fn named_question(explicit: u16, name: Name, index: i16, side: GridAreaEnd) -> A
 {
     let number = signed::split_16_bits(index);
     let edge = edge_of_index(number, side);
-    question_of_count(explicit, name, edge, count::index_count(number, explicit))
+    let counted = count::index_count(number, explicit);
+    question_of_count(explicit, name, edge, counted, false)
 }
 
-// What a span of a name asks for beside a grid line, which is held first: span 1 where that is 0.
-fn span_question(explicit: u16, name: Name, span: u16, side: GridAreaEnd, beside: GridLine) -> Asked
-    ensures { λ r. ⌜ r ≡ spanQuestion explicit name span (sideOf side) (beside .0) ⌝ }
+// What a span of a name asks for beside a grid line, which is held first and whose mark it takes over: span 1 where that is 0.
+fn span_question(
+    explicit: u16,
+    name: Name,
+    span: u16,
+    side: GridAreaEnd,
+    beside: GridLine,
+    held: bool,
+) -> Asked
+    ensures { λ r. ⌜ r ≡ spanQuestion explicit name span (sideOf side) (beside .0) held ⌝ }
 {
     let number = beside.0;
     if count::is_zero(signed::split_16_bits(number)) {
-        return Asked::Resolved(NonNamedGridPlacement::Span(1));
+        return Asked::Resolved(unmarked_end(NonNamedGridPlacement::Span(1)));
     }
     let answer = beside.into_origin_zero_line(explicit);
     let counted = count::span_count(span, answer.line, side);
-    question_of_count(explicit, name, AreaEdge::Neither, counted)
+    question_of_count(explicit, name, AreaEdge::Neither, counted, held)
 }
 
 // What an end asks for. Written lines and plain spans pass through.
@@ -97,12 +129,14 @@ pub fn question_of(explicit: u16, end: End) -> Asked
     let side = end.side;
     let beside = end.beside;
     match placement {
-        GridPlacement::Auto => Asked::Resolved(NonNamedGridPlacement::Auto),
-        GridPlacement::Line(written) => Asked::Resolved(NonNamedGridPlacement::Line(written)),
+        GridPlacement::Auto => Asked::Resolved(unmarked_end(NonNamedGridPlacement::Auto)),
+        GridPlacement::Line(written) => Asked::Resolved(written_end(explicit, written)),
         GridPlacement::NamedLine(name, index) => named_question(explicit, name, index, side),
-        GridPlacement::Span(span) => Asked::Resolved(NonNamedGridPlacement::Span(span)),
+        GridPlacement::Span(span) => {
+            Asked::Resolved(unmarked_end(NonNamedGridPlacement::Span(span)))
+        }
         GridPlacement::NamedSpan(name, span) => {
-            span_question(explicit, name, span, side, beside)
+            span_question(explicit, name, span, side, beside, end.held)
         }
     }
 }

@@ -1,7 +1,6 @@
 // Lines of a name, counted: where too few lines bear it, every line past the explicit grid counts.
 ghost use Prim.Native.Nat.{max, min, pred, suc};
-ghost use Rattle.coordinates.specs.Lines.{held};
-ghost use Rattle.coordinates.specs.Signed.{integerOf};
+ghost use Rattle.coordinates.specs.Signed.{HeldAs, integerOf};
 ghost use Rattle.name_rules.specs.Rule.{settle};
 ghost use Rattle.name_lines.specs.Areas.{sideOf};
 ghost use Rattle.name_lines.specs.Marks.{seekOf};
@@ -10,6 +9,7 @@ ghost use lib.IntN.{pos};
 ghost use mathlib.Core.Path.{_≡_};
 use coordinates::OriginZeroLine;
 use coordinates::signed;
+use coordinates::signed::HeldLine;
 use coordinates::signed::Signed;
 use name_lines::Found;
 use name_lines::GridAreaEnd;
@@ -77,16 +77,19 @@ pub fn first_line(line: Signed) -> u32
     }
 }
 
-// The line that a search forwards comes to; missing lines are counted on past the explicit grid, or from `first` on, held at 10,000.
-pub fn line_forwards(explicit: u16, first: u32, found: Found) -> Signed
-    ensures { λ r. ⌜ integerOf r ≡ held (pos (settle (max first (suc explicit)) (seekOf found))) ⌝ }
+// The line that a search forwards comes to; missing lines are counted on past the explicit grid, or from `first` on, held at 10,000, with its mark.
+pub fn line_forwards(explicit: u16, first: u32, found: Found) -> HeldLine
+    ensures { λ r. ⌜ HeldAs (pos (settle (max first (suc explicit)) (seekOf found))) r ⌝ }
 {
     let last = explicit as u32;
     match found {
         Found::At(line) => signed::hold(Signed::NonNegative(line)),
         Found::Left(m) => {
             if (10000 < first) | (10000 < m) {
-                return Signed::NonNegative(10000);
+                return HeldLine {
+                    line: Signed::NonNegative(10000),
+                    held: true,
+                };
             }
             if first <= last {
                 return signed::hold(Signed::NonNegative(last + 1 + m));
@@ -107,9 +110,9 @@ pub fn explicit_end(explicit: u16, line: u32) -> u32
     last + 1
 }
 
-// The line that a search backwards comes to; missing lines are counted on before line 0.
-pub fn line_backwards(found: Found) -> Signed
-    ensures { λ r. ⌜ integerOf r ≡ held (foundLine (seekOf found)) ⌝ }
+// The line that a search backwards comes to; missing lines are counted on before line 0. Held, with its mark.
+pub fn line_backwards(found: Found) -> HeldLine
+    ensures { λ r. ⌜ HeldAs (foundLine (seekOf found)) r ⌝ }
 {
     match found {
         Found::At(line) => signed::hold(Signed::NonNegative(line)),

@@ -1,12 +1,16 @@
 // The two ends of a placement: a named span asks after the other end has its line.
-ghost use Rattle.name_resolver.specs.Steps.{firstEnd, isNamedSpan, lineOfEnd, resolvedEndsIn, secondEnd};
+ghost use Rattle.name_resolver.specs.Steps.{bothEnds, firstEnd, isNamedSpan, lineOfEnd, resolvedEndsIn, secondEnd};
 ghost use mathlib.Core.Path.{_≡_};
 use crate::End;
 use crate::GridPlacement;
+use crate::HeldEnds;
 use crate::Line;
 use crate::NonNamedGridPlacement;
+use crate::Resolution;
+use crate::ResolvedEnd;
 use crate::ResolvedLine;
 use coordinates::GridLine;
+use coordinates::refusal;
 use name_lines::GridAreaEnd;
 
 // Whether an end is a span of a name.
@@ -44,53 +48,69 @@ pub fn first_end(line: Line) -> End
             placement: end,
             side: GridAreaEnd::End,
             beside: GridLine(0),
+            held: false,
         };
     }
     End {
         placement: start,
         side: GridAreaEnd::Start,
         beside: GridLine(0),
+        held: false,
     }
 }
 
-// The other end, beside the line of the first.
-pub fn second_end(line: Line, first: NonNamedGridPlacement) -> End
+// The other end, beside the line of the first and its mark.
+pub fn second_end(line: Line, first: ResolvedEnd) -> End
     ensures { λ r. ⌜ r ≡ secondEnd line first ⌝ }
 {
     let start = line.start;
     let end = line.end;
-    let beside = resolved_line(first);
+    let resolved = first.placement;
+    let beside = resolved_line(resolved);
     if is_named_span(start) {
         return End {
             placement: start,
             side: GridAreaEnd::Start,
             beside,
+            held: first.held,
         };
     }
     End {
         placement: end,
         side: GridAreaEnd::End,
         beside,
+        held: first.held,
+    }
+}
+
+// The answer for a start and an end, each with its mark.
+fn both_ends(start: ResolvedEnd, end: ResolvedEnd) -> Resolution
+    ensures { λ r. ⌜ r ≡ bothEnds start end ⌝ }
+{
+    let first = start.placement;
+    let last = end.placement;
+    let line = ResolvedLine {
+        start: first,
+        end: last,
+    };
+    let held = HeldEnds {
+        start: start.held,
+        end: end.held,
+    };
+    Resolution {
+        refusal: refusal::no_refusal(),
+        line,
+        held,
     }
 }
 
 // Both ends in their places.
-pub fn resolved_ends(
-    line: Line,
-    first: NonNamedGridPlacement,
-    second: NonNamedGridPlacement,
-) -> ResolvedLine
+pub fn resolved_ends(line: Line, first: ResolvedEnd, second: ResolvedEnd) -> Resolution
     ensures { λ r. ⌜ r ≡ resolvedEndsIn line first second ⌝ }
 {
     let start = line.start;
     if is_named_span(start) {
-        return ResolvedLine {
-            start: second,
-            end: first,
-        };
+        return both_ends(second, first);
     }
-    ResolvedLine {
-        start: first,
-        end: second,
-    }
+    both_ends(first, second)
 }

@@ -45,30 +45,46 @@ pub struct ResolvedLine {
     pub end: NonNamedGridPlacement,
 }
 
-// The answer of the resolver: a refusal, or the resolved placement.
+// The marks of a placement: for each end whether a step on the way to its line held it within -10,000..10,000.
+pub struct HeldEnds {
+    pub start: bool,
+    pub end: bool,
+}
+
+// One end with its name resolved, and its mark.
+pub struct ResolvedEnd {
+    pub placement: NonNamedGridPlacement,
+    pub held: bool,
+}
+
+// The answer of the resolver: a refusal, or the resolved placement and its marks.
 pub struct Resolution {
     pub refusal: Refusal,
     pub line: ResolvedLine,
+    pub held: HeldEnds,
 }
 
-// One end of a placement, and the grid line of the other, 0 where it has none.
+// One end of a placement, and the grid line of the other, 0 where it has none, with that line's mark.
 pub struct End {
     pub placement: GridPlacement,
     pub side: GridAreaEnd,
     pub beside: GridLine,
+    pub held: bool,
 }
 
-// The line of a name that an end asks for: an edge of its area first, where no number is written; which way its lines are counted, from which line, and past how many.
+// The line of a name that an end asks for: an edge of its area first, where no number is written; which way its lines are counted, from which line, and past how many; whether a
+// line before it was held.
 pub struct Question {
     pub name: Name,
     pub edge: AreaEdge,
     pub from: u32,
     pub way: Way,
     pub over: u32,
+    pub held: bool,
 }
 
 // What an end says: it is resolved, or asks for a line.
 pub enum Asked {
-    Resolved(NonNamedGridPlacement),
+    Resolved(ResolvedEnd),
     Line(Question),
 }

@@ -7,7 +7,7 @@ use native.Mathlib.Omega.{arith}
 use lib.Dec.{T}
 use Rattle.name_rules.specs.Css.{Entry, Area, Side, start, end, edge, suffix}
 use Rattle.name_rules.specs.Conditions.{OnExplicitLines}
-use Rattle.name_rules.specs.Cases.{every, cases, holds, templates, gives, entry, letterA, letterX, twoLines, drawnArea}
+use Rattle.name_rules.specs.Cases.{every, cases, holds, markedCases, marksHold, templates, gives, entry, letterA, letterX, twoLines, drawnArea}
 use Rattle.name_rules.specs.Rule.{seek, named?}
 use Rattle.name_rules.specs.Template.{repeated, passed, ruleFrom}
 use Rattle.name_rules.proofs.Names.{all-lie}
@@ -15,6 +15,10 @@ use Rattle.name_rules.proofs.Names.{all-lie}
 pub cases-hold : T (every holds cases)
 unfolding holds seek named?
 cases-hold = tt
+
+pub marks-hold : T (every marksHold markedCases)
+unfolding marksHold holds seek named?
+marks-hold = tt
 
 pub templates-hold : T (every gives templates)
 unfolding gives repeated passed ruleFrom

@@ -9,7 +9,7 @@ use lib.Dec.{T, leb, leb→le, le→leb}
 use lib.IntN.{ℤ, pos, negsuc}
 use Rattle.coordinates.specs.Lines.{held, toOriginZero, Within}
 use Rattle.coordinates.proofs.Lines.{origin-zero-within}
-use Rattle.name_rules.specs.Css.{Entry, Area, Side, start, end, suffix, AxisNames, Bytes, Named, written, drawn, CssLine}
+use Rattle.name_rules.specs.Css.{Entry, Area, Side, start, end, suffix, AxisNames, Bytes, Named, written, drawn, CssFound, CssLine}
 use Rattle.name_rules.specs.Css.{edged, bare, index, back, CssSpan, Placement, auto, line, named, span, nspan, other, way}
 use Rattle.name_rules.specs.Css.{HasLine, by-name, NoLine, Resolved, free, atLine, spanning, ResolvedEnds, ResolvesTo, left-auto}
 use Rattle.name_rules.specs.Css.{left-line, left-span, to-line, to-span, to-one, CssEnds}
@@ -56,12 +56,12 @@ module _ (x : AxisNames) where
       }
 
 module _ (x : AxisNames) (small : x .explicit ≤ 10000) where
-  line-exists : (nm : Bytes) (s : Side) (i : ℤ) → (l : ℤ) × CssLine x nm s i l
-  line-exists nm s (pos zero) = go (seek (λ k. named? x (nm ++ suffix s) (suc k)) (farthest x) 0 0) refl
+  found-exists : (nm : Bytes) (s : Side) (i : ℤ) → (l : ℤ) × CssFound x nm s i l
+  found-exists nm s (pos zero) = go (seek (λ k. named? x (nm ++ suffix s) (suc k)) (farthest x) 0 0) refl
     where
-      go : (r : Seek) → seek (λ k. named? x (nm ++ suffix s) (suc k)) (farthest x) 0 0 ≡ r → (l : ℤ) × CssLine x nm s (pos zero) l
+      go : (r : Seek) → seek (λ k. named? x (nm ++ suffix s) (suc k)) (farthest x) 0 0 ≡ r → (l : ℤ) × CssFound x nm s (pos zero) l
       go (at l) e = (
-        held (pos l),
+        pos l,
         edged l (nearest-same (λ k. T (named? x (nm ++ suffix s) (suc k))) (λ k. Named x (nm ++ suffix s) (suc k))
             (λ k. named→ x (nm ++ suffix s) (suc k)) (λ k. →named x (nm ++ suffix s) (suc k)) 0 l
             (seek-first (λ k. named? x (nm ++ suffix s) (suc k)) (farthest x) 0 l e)),
@@ -72,8 +72,11 @@ module _ (x : AxisNames) (small : x .explicit ≤ 10000) where
             (omega (arith, below-farthest x (nm ++ suffix s) k n)) (→named x (nm ++ suffix s) (suc k) n))
             (forwards-index x nm (explicit? x nm) (marked x nm) small 0),
       )
-  line-exists nm s (pos (suc i)) = (_, index i _ (forwards-index x nm (explicit? x nm) (marked x nm) small i))
-  line-exists nm s (negsuc i) = (_, back i _ (backwards-index x nm (explicit? x nm) (marked x nm) small i))
+  found-exists nm s (pos (suc i)) = (_, index i _ (forwards-index x nm (explicit? x nm) (marked x nm) small i))
+  found-exists nm s (negsuc i) = (_, back i _ (backwards-index x nm (explicit? x nm) (marked x nm) small i))
+
+  line-exists : (nm : Bytes) (s : Side) (i : ℤ) → (l : ℤ) × CssLine x nm s i l
+  line-exists nm s i = let (l, f) = found-exists nm s i in (held l, record { line = l; found = f; limited = refl })
 
   span-exists : (s : Side) (nm : Bytes) (o : ℤ) (n : ℕ) → Within o → (h : ℤ) × CssSpan x nm (way s) o n h
   span-exists start nm o n h = (_, record { line = _; counted = backwards-span x nm (explicit? x nm) (marked x nm) small o (pred n); limited = refl })

@@ -4,6 +4,7 @@ pub mod Lines
 pub mod Names
 pub mod Resolve
 pub mod Unique
+pub mod Held
 pub mod Exists
 pub mod Order
 pub mod Cases

@@ -5,7 +5,7 @@ use Prim.Native.Nat.{ℕ, suc, pred, _≤_}
 use lib.IntN.{ℤ, pos}
 use Rattle.coordinates.specs.Lines.{held, toGridLine}
 use Rattle.name_rules.specs.Css.{AxisNames, Bytes, Side, start, end, other, way, suffix, Named, Way, along, Counts, CountsTo}
-use Rattle.name_rules.specs.Css.{CssLine, edged, bare, index, back, CssSpan, Placement, line, named, HasLine}
+use Rattle.name_rules.specs.Css.{CssFound, CssLine, edged, bare, index, back, CssSpan, Placement, line, named, HasLine}
 use Rattle.name_rules.specs.Css.{numbered, by-name, NoLine, Resolved, atLine, ResolvedEnds, ResolvesTo, left-auto, left-line}
 use Rattle.name_rules.specs.Css.{left-span, to-line, to-span, to-one, CssEnds}
 use Rattle.name_rules.specs.Conditions.{UsedNamesLie}
@@ -18,23 +18,26 @@ counts-unique x nm w s f n l m p q =
     let e : p .distance ≡ q .distance = nth-unique (λ k. Counts x nm w (along w s k)) n f (p .distance) (q .distance) (p .nth) (q .nth) in
     sym (p .there) ∙ ap (λ (k : ℕ). along w s k) e ∙ q .there
 
+pub found-unique : (x : AxisNames) (nm : Bytes) (s : Side) {i l m : ℤ} → CssFound x nm s i l → CssFound x nm s i m → l ≡ m
+found-unique x nm s (edged a p) (edged b q) = ap pos (nearest-unique (λ k. Named x (nm ++ suffix s) (suc k)) 0 a b p q)
+found-unique x nm s (edged a p) (bare b out q) = absurd (out a (p .holds))
+found-unique x nm s (bare a out p) (edged b q) = absurd (out b (q .holds))
+found-unique x nm s (bare a u p) (bare b v q) = counts-unique x nm _ _ _ _ a b p q
+found-unique x nm s (index i a p) (index j b q) = counts-unique x nm _ _ _ _ a b p q
+found-unique x nm s (back i a p) (back j b q) = counts-unique x nm _ _ _ _ a b p q
+
 pub line-unique : (x : AxisNames) (nm : Bytes) (s : Side) {i l m : ℤ} → CssLine x nm s i l → CssLine x nm s i m → l ≡ m
-line-unique x nm s (edged a p) (edged b q) = ap (λ (k : ℕ). held (pos k)) (nearest-unique (λ k. Named x (nm ++ suffix s) (suc k)) 0 a b p q)
-line-unique x nm s (edged a p) (bare b out q) = absurd (out a (p .holds))
-line-unique x nm s (bare a out p) (edged b q) = absurd (out b (q .holds))
-line-unique x nm s (bare a u p) (bare b v q) = ap held (counts-unique x nm _ _ _ _ a b p q)
-line-unique x nm s (index i a p) (index j b q) = ap held (counts-unique x nm _ _ _ _ a b p q)
-line-unique x nm s (back i a p) (back j b q) = ap held (counts-unique x nm _ _ _ _ a b p q)
+line-unique x nm s p q = p .limited ∙ ap held (found-unique x nm s (p .found) (q .found)) ∙ sym (q .limited)
 
 pub span-unique : (x : AxisNames) (nm : Bytes) (w : Way) (o : ℤ) (n : ℕ) (l m : ℤ) → CssSpan x nm w o n l → CssSpan x nm w o n m → l ≡ m
 span-unique x nm w o n l m p q = p .limited ∙ ap held (counts-unique x nm w o 1 (suc (pred n)) (p .line) (q .line) (p .counted) (q .counted)) ∙ sym (q .limited)
 
-has-line-unique : (x : AxisNames) (s : Side) {p : Placement} {l m : ℤ} → HasLine x s p l → HasLine x s p m → l ≡ m
+pub has-line-unique : (x : AxisNames) (s : Side) {p : Placement} {l m : ℤ} → HasLine x s p l → HasLine x s p m → l ≡ m
 has-line-unique x s (numbered g u) (numbered h v) = refl
 has-line-unique x s (by-name nm i l p) (by-name k j m q) = line-unique x nm s p q
 
 -- an end on no line has none
-no-line : (x : AxisNames) (s : Side) (p : Placement) {l : ℤ} → NoLine p → HasLine x s p l → ⊥
+pub no-line : (x : AxisNames) (s : Side) (p : Placement) {l : ℤ} → NoLine p → HasLine x s p l → ⊥
 no-line x s (line g) n h = n
 no-line x s (named nm i) n h = n
 

@@ -1,12 +1,13 @@
--- Document 01's M8 to M11, and cases of the names that a template gives, each a list under one test.
+-- Document 01's M8 to M11, cases of document 02's marks, and of the names that a template gives, each a list under one test.
 use mathlib.Core.Bool.{Bool, true, false, _&&_}
 use mathlib.Core.List.{List, [], _∷_, _++_}
 use Prim.Native.Nat.{ℕ}
 use lib.Dec.{eqb}
 use lib.IntN.{ℤ, pos, negsuc}
-use Rattle.name_rules.specs.Css.{Bytes, Entry, AxisNames, start, suffix, Placement, auto, line, named, nspan, Resolved}
+use Rattle.name_rules.specs.Css.{Bytes, Entry, AxisNames, start, suffix, Placement, auto, line, named, span, nspan, Resolved}
 use Rattle.name_rules.specs.Css.{free, atLine, spanning, ResolvedEnds}
-use Rattle.name_rules.specs.Rule.{eqBytes, named?, resolve}
+use Rattle.name_rules.specs.CssMarks.{HeldEnds}
+use Rattle.name_rules.specs.Rule.{eqBytes, named?, resolve, heldEnds}
 use Rattle.name_rules.specs.Template.{label, track, Item, single, repeat, ruleFrom}
 
 -- each element passes the test
@@ -79,6 +80,53 @@ unfolding named?
 holds c =
     let r = resolve (c .names .explicit) (named? (c .names)) (c .first) (c .last) in
     sameResolved (r .first) (c .answer .first) && sameResolved (r .last) (c .answer .last)
+
+-- a placement, what it is resolved to, and the marks of its ends
+pub record Marked : Type 0 where
+  pub placed : Case
+  pub marks : HeldEnds
+
+abbrev pub marked : Case → Bool → Bool → Marked
+marked c f l = record { placed = c; marks = record { first = f; last = l } }
+
+-- explicit 3, x on line 2; and x on line 15,001
+abbrev pub oneLine : AxisNames
+oneLine = record { explicit = 3; book = entry 2 letterX ∷ []; areas = [] }
+
+abbrev pub farLine : AxisNames
+farLine = record { explicit = 3; book = entry 15001 letterX ∷ []; areas = [] }
+
+-- document 02, Req 06. A written line at each limit and one past it; a span that takes over the mark of the line beside it; a line past the limit
+-- that is counted to, and one that is only counted past; a count to the limit and past it; a span whose two steps are held; no mark where there is no line
+abbrev pub markedCases : List Marked
+markedCases =
+    marked (case oneLine (line (pos 10001)) (line (pos 10002)) (atLine (pos 10001)) (atLine (pos 10002))) false true
+    ∷ marked (case oneLine (line (negsuc 10004)) (line (negsuc 10003)) (atLine (negsuc 10004)) (atLine (negsuc 10003))) true false
+    ∷ marked (case oneLine (nspan letterX 1) (line (pos 10002)) (atLine (pos 2)) (atLine (pos 10002))) true true
+    ∷ marked (case oneLine (nspan letterX 1) (line (pos 10001)) (atLine (pos 2)) (atLine (pos 10001))) false false
+    ∷ marked (case farLine (named letterX (pos 1)) (named letterX (pos 2)) (atLine (pos 10001)) (atLine (pos 5))) true false
+    ∷ marked (case farLine (line (pos 1)) (nspan letterX 2) (atLine (pos 1)) (atLine (pos 5))) false false
+    ∷ marked (case oneLine (named letterA (pos 9997)) (named letterA (pos 9998)) (atLine (pos 10001)) (atLine (pos 10001))) false true
+    ∷ marked (case oneLine (nspan letterX 1) (named letterA (pos 9998)) (atLine (pos 2)) (atLine (pos 10001))) true true
+    ∷ marked (case oneLine (nspan letterA 10000) (line (pos 2)) (atLine (negsuc 10003)) (atLine (pos 2))) false false
+    ∷ marked (case oneLine (nspan letterA 10001) (line (pos 2)) (atLine (negsuc 10003)) (atLine (pos 2))) true false
+    ∷ marked (case oneLine (nspan letterX 1) (line (pos 0)) (spanning 1) (atLine (pos 0))) false false
+    ∷ marked (case oneLine auto (span 65535) free (spanning 65535)) false false
+    ∷ []
+
+-- two marks are the same
+abbrev pub sameMark : Bool → Bool → Bool
+sameMark true b = b
+sameMark false true = false
+sameMark false false = true
+
+-- the rule answers and marks so
+unfoldable pub marksHold : Marked → Bool
+unfolding holds named?
+marksHold m =
+    let c = m .placed in
+    let h = heldEnds (c .names .explicit) (named? (c .names)) (c .first) (c .last) in
+    holds c && (sameMark (h .first) (m .marks .first) && sameMark (h .last) (m .marks .last))
 
 -- a template from a line on, and the entries that it gives
 pub record Written : Type 0 where

@@ -84,15 +84,21 @@ pub record CountsTo (x : AxisNames) (nm : Bytes) (w : Way) (s : ℤ) (f n : ℕ)
   pub there : along w s distance ≡ l
   pub nth : Nth (λ k. Counts x nm w (along w s k)) f n distance
 
--- 8.3, `<custom-ident>` and `<integer> && <custom-ident>`: the line of a name with a number, held; 0 where no number is written.
+-- 8.3, `<custom-ident>` and `<integer> && <custom-ident>`: the line of a name with a number; 0 where no number is written.
 -- edged: a name alone is the first line of NAME-start for a start, NAME-end for an end. bare: if there is none, as with number 1.
 -- index: a positive number counts from the start edge of the explicit grid. back: a negative one counts from its end edge
 -- (SHEET.md, Lines by index).
-pub data CssLine (x : AxisNames) (nm : Bytes) (s : Side) : ℤ → ℤ → Type 0 where
-  edged : (l : ℕ) → Nearest (λ k. Named x (nm ++ suffix s) (suc k)) 0 l → CssLine x nm s (pos zero) (held (pos l))
-  bare : (l : ℤ) → ((k : ℕ) → Named x (nm ++ suffix s) (suc k) → ⊥) → CountsTo x nm endward (pos zero) 0 1 l → CssLine x nm s (pos zero) (held l)
-  index : (i : ℕ) (l : ℤ) → CountsTo x nm endward (pos zero) 0 (suc i) l → CssLine x nm s (pos (suc i)) (held l)
-  back : (i : ℕ) (l : ℤ) → CountsTo x nm startward (pos (x .explicit)) 0 (suc i) l → CssLine x nm s (negsuc i) (held l)
+pub data CssFound (x : AxisNames) (nm : Bytes) (s : Side) : ℤ → ℤ → Type 0 where
+  edged : (l : ℕ) → Nearest (λ k. Named x (nm ++ suffix s) (suc k)) 0 l → CssFound x nm s (pos zero) (pos l)
+  bare : (l : ℤ) → ((k : ℕ) → Named x (nm ++ suffix s) (suc k) → ⊥) → CountsTo x nm endward (pos zero) 0 1 l → CssFound x nm s (pos zero) l
+  index : (i : ℕ) (l : ℤ) → CountsTo x nm endward (pos zero) 0 (suc i) l → CssFound x nm s (pos (suc i)) l
+  back : (i : ℕ) (l : ℤ) → CountsTo x nm startward (pos (x .explicit)) 0 (suc i) l → CssFound x nm s (negsuc i) l
+
+-- that line, held
+pub record CssLine (x : AxisNames) (nm : Bytes) (s : Side) (i h : ℤ) : Type 0 where
+  pub line : ℤ
+  pub found : CssFound x nm s i line
+  pub limited : h ≡ held line
 
 -- 8.3, `span && <integer> && <custom-ident>`: the line of a named span beside line o, held; a span of 0 is read as 1
 -- (SHEET.md, Named spans)

@@ -1,5 +1,6 @@
 -- CSS Grid Level 2, 8.3, the rule of named.rs, and what the theorems between them ask.
 pub mod Css
+pub mod CssMarks
 pub mod Conditions
 pub mod Rule
 pub mod Template

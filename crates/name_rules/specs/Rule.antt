@@ -5,8 +5,9 @@ use mathlib.Core.List.{List, [], _∷_, _++_}
 use Prim.Native.Nat.{ℕ, zero, suc, pred, _+_, _-_, max, min}
 use lib.IntN.{ℤ, pos, negsuc, _+ℤ_, _-ℤ_}
 use lib.Dec.{eqb}
-use Rattle.coordinates.specs.Lines.{held, toOriginZero, toGridLine}
-use Rattle.name_rules.specs.Css.{Bytes, Entry, Area, Side, start, end, suffix, AxisNames}
+use Rattle.coordinates.specs.Lines.{held, outside, uncut, toGridLine}
+use Rattle.name_rules.specs.Css.{Bytes, Entry, Area, Side, start, end, other, suffix, AxisNames}
+use Rattle.name_rules.specs.CssMarks.{HeldEnds}
 use Rattle.name_rules.specs.Css.{Placement, auto, line, named, span, nspan, Resolved, free, atLine, spanning, ResolvedEnds}
 
 -- a number found, or how many marked ones were still to be passed over
@@ -80,7 +81,7 @@ module _ (explicit : ℕ) (p : ℕ → Bool) where
   backwards (pos s) m = lineOf (min s explicit) (seek (λ d. p (min s explicit - d)) (suc (min s explicit)) 0 m)
   backwards (negsuc q) m = negsuc (q + m)
 
--- `find_named_line` and the two named spans of `resolve_line_names`: origin-zero lines, held
+-- `find_named_line` and the two named spans of `resolve_line_names`: origin-zero lines, before they are held
 module _ (explicit : ℕ) (names : Bytes → ℕ → Bool) where
   -- origin-zero line l has the name
   abbrev pub marks : Bytes → ℕ → Bool
@@ -88,21 +89,19 @@ module _ (explicit : ℕ) (names : Bytes → ℕ → Bool) where
 
   -- the area's edge where there is one, else as with index 1
   abbrev pub orFirst : Bytes → Seek → ℤ
-  orFirst nm (at l) = held (pos l)
-  orFirst nm (left r) = held (forwards explicit (marks nm) (pos 0) 0)
+  orFirst nm (at l) = pos l
+  orFirst nm (left r) = forwards explicit (marks nm) (pos 0) 0
 
   -- the line of a name with an index: 0 for the area's edge, positive from the first line, negative from the last explicit line back
-  abbrev pub find : Bytes → Side → ℤ → ℤ
-  find nm s (pos zero) = orFirst nm (seek (marks (nm ++ suffix s)) top 0 0)
-  find nm s (pos (suc i)) = held (forwards explicit (marks nm) (pos 0) i)
-  find nm s (negsuc i) = held (backwards explicit (marks nm) (pos explicit) i)
+  abbrev pub found : Bytes → Side → ℤ → ℤ
+  found nm s (pos zero) = orFirst nm (seek (marks (nm ++ suffix s)) top 0 0)
+  found nm s (pos (suc i)) = forwards explicit (marks nm) (pos 0) i
+  found nm s (negsuc i) = backwards explicit (marks nm) (pos explicit) i
 
-  -- the end of a named span from line o, and the start of one that ends at o; a span of 0 counts as 1
-  abbrev pub spanEnd : Bytes → ℤ → ℕ → ℤ
-  spanEnd nm o n = held (forwards explicit (marks nm) (o +ℤ pos 1) (pred n))
-
-  abbrev pub spanStart : Bytes → ℤ → ℕ → ℤ
-  spanStart nm o n = held (backwards explicit (marks nm) (o -ℤ pos 1) (pred n))
+  -- the line at this end of a named span beside line o: its start is counted back, its end on; a span of 0 counts as 1
+  abbrev pub spanCounted : Side → Bytes → ℕ → ℤ → ℤ
+  spanCounted start nm n o = backwards explicit (marks nm) (o -ℤ pos 1) (pred n)
+  spanCounted end nm n o = forwards explicit (marks nm) (o +ℤ pos 1) (pred n)
 
 -- the grid line that an end has, 0 where it has none
 abbrev pub lineAt : Placement → ℤ
@@ -112,33 +111,44 @@ lineAt (named nm i) = pos 0
 lineAt (span n) = pos 0
 lineAt (nspan nm n) = pos 0
 
-module _ (explicit : ℕ) (names : Bytes → ℕ → Bool) where
+-- the same with any way to hold a line
+module _ (hold : ℤ → ℤ) (explicit : ℕ) (names : Bytes → ℕ → Bool) where
   -- a named line becomes a line
-  abbrev pub numbered : Side → Placement → Placement
-  numbered s auto = auto
-  numbered s (line g) = line g
-  numbered s (named nm i) = line (toGridLine explicit (find explicit names nm s i))
-  numbered s (span n) = span n
-  numbered s (nspan nm n) = nspan nm n
+  abbrev pub numberedBy : Side → Placement → Placement
+  numberedBy s auto = auto
+  numberedBy s (line g) = line g
+  numberedBy s (named nm i) = line (toGridLine explicit (hold (found explicit names nm s i)))
+  numberedBy s (span n) = span n
+  numberedBy s (nspan nm n) = nspan nm n
 
   -- a named span beside grid line g: span 1 where that is 0
-  abbrev pub beside : ℤ → (ℤ → ℤ) → Resolved
-  beside (pos zero) f = spanning 1
-  beside (pos (suc g)) f = atLine (toGridLine explicit (f (toOriginZero explicit (pos (suc g)))))
-  beside (negsuc g) f = atLine (toGridLine explicit (f (toOriginZero explicit (negsuc g))))
-
-  -- the line at this end of a span beside line o
-  abbrev pub spanFrom : Side → Bytes → ℕ → ℤ → ℤ
-  spanFrom start nm n o = spanStart explicit names nm o n
-  spanFrom end nm n o = spanEnd explicit names nm o n
+  abbrev pub besideBy : ℤ → (ℤ → ℤ) → Resolved
+  besideBy (pos zero) f = spanning 1
+  besideBy (pos (suc g)) f = atLine (toGridLine explicit (hold (f (hold (uncut explicit (pos (suc g)))))))
+  besideBy (negsuc g) f = atLine (toGridLine explicit (hold (f (hold (uncut explicit (negsuc g))))))
 
   -- one end, its name already a line, beside grid line g of the other
+  abbrev pub resolvedBy : Side → ℤ → Placement → Resolved
+  resolvedBy s g auto = free
+  resolvedBy s g (line h) = atLine h
+  resolvedBy s g (named nm i) = free
+  resolvedBy s g (span n) = spanning n
+  resolvedBy s g (nspan nm n) = besideBy g (spanCounted explicit names s nm n)
+
+  -- one end p beside the other
+  abbrev pub endBy : Side → Placement → Placement → Resolved
+  endBy s beside p = resolvedBy s (lineAt (numberedBy (other s) beside)) (numberedBy s p)
+
+module _ (explicit : ℕ) (names : Bytes → ℕ → Bool) where
+  -- held as document 01 has it
+  abbrev pub numbered : Side → Placement → Placement
+  numbered = numberedBy held explicit names
+
+  abbrev pub beside : ℤ → (ℤ → ℤ) → Resolved
+  beside = besideBy held explicit names
+
   abbrev pub resolved : Side → ℤ → Placement → Resolved
-  resolved s g auto = free
-  resolved s g (line h) = atLine h
-  resolved s g (named nm i) = free
-  resolved s g (span n) = spanning n
-  resolved s g (nspan nm n) = beside g (spanFrom s nm n)
+  resolved = resolvedBy held explicit names
 
   -- `resolve_line_names`
   abbrev pub resolve : Placement → Placement → ResolvedEnds
@@ -147,3 +157,36 @@ module _ (explicit : ℕ) (names : Bytes → ℕ → Bool) where
         first = resolved start (lineAt (numbered end q)) (numbered start p);
         last = resolved end (lineAt (numbered start p)) (numbered end q);
       }
+
+  -- one end p beside the other by a rule that never holds a line
+  abbrev pub uncutEnd : Side → Placement → Placement → Resolved
+  uncutEnd = endBy (λ z. z) explicit names
+
+  -- document 02, Req 06: whether the line that an end is on was held, a written one as it is converted, a named one as it is found; line 0 never is
+  abbrev pub lineHeld : Side → Placement → Bool
+  lineHeld s auto = false
+  lineHeld s (line g) = outside (uncut explicit g)
+  lineHeld s (named nm i) = outside (found explicit names nm s i)
+  lineHeld s (span n) = false
+  lineHeld s (nspan nm n) = false
+
+  -- a named span beside grid line g, which was held or not: "set if any step on the way to that end held it"; span 1 has no mark
+  abbrev pub besideHeld : ℤ → Bool → (ℤ → ℤ) → Bool
+  besideHeld (pos zero) h f = false
+  besideHeld (pos (suc g)) h f = h || outside (f (held (uncut explicit (pos (suc g)))))
+  besideHeld (negsuc g) h f = h || outside (f (held (uncut explicit (negsuc g))))
+
+  -- the mark of an end beside grid line g of the other, which was held or not
+  abbrev pub markOf : Side → ℤ → Bool → Placement → Bool
+  markOf s g h auto = false
+  markOf s g h (line l) = lineHeld s (line l)
+  markOf s g h (named nm i) = lineHeld s (named nm i)
+  markOf s g h (span n) = false
+  markOf s g h (nspan nm n) = besideHeld g h (spanCounted explicit names s nm n)
+
+  -- the mark of one end p beside the other, and the marks of both
+  abbrev pub endHeld : Side → Placement → Placement → Bool
+  endHeld s beside p = markOf s (lineAt (numbered (other s) beside)) (lineHeld (other s) beside) p
+
+  abbrev pub heldEnds : Placement → Placement → HeldEnds
+  heldEnds p q = record { first = endHeld start q p; last = endHeld end p q }

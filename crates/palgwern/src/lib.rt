@@ -159,7 +159,7 @@ pub extern "C" fn palgwern_resolve_placement(
     numbers::placement_numbers(answer)
 }
 
-// Placements from `first` on with their names resolved, as many as there are and fit: six numbers each, those of PlacementNumbers.
+// Placements from `first` on with their names resolved, as many as there are and fit: eight numbers each, those of PlacementNumbers.
 #[no_mangle]
 pub extern "C" fn palgwern_resolve_placements(
     grid: Grid,

@@ -53,7 +53,7 @@ use Rattle.panel_rules.proofs.Invariants.{areas-largest}
 use Rattle.panel_rules.proofs.Counted.{valid-counted}
 use Rattle.panel_rules.proofs.Invalid.{as-if-empty}
 use Rattle.panel_rules.proofs.Book as Book
-use Rattle.panel_rules.proofs.Run.{addedTo, placement-css, placement-only, run-css, run-only}
+use Rattle.panel_rules.proofs.Run.{addedTo, placement-css, placement-marks, placement-only, placement-uncut, run-css, run-marked, run-only}
 use Rattle.panel_rules.proofs.Order.{largest-same, order-same}
 use Rattle.panel_rules.proofs.Tracks as Tracks
 use Rattle.panel_rules.proofs.Runs.{axis-fits, words-entries, added-to, few-tracks, run-entries, run-sizes, run-lists, run-names, run-records, run-placements, run-template, run-used, run-bytes, run-filled, run-fill, run-marks, marks-enough}
@@ -166,7 +166,9 @@ second-demand s t calls ok =
       refusals = λ c. run-refusal s t calls c ok;
       placements = run-placements s t calls ok;
       placed = λ i held p q. rw (run-placements s t calls ok i) (placement-css (sheetOf s .view) (λ a. added s a calls) i held (few-tracks s z (placementAt (sheetOf s .view) i .axis)) p q);
-      only = λ i held p q r e. run-placements s t calls ok i ∙ placement-only (sheetOf s .view) (λ a. added s a calls) i held (few-tracks s z (placementAt (sheetOf s .view) i .axis)) p q r e;
+      marked = λ i held p q. rw (run-placements s t calls ok i) (placement-marks (sheetOf s .view) (λ a. added s a calls) i held (few-tracks s z (placementAt (sheetOf s .view) i .axis)) p q);
+      only = λ i held p q r h e m. run-placements s t calls ok i ∙ placement-only (sheetOf s .view) (λ a. added s a calls) i held (few-tracks s z (placementAt (sheetOf s .view) i .axis)) p q r h e m;
+      unmarked = λ i held. rw (run-placements s t calls ok i) (placement-uncut (sheetOf s .view) (λ a. added s a calls) i held);
       lists = run-lists s t calls ok;
       names = run-names s t calls ok;
       records = run-records s t calls ok;
@@ -247,7 +249,8 @@ run-theorem m s t calls ok css r =
     let few = few-tracks s (accepted-sheet s t ok .0) in
     record {
       placed = λ i held. rw (placement-added s t calls ok i) (run-css m (sheetOf s .view) calls (axis-fits s) few css r i held);
-      only = λ i held x e. placement-added s t calls ok i ∙ run-only m (sheetOf s .view) calls (axis-fits s) few css r i held x e;
+      marked = λ i held. rw (placement-added s t calls ok i) (run-marked m (sheetOf s .view) calls (axis-fits s) few css r i held);
+      only = λ i held x h e k. placement-added s t calls ok i ∙ run-only m (sheetOf s .view) calls (axis-fits s) few css r i held x h e k;
     }
 
 -- an empty template meets the conditions

@@ -13,7 +13,9 @@ use Rattle.sizing.specs.Words.{sizingOf}
 use Rattle.template_rules.specs.Template.{Component}
 use Rattle.template_rules.specs.Css.{Automatic, Valid, Repetitions}
 use Rattle.name_rules.specs.Css.{Bytes, Entry, AxisNames, ResolvedEnds, CssEnds}
+use Rattle.name_rules.specs.CssMarks.{HeldEnds, CssMarks}
 use Rattle.name_rules.specs.Conditions.{UsedNamesLie}
+use Rattle.name_resolver.specs.Placements.{heldMarks}
 use Rattle.track_rules.specs.declared.GridTrack.{GridTrack}
 use Rattle.track_rules.specs.declared.WrittenTrack.{WrittenTrack}
 use Rattle.track_rules.specs.Tracks.{zeroGridTrack, refusedRecord}
@@ -39,7 +41,7 @@ use Rattle.sheet_rules.specs.Read.{shortStores, refusedSheet, readSheet}
 use Rattle.panel_rules.specs.Calls.{NameTables, NamedWords, bookIn, namesIn, wordsIn, storeIn, templateIn, sparesIn, axisTracks, shortNames, enterRefusal, EnteredName, enterName, trackRecord}
 use Rattle.panel_rules.specs.Placing.{refusedPlacement, resolvePlacement}
 use Rattle.panel_rules.specs.Runs.{Held, namesOf, areasOf, Call, refusalIn, Accepted, sheetHeld, runOf, sizeOf, placementOf, listsOf, nameOf, recordWith, runWith, fillWith, marksOf}
-use Rattle.panel_rules.specs.Views.{entryName, entriesAfter, namesAfter, cssEnd, placementAt, answerAt, PlacedByCss, placementAfter, sizeAfter, listsAfter, nameAfter, recordAfter, tracksAfter}
+use Rattle.panel_rules.specs.Views.{entryName, entriesAfter, namesAfter, cssEnd, placementAt, answerAt, PlacedByCss, UncutUnmarked, placementAfter, sizeAfter, listsAfter, nameAfter, recordAfter, tracksAfter}
 use Rattle.panel_rules.specs.Added.{sheetAxis, added, refusalAfter}
 use Rattle.panel_rules.specs.Book.{CssTemplate, asWritten, book, bookNames, bookBytes, tableRefusal, sheetTracks, AllValid, AllCounted, RegularTemplate, Regular}
 use Rattle.panel_rules.specs.Order.{SamePanel, SameEntries}
@@ -128,11 +130,21 @@ pub record SecondDemand (s : List ℕ) (t : Tables) (calls : List Call) : Type 0
   pub placed : (i : ℕ) → i < length (sheetOf s .view .placements)
       → let p = placementAt (sheetOf s .view) i in let x = namesAfter (sheetOf s .view) (p .axis) (added s (p .axis) calls) in
       UsedNamesLie x (cssEnd (p .start)) → UsedNamesLie x (cssEnd (p .end)) → PlacedByCss x p (placementOf (runOf s t calls) i)
+  -- its marks say which ends were held on the way there (document 02, Req 06)
+  pub marked : (i : ℕ) → i < length (sheetOf s .view .placements)
+      → let p = placementAt (sheetOf s .view) i in let x = namesAfter (sheetOf s .view) (p .axis) (added s (p .axis) calls) in
+      UsedNamesLie x (cssEnd (p .start)) → UsedNamesLie x (cssEnd (p .end))
+      → CssMarks x (cssEnd (p .start)) (cssEnd (p .end)) (heldMarks (placementOf (runOf s t calls) i .held))
   -- and nothing else
   pub only : (i : ℕ) → i < length (sheetOf s .view .placements)
       → let p = placementAt (sheetOf s .view) i in let x = namesAfter (sheetOf s .view) (p .axis) (added s (p .axis) calls) in
       UsedNamesLie x (cssEnd (p .start)) → UsedNamesLie x (cssEnd (p .end))
-      → (r : ResolvedEnds) → CssEnds x (cssEnd (p .start)) (cssEnd (p .end)) r → placementOf (runOf s t calls) i ≡ answerAt p r
+      → (r : ResolvedEnds) (h : HeldEnds) → CssEnds x (cssEnd (p .start)) (cssEnd (p .end)) r → CssMarks x (cssEnd (p .start)) (cssEnd (p .end)) h
+      → placementOf (runOf s t calls) i ≡ answerAt p r h
+  -- on any names: an end without a mark is where it would be if no line were ever held
+  pub unmarked : (i : ℕ) → i < length (sheetOf s .view .placements)
+      → let p = placementAt (sheetOf s .view) i in let x = namesAfter (sheetOf s .view) (p .axis) (added s (p .axis) calls) in
+      UncutUnmarked x p (placementOf (runOf s t calls) i)
   pub lists : (a : Axis) → listsOf (runOf s t calls) a ≡ listsAfter (sheetAxis s a) (added s a calls)
   pub names : (a : Axis) (line place : ℕ) → nameOf (runOf s t calls) a line place ≡ nameAfter (sheetAxis s a) (added s a calls) line place
   -- layer 5
@@ -173,10 +185,14 @@ pub record RunTheorem (m : Axis → CssTemplate) (s : List ℕ) (t : Tables) (ca
   pub placed : (i : ℕ) → i < length (sheetOf s .view .placements)
       → let p = placementAt (sheetOf s .view) i in
       PlacedByCss (bookNames (m (p .axis)) (sheetOf s .view) (p .axis) calls) p (placementOf (runOf s t calls) i)
-  -- and CSS counts to nothing else
-  pub only : (i : ℕ) → i < length (sheetOf s .view .placements) → (r : ResolvedEnds)
+  -- with the marks of CSS's counting
+  pub marked : (i : ℕ) → i < length (sheetOf s .view .placements)
       → let p = placementAt (sheetOf s .view) i in
-      CssEnds (bookNames (m (p .axis)) (sheetOf s .view) (p .axis) calls) (cssEnd (p .start)) (cssEnd (p .end)) r → placementOf (runOf s t calls) i ≡ answerAt p r
+      CssMarks (bookNames (m (p .axis)) (sheetOf s .view) (p .axis) calls) (cssEnd (p .start)) (cssEnd (p .end)) (heldMarks (placementOf (runOf s t calls) i .held))
+  -- and CSS counts to nothing else
+  pub only : (i : ℕ) → i < length (sheetOf s .view .placements) → (r : ResolvedEnds) (h : HeldEnds)
+      → let p = placementAt (sheetOf s .view) i in let b = bookNames (m (p .axis)) (sheetOf s .view) (p .axis) calls in
+      CssEnds b (cssEnd (p .start)) (cssEnd (p .end)) r → CssMarks b (cssEnd (p .start)) (cssEnd (p .end)) h → placementOf (runOf s t calls) i ≡ answerAt p r h
 
 -- both templates of a sheet as they stand, with repetitions for each
 abbrev pub bothWritten : (Axis → ℕ) → List ℕ → Axis → CssTemplate

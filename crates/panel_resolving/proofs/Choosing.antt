@@ -35,13 +35,13 @@ first-of first i e = omega (arith, e)
 
 -- the first placement, chosen or not
 one-more : (chosen : ℕ → Bool) (numbers : ℕ → List ℤ) (p f n : ℕ) (xs : List ℤ) (b : Bool) → chosen f ≡ b
-    → chosenSets chosen numbers p f (suc n) xs ≡ chosenSets chosen numbers (p + 6) (f + 1) n (cond b (sets xs p (numbers f)) xs)
+    → chosenSets chosen numbers p f (suc n) xs ≡ chosenSets chosen numbers (p + 8) (f + 1) n (cond b (sets xs p (numbers f)) xs)
 unfolding chosenSets
-one-more chosen numbers p f n xs b e = ap (λ (t : Bool). chosenSets chosen numbers (p + 6) (f + 1) n (cond t (sets xs p (numbers f)) xs)) e
+one-more chosen numbers p f n xs b e = ap (λ (t : Bool). chosenSets chosen numbers (p + 8) (f + 1) n (cond t (sets xs p (numbers f)) xs)) e
 
 -- what is still to be written when k placements are passed
 abbrev pub restOf : (ℕ → Bool) → (ℕ → List ℤ) → ℕ → ℕ → ℕ → List ℤ → List ℤ
-restOf chosen numbers first count k xs = chosenSets chosen numbers (6 * k) (first + k) (count - k) xs
+restOf chosen numbers first count k xs = chosenSets chosen numbers (8 * k) (first + k) (count - k) xs
 
 module _ (chosen : ℕ → Bool) (numbers : ℕ → List ℤ) (first count i : ℕ) (lent : List ℤ) where
   abbrev rest : ℕ → List ℤ → List ℤ
@@ -55,20 +55,20 @@ module _ (chosen : ℕ → Bool) (numbers : ℕ → List ℤ) (first count i : �
   rest-all h = let e : count - i ≡ 0 = omega arith in rw e
 
   -- the next is one of the axis
-  pub rest-taken : i < count → chosen (first + i) ≡ true → (after : List ℤ) → after ≡ sets lent (6 * i) (numbers (first + i)) → rest (i + 1) after ≡ rest i lent
+  pub rest-taken : i < count → chosen (first + i) ≡ true → (after : List ℤ) → after ≡ sets lent (8 * i) (numbers (first + i)) → rest (i + 1) after ≡ rest i lent
   rest-taken h c after e =
       let n : count - i ≡ suc (count - (i + 1)) = omega arith in
-      let p : 6 * (i + 1) ≡ 6 * i + 6 = omega arith in
+      let p : 8 * (i + 1) ≡ 8 * i + 8 = omega arith in
       let f : first + (i + 1) ≡ first + i + 1 = omega arith in
-      rw (n, p, f, e) (sym (one-more chosen numbers (6 * i) (first + i) (count - (i + 1)) lent true c))
+      rw (n, p, f, e) (sym (one-more chosen numbers (8 * i) (first + i) (count - (i + 1)) lent true c))
 
   -- or is not
   pub rest-passed : i < count → chosen (first + i) ≡ false → rest (i + 1) lent ≡ rest i lent
   rest-passed h c =
       let n : count - i ≡ suc (count - (i + 1)) = omega arith in
-      let p : 6 * (i + 1) ≡ 6 * i + 6 = omega arith in
+      let p : 8 * (i + 1) ≡ 8 * i + 8 = omega arith in
       let f : first + (i + 1) ≡ first + i + 1 = omega arith in
-      rw (n, p, f) (sym (one-more chosen numbers (6 * i) (first + i) (count - (i + 1)) lent false c))
+      rw (n, p, f) (sym (one-more chosen numbers (8 * i) (first + i) (count - (i + 1)) lent false c))
 
 -- ---- two axes
 
@@ -82,40 +82,40 @@ sets-sets [] b xs p q h = refl
 sets-sets (v ∷ a) b xs p q h = ap (λ (ys : List ℤ). sets ys (suc p) a) (set-sets b xs q p v (omega arith)) ∙ sets-sets a b (set xs p v) (suc p) q (omega arith)
 
 module _ (chosen : ℕ → Bool) (answer : ℕ → PlacementNumbers) where
-  abbrev six : ℕ → List ℤ
-  six i = numbersOf (answer i)
+  abbrev eight : ℕ → List ℤ
+  eight i = numbersOf (answer i)
 
   -- numbers before those that are written
-  earlier : (n : ℕ) (m : PlacementNumbers) (xs : List ℤ) (p q first : ℕ) → p + 6 ≤ q
-      → sets (chosenSets chosen six q first n xs) p (numbersOf m) ≡ chosenSets chosen six q first n (sets xs p (numbersOf m))
+  earlier : (n : ℕ) (m : PlacementNumbers) (xs : List ℤ) (p q first : ℕ) → p + 8 ≤ q
+      → sets (chosenSets chosen eight q first n xs) p (numbersOf m) ≡ chosenSets chosen eight q first n (sets xs p (numbersOf m))
   unfolding chosenSets
   earlier zero m xs p q first h = refl
   earlier (suc n) m xs p q first h =
-      earlier n m (cond (chosen first) (sets xs q (six first)) xs) p (q + 6) (first + 1) (omega arith)
-      ∙ ap (λ (ys : List ℤ). chosenSets chosen six (q + 6) (first + 1) n ys) (go (chosen first))
+      earlier n m (cond (chosen first) (sets xs q (eight first)) xs) p (q + 8) (first + 1) (omega arith)
+      ∙ ap (λ (ys : List ℤ). chosenSets chosen eight (q + 8) (first + 1) n ys) (go (chosen first))
     where
-      go : (t : Bool) → sets (cond t (sets xs q (six first)) xs) p (numbersOf m) ≡ cond t (sets (sets xs p (numbersOf m)) q (six first)) (sets xs p (numbersOf m))
-      go true = sets-sets (numbersOf m) (six first) xs p q (omega arith)
+      go : (t : Bool) → sets (cond t (sets xs q (eight first)) xs) p (numbersOf m) ≡ cond t (sets (sets xs p (numbersOf m)) q (eight first)) (sets xs p (numbersOf m))
+      go true = sets-sets (numbersOf m) (eight first) xs p q (omega arith)
       go false = refl
 
   module _ (other : ℕ → Bool) (opposite : (i : ℕ) → other i ≡ not (chosen i)) where
     -- all numbers from one on
     abbrev all : ℕ → ℕ → List ℤ
     all first zero = []
-    all first (suc n) = six first ++ all (first + 1) n
+    all first (suc n) = eight first ++ all (first + 1) n
 
-    both : (n : ℕ) (xs : List ℤ) (p first : ℕ) → chosenSets other six p first n (chosenSets chosen six p first n xs) ≡ sets xs p (all first n)
+    both : (n : ℕ) (xs : List ℤ) (p first : ℕ) → chosenSets other eight p first n (chosenSets chosen eight p first n xs) ≡ sets xs p (all first n)
     unfolding chosenSets
     both zero xs p first = refl
-    both (suc n) xs p first = rw (opposite first) (go (chosen first) (λ ys. both n ys (p + 6) (first + 1)))
+    both (suc n) xs p first = rw (opposite first) (go (chosen first) (λ ys. both n ys (p + 8) (first + 1)))
       where
-        go : (t : Bool) → ((ys : List ℤ) → chosenSets other six (p + 6) (first + 1) n (chosenSets chosen six (p + 6) (first + 1) n ys) ≡ sets ys (p + 6) (all (first + 1) n))
-            → chosenSets other six (p + 6) (first + 1) n (cond (not t) (sets (chosenSets chosen six (p + 6) (first + 1) n (cond t (sets xs p (six first)) xs)) p (six first)) (chosenSets chosen six (p + 6) (first + 1) n (cond t (sets xs p (six first)) xs)))
-            ≡ sets xs p (six first ++ all (first + 1) n)
-        go true rec = rec (sets xs p (six first)) ∙ sym (put-on xs p (answer first) (all (first + 1) n))
+        go : (t : Bool) → ((ys : List ℤ) → chosenSets other eight (p + 8) (first + 1) n (chosenSets chosen eight (p + 8) (first + 1) n ys) ≡ sets ys (p + 8) (all (first + 1) n))
+            → chosenSets other eight (p + 8) (first + 1) n (cond (not t) (sets (chosenSets chosen eight (p + 8) (first + 1) n (cond t (sets xs p (eight first)) xs)) p (eight first)) (chosenSets chosen eight (p + 8) (first + 1) n (cond t (sets xs p (eight first)) xs)))
+            ≡ sets xs p (eight first ++ all (first + 1) n)
+        go true rec = rec (sets xs p (eight first)) ∙ sym (put-on xs p (answer first) (all (first + 1) n))
         go false rec =
-            ap (λ (ys : List ℤ). chosenSets other six (p + 6) (first + 1) n ys) (earlier n (answer first) xs p (p + 6) (first + 1) (omega arith))
-            ∙ rec (sets xs p (six first)) ∙ sym (put-on xs p (answer first) (all (first + 1) n))
+            ap (λ (ys : List ℤ). chosenSets other eight (p + 8) (first + 1) n ys) (earlier n (answer first) xs p (p + 8) (first + 1) (omega arith))
+            ∙ rec (sets xs p (eight first)) ∙ sym (put-on xs p (answer first) (all (first + 1) n))
 
 -- the same numbers of those that are chosen
 alike : (chosen : ℕ → Bool) (f g : ℕ → List ℤ) (n : ℕ) (xs : List ℤ) (p first : ℕ)
@@ -123,8 +123,8 @@ alike : (chosen : ℕ → Bool) (f g : ℕ → List ℤ) (n : ℕ) (xs : List �
 unfolding chosenSets
 alike chosen f g zero xs p first h = refl
 alike chosen f g (suc n) xs p first h =
-    ap (λ (ys : List ℤ). chosenSets chosen f (p + 6) (first + 1) n ys) (go (chosen first) refl)
-    ∙ alike chosen f g n (cond (chosen first) (sets xs p (g first)) xs) (p + 6) (first + 1) (λ i a b c. h i (omega arith) (omega arith) c)
+    ap (λ (ys : List ℤ). chosenSets chosen f (p + 8) (first + 1) n ys) (go (chosen first) refl)
+    ∙ alike chosen f g n (cond (chosen first) (sets xs p (g first)) xs) (p + 8) (first + 1) (λ i a b c. h i (omega arith) (omega arith) c)
   where
     go : (t : Bool) → chosen first ≡ t → cond t (sets xs p (f first)) xs ≡ cond t (sets xs p (g first)) xs
     go true e = ap (λ (a : List ℤ). sets xs p a) (h first (omega arith) (omega arith) e)

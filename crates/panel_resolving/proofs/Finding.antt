@@ -97,8 +97,8 @@ module _ (x : Around) (index store areas areabytes : List ℕ) where
   unfolding foundFrom foundBy
   found-first q nm own h = rw h (go (q .edge))
     where
-      go : (w : AreaEdge) → foundFrom names nm (record { name = q .name; edge = w; way = q .way; from = q .from; over = q .over }) (asksOwn w)
-          ≡ foundBy names nm (record { name = q .name; edge = w; way = q .way; from = q .from; over = q .over })
+      go : (w : AreaEdge) → foundFrom names nm (record { name = q .name; edge = w; way = q .way; from = q .from; over = q .over; held = q .held }) (asksOwn w)
+          ≡ foundBy names nm (record { name = q .name; edge = w; way = q .way; from = q .from; over = q .over; held = q .held })
       go Start = refl
       go End = refl
       go Neither = refl

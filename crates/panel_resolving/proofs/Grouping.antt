@@ -14,7 +14,7 @@ use Rattle.name_groups.specs.Groups.{Grouped, Lists}
 use Rattle.name_groups.proofs.Ungrouped.{whole-grouped}
 use Rattle.name_resolver.specs.declared.Line.{Line}
 use Rattle.name_resolver.specs.declared.Resolution.{Resolution}
-use Rattle.name_resolver.specs.Placements.{resolvedLine, refusedResolution, resolutionOf}
+use Rattle.name_resolver.specs.Placements.{resolvedLine, heldLine, refusedResolution, resolutionOf}
 use Rattle.name_resolver.specs.Questions.{answeredLine}
 use Rattle.name_resolver.proofs.Questions.{line-answer}
 use Rattle.axis_tables.specs.Runs.{partOf}
@@ -42,9 +42,9 @@ module _ (x : Around) (entries store index areas areabytes : List ℕ) where
   grouped-resolution g bytes l = rw (names-same g) (go (leb (x .explicit) 10000) refl)
     where
       go : (b : Bool) → leb (x .explicit) 10000 ≡ b
-          → cond b (record { refusal = noRefusal; line = answeredLine (named? namesAround) bytes (x .explicit) l }) refusedResolution
-          ≡ cond b (record { refusal = noRefusal; line = resolvedLine namesAround bytes l }) refusedResolution
-      go true e = ap (λ r. record { refusal = noRefusal; line = r }) (line-answer (named? namesAround) bytes (x .explicit) (leb-true (x .explicit) 10000 e) l)
+          → cond b (answeredLine (named? namesAround) bytes (x .explicit) l) refusedResolution
+          ≡ cond b (record { refusal = noRefusal; line = resolvedLine namesAround bytes l; held = heldLine namesAround bytes l }) refusedResolution
+      go true e = line-answer (named? namesAround) bytes (x .explicit) (leb-true (x .explicit) 10000 e) l
       go false e = refl
 
   -- whatever the placement

@@ -1,4 +1,4 @@
--- Resolved placements as numbers: they are small, six for each, and how many are written. Assumes nothing.
+-- Resolved placements as numbers: they are small, eight for each, and how many are written. Assumes nothing.
 use Prim.Native.Nat.{ℕ, suc, _+_, _*_, _-_, _≤_, _<_, min}
 use mathlib.Core.Path.{_≡_, refl, sym, ap, _∙_}
 use mathlib.Core.Bool.{Bool, true, false, cond}
@@ -21,6 +21,7 @@ use Rattle.name_resolver.specs.declared.NonNamedGridPlacement.the-variants.{Aut
 use Rattle.name_resolver.specs.declared.Resolution.{Resolution}
 use Rattle.name_resolver.specs.Placements.{resolvedKindOf, refusedResolution}
 use Rattle.name_resolver.specs.Questions.{answeredLine}
+use Rattle.name_resolver.proofs.Questions.{answered-accepted}
 use Rattle.coordinates.specs.Refusals.{noRefusal}
 use Rattle.panel_tables.specs.declared.Grid.{Grid}
 use Rattle.panel_tables.specs.Placements.{axisNumber}
@@ -29,9 +30,9 @@ use Rattle.panel_rules.specs.Calls.{NameTables, NamedWords, shorterStore}
 use Rattle.panel_rules.specs.Placing.{refusedPlacement, placedBy}
 use Rattle.library_numbers.specs.declared.CountAnswer.{CountAnswer}
 use Rattle.library_numbers.specs.declared.PlacementNumbers.{PlacementNumbers}
-use Rattle.library_numbers.specs.Answers.{counted, uncounted, placementNumbers}
+use Rattle.library_numbers.specs.Answers.{counted, markNumber, uncounted, placementNumbers}
 use Rattle.panel_resolving.specs.Names.{resolutionBy}
-use Rattle.panel_resolving.specs.Placements.{numbersOf, SmallNumbers, runNumbers, numbersRefusal, numbersCount, placementsWritten}
+use Rattle.panel_resolving.specs.Placements.{endNumbers, numbersOf, SmallNumbers, runNumbers, numbersRefusal, numbersCount, placementsWritten}
 
 -- ---- the numbers are small
 
@@ -40,14 +41,14 @@ pub small-by : (explicit : ℕ) (names : Bytes → ℕ → Bool) (bytes : List �
 unfolding resolutionBy
 small-by explicit names bytes l = by (leb explicit 10000)
   where
-    by : (t : Bool) → cond t (record { refusal = noRefusal; line = answeredLine names bytes explicit l }) refusedResolution .refusal .number ≤ 10
-    by true = omega arith
+    by : (t : Bool) → cond t (answeredLine names bytes explicit l) refusedResolution .refusal .number ≤ 10
+    by true = rw (answered-accepted names bytes explicit l) (omega arith)
     by false = omega arith
 
 pub small-placed : (r : Resolution) (a : Axis) (s : Bool) → r .refusal .number ≤ 10 → placedBy r a s .refusal .number ≤ 10
 small-placed r a s h = by (eqb (r .refusal .number) 0) s
   where
-    by : (t s : Bool) → cond t (cond s (refusedPlacement short) (record { refusal = noRefusal; axis = a; line = r .line })) (refusedPlacement (r .refusal .number)) .refusal .number ≤ 10
+    by : (t s : Bool) → cond t (cond s (refusedPlacement short) (record { refusal = noRefusal; axis = a; line = r .line; held = r .held })) (refusedPlacement (r .refusal .number)) .refusal .number ≤ 10
     by true true = omega arith
     by true false = omega arith
     by false s = h
@@ -61,25 +62,45 @@ small-kind Auto = omega arith
 small-kind (AtLine g) = omega arith
 small-kind (Span k) = omega arith
 
+small-mark : (m : Bool) → markNumber m < 2147483648
+small-mark true = omega arith
+small-mark false = omega arith
+
 pub small-numbers : (a : PlacementAnswer) → a .refusal .number ≤ 10 → SmallNumbers (placementNumbers a)
 unfolding placementNumbers
-small-numbers a h = record { number = omega arith; axis = small-axis (a .axis); startkind = small-kind (a .line .start); endkind = small-kind (a .line .end) }
+small-numbers a h =
+    record {
+      number = omega arith;
+      axis = small-axis (a .axis);
+      startkind = small-kind (a .line .start);
+      endkind = small-kind (a .line .end);
+      startheld = small-mark (a .held .start);
+      endheld = small-mark (a .held .end);
+    }
 
--- ---- six numbers
+-- ---- eight numbers
 
 -- one by one
 pub put-six : (l l1 l2 l3 l4 l5 l6 : List ℤ) (place : ℕ) (n : PlacementNumbers) → l1 ≡ set l place (pos (n .number)) → l2 ≡ set l1 (place + 1) (pos (n .axis)) →
     l3 ≡ set l2 (place + 2) (pos (n .startkind)) → l4 ≡ set l3 (place + 3) (n .startnumber) → l5 ≡ set l4 (place + 4) (pos (n .endkind)) →
-    l6 ≡ set l5 (place + 5) (n .endnumber) → l6 ≡ sets l place (numbersOf n)
+    l6 ≡ set l5 (place + 5) (n .endnumber) → l6 ≡ sets l place (endNumbers n)
 put-six l l1 l2 l3 l4 l5 l6 place n a b c d e f =
     let three : place + 3 ≡ suc (suc (suc place)) = omega arith in
     let four : place + 4 ≡ suc (suc (suc (suc place))) = omega arith in
     let five : place + 5 ≡ suc (suc (suc (suc (suc place)))) = omega arith in
     rw (f, e, d, c, b, a, add-one place, add-two place, three, four, five)
 
+-- and the two marks after six
+pub put-eight : (l l6 l7 l8 : List ℤ) (place : ℕ) (n : PlacementNumbers) → l6 ≡ sets l place (endNumbers n) → l7 ≡ set l6 (place + 6) (pos (n .startheld)) →
+    l8 ≡ set l7 (place + 7) (pos (n .endheld)) → l8 ≡ sets l place (numbersOf n)
+put-eight l l6 l7 l8 place n a b c =
+    let six : place + 6 ≡ suc (suc (suc (suc (suc (suc place))))) = omega arith in
+    let seven : place + 7 ≡ suc (suc (suc (suc (suc (suc (suc place)))))) = omega arith in
+    rw (c, b, a, six, seven)
+
 -- with those after them
-pub put-on : (l : List ℤ) (place : ℕ) (n : PlacementNumbers) (rest : List ℤ) → sets l place (numbersOf n ++ rest) ≡ sets (sets l place (numbersOf n)) (place + 6) rest
-put-on l place n rest = let e : place + 6 ≡ suc (suc (suc (suc (suc (suc place))))) = omega arith in rw e
+pub put-on : (l : List ℤ) (place : ℕ) (n : PlacementNumbers) (rest : List ℤ) → sets l place (numbersOf n ++ rest) ≡ sets (sets l place (numbersOf n)) (place + 8) rest
+put-on l place n rest = let e : place + 8 ≡ suc (suc (suc (suc (suc (suc (suc (suc place))))))) = omega arith in rw e
 
 -- ---- a run as a whole
 

@@ -1,4 +1,4 @@
--- A run of placements, written axis by axis: six numbers for each placement of the axis, the others' numbers as they are.
+-- A run of placements, written axis by axis: eight numbers for each placement of the axis, the others' numbers as they are.
 use mathlib.Core.Path.{_≡_}
 use Prim.Native.Nat.{ℕ, zero, suc, _+_, _/_}
 use mathlib.Core.Bool.{Bool, true, false, cond}
@@ -22,7 +22,7 @@ use Rattle.panel_resolving.specs.Whole.{wholeAround}
 unfoldable pub chosenSets : (ℕ → Bool) → (ℕ → List ℤ) → ℕ → ℕ → ℕ → List ℤ → List ℤ
 chosenSets chosen numbers place first zero lent = lent
 chosenSets chosen numbers place first (suc n) lent =
-    chosenSets chosen numbers (place + 6) (first + 1) n (cond (chosen first) (sets lent place (numbers first)) lent)
+    chosenSets chosen numbers (place + 8) (first + 1) n (cond (chosen first) (sets lent place (numbers first)) lent)
 
 -- placement i is one of the axis
 abbrev pub onAxis : Axis → List ℕ → ℕ → Bool

@@ -4,7 +4,6 @@ use mathlib.Core.Bool.{Bool, cond}
 use mathlib.Core.List.{List}
 use Prim.Native.Nat.{ℕ}
 use lib.Dec.{leb}
-use Rattle.coordinates.specs.Refusals.{noRefusal}
 use Rattle.name_rules.specs.Css.{Bytes, Area}
 use Rattle.name_entries.specs.Entries.{entriesOf}
 use Rattle.name_lines.specs.Areas.{areasOf, bears}
@@ -40,5 +39,5 @@ soughtBy x s index store areas areabytes stem =
 unfoldable pub resolutionBy : ℕ → (Bytes → ℕ → Bool) → List ℕ → Line → Resolution
 resolutionBy explicit names bytes l =
     cond (leb explicit 10000)
-    (record { refusal = noRefusal; line = answeredLine names bytes explicit l })
+    (answeredLine names bytes explicit l)
     refusedResolution

@@ -1,4 +1,4 @@
--- Resolved placements as numbers, six each, a run of them at a time.
+-- Resolved placements as numbers, eight each, a run of them at a time.
 use Prim.Native.Nat.{ℕ, zero, suc, _+_, _-_, _<_, min}
 use mathlib.Core.Bool.{cond}
 use mathlib.Core.List.{List, [], _∷_, _++_}
@@ -16,8 +16,12 @@ use Rattle.library_numbers.specs.Answers.{counted, uncounted, placementNumbers}
 -- ---- one placement
 
 -- refusal, axis, and for each end its kind and number
+abbrev pub endNumbers : PlacementNumbers → List ℤ
+endNumbers n = pos (n .number) ∷ pos (n .axis) ∷ pos (n .startkind) ∷ n .startnumber ∷ pos (n .endkind) ∷ n .endnumber ∷ []
+
+-- and then for each end its mark
 abbrev pub numbersOf : PlacementNumbers → List ℤ
-numbersOf n = pos (n .number) ∷ pos (n .axis) ∷ pos (n .startkind) ∷ n .startnumber ∷ pos (n .endkind) ∷ n .endnumber ∷ []
+numbersOf n = endNumbers n ++ (pos (n .startheld) ∷ pos (n .endheld) ∷ [])
 
 -- the numbers without a sign are below 2^31
 pub record SmallNumbers (n : PlacementNumbers) : Type 0 where
@@ -25,6 +29,8 @@ pub record SmallNumbers (n : PlacementNumbers) : Type 0 where
   pub axis : n .axis < 2147483648
   pub startkind : n .startkind < 2147483648
   pub endkind : n .endkind < 2147483648
+  pub startheld : n .startheld < 2147483648
+  pub endheld : n .endheld < 2147483648
 
 -- ---- a run
 
@@ -38,7 +44,7 @@ runNumbers g t areas placements first (suc n) =
 unfoldable pub numbersRefusal : ℕ → ℕ → ℕ → ℕ
 numbersRefusal held shorter first = cond (leb held first) count (cond (ltb shorter 32768) short 0)
 
--- how many placements are written: as many as there are, and as fit in the 1,536 numbers that are lent
+-- how many placements are written: as many as there are, and as fit in the 2,048 numbers that are lent
 unfoldable pub numbersCount : ℕ → ℕ → ℕ
 numbersCount held first = min 256 (held - first)
 

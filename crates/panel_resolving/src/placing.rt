@@ -13,6 +13,7 @@ ghost use Rattle.panel_resolving.specs.Names.{bearsBy, resolutionBy};
 ghost use Rattle.panel_resolving.specs.Whole.{wholeAround};
 use crate::Around;
 use crate::put::PLACEMENT_NUMBERS;
+use crate::resolve::no_marks;
 use crate::resolve::zero_line;
 use crate::write::Run;
 use crate::write::write_beside;
@@ -37,10 +38,12 @@ fn refused_placement(number: u32) -> PlacementAnswer
 {
     let refusal = refusal::refusal_of(number);
     let line = zero_line();
+    let held = no_marks();
     PlacementAnswer {
         refusal,
         axis: Axis::Column,
         line,
+        held,
     }
 }
 
@@ -50,6 +53,7 @@ pub(crate) fn placed_by(resolved: Resolution, axis: Axis, short: bool) -> Placem
 {
     let refusal = resolved.refusal;
     let line = resolved.line;
+    let held = resolved.held;
     if refusal.number != 0 {
         return refused_placement(refusal.number);
     }
@@ -60,6 +64,7 @@ pub(crate) fn placed_by(resolved: Resolution, axis: Axis, short: bool) -> Placem
         refusal: refusal::no_refusal(),
         axis,
         line,
+        held,
     }
 }
 

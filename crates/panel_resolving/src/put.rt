@@ -1,17 +1,17 @@
-// A resolved placement as six numbers.
+// A resolved placement as eight numbers.
 ghost use mathlib.Core.Path.{_≡_};
 ghost use Prim.Native.Nat.{_+_, _≤_, _<_};
 ghost use lib.IntN.{pos};
 ghost use lib.ListN.{length, set};
 ghost use lib.Seq.{sets};
 ghost use Rattle.library_numbers.specs.Answers.{placementNumbers};
-ghost use Rattle.panel_resolving.specs.Placements.{SmallNumbers, numbersOf};
+ghost use Rattle.panel_resolving.specs.Placements.{SmallNumbers, endNumbers, numbersOf};
 use library_numbers::PlacementNumbers;
 use library_numbers::numbers::placement_numbers;
 use panel_rules::PlacementAnswer;
 
 // How many numbers a placement takes.
-pub(crate) const PLACEMENT_NUMBERS: usize = 6;
+pub(crate) const PLACEMENT_NUMBERS: usize = 8;
 
 // Writes a number without a sign at a place.
 fn put_whole(numbers: &mut [i32], place: usize, number: u32)
@@ -30,10 +30,10 @@ fn put_signed(numbers: &mut [i32], place: usize, number: i32)
     numbers[place] = number;
 }
 
-// Writes six numbers from a place on.
-fn put_numbers(numbers: &mut [i32], place: usize, answer: PlacementNumbers)
+// Writes the numbers of an answer but for its marks from a place on.
+fn put_ends(numbers: &mut [i32], place: usize, answer: PlacementNumbers)
     requires { ⌜ (place + 6 ≤ length (now numbers)) × SmallNumbers answer ⌝ }
-    ensures { λ _. ⌜ now (numbers .exit) ≡ sets (now (numbers .entry)) place (numbersOf answer) ⌝ }
+    ensures { λ _. ⌜ now (numbers .exit) ≡ sets (now (numbers .entry)) place (endNumbers answer) ⌝ }
 {
     put_whole(numbers, place, answer.number);
     put_whole(numbers, place + 1, answer.axis);
@@ -43,9 +43,19 @@ fn put_numbers(numbers: &mut [i32], place: usize, answer: PlacementNumbers)
     put_signed(numbers, place + 5, answer.endnumber);
 }
 
+// Writes eight numbers from a place on.
+fn put_numbers(numbers: &mut [i32], place: usize, answer: PlacementNumbers)
+    requires { ⌜ (place + 8 ≤ length (now numbers)) × SmallNumbers answer ⌝ }
+    ensures { λ _. ⌜ now (numbers .exit) ≡ sets (now (numbers .entry)) place (numbersOf answer) ⌝ }
+{
+    put_ends(numbers, place, answer);
+    put_whole(numbers, place + 6, answer.startheld);
+    put_whole(numbers, place + 7, answer.endheld);
+}
+
 // Writes a resolved placement at a place.
 pub(crate) fn put_placement(numbers: &mut [i32], place: usize, answer: PlacementAnswer)
-    requires { ⌜ (place + 6 ≤ length (now numbers)) × (answer .refusal .number ≤ 10) ⌝ }
+    requires { ⌜ (place + 8 ≤ length (now numbers)) × (answer .refusal .number ≤ 10) ⌝ }
     ensures { λ _. ⌜ now (numbers .exit) ≡ sets (now (numbers .entry)) place (numbersOf (placementNumbers answer)) ⌝ }
 {
     put_numbers(numbers, place, placement_numbers(answer));

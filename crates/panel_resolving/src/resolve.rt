@@ -1,7 +1,7 @@
 // A placement beside the names of an axis: each end asks for a line, or is resolved as written.
 ghost use Prim.Native.Nat.{_≤_};
 ghost use Rattle.name_groups.specs.Groups.{Lists};
-ghost use Rattle.name_resolver.specs.Placements.{refusedResolution, zeroLine};
+ghost use Rattle.name_resolver.specs.Placements.{noMarks, refusedResolution, zeroLine};
 ghost use Rattle.name_resolver.specs.Questions.{answered};
 ghost use Rattle.name_resolver.specs.Steps.{firstEnd, questionOf, secondEnd};
 ghost use Rattle.panel_tables.specs.Regions.{areaBytesIn, areaWordsIn, placementBytesIn};
@@ -13,9 +13,11 @@ use crate::find::find_named_line;
 use coordinates::refusal;
 use name_resolver::Asked;
 use name_resolver::End;
+use name_resolver::HeldEnds;
 use name_resolver::Line;
 use name_resolver::NonNamedGridPlacement;
 use name_resolver::Resolution;
+use name_resolver::ResolvedEnd;
 use name_resolver::ResolvedLine;
 use name_resolver::ask::question_of;
 use name_resolver::ends::first_end;
@@ -38,13 +40,28 @@ pub(crate) fn zero_line() -> ResolvedLine
     }
 }
 
+// No mark at either end.
+pub(crate) fn no_marks() -> HeldEnds
+    ensures { λ r. ⌜ r ≡ noMarks ⌝ }
+{
+    HeldEnds {
+        start: false,
+        end: false,
+    }
+}
+
 // The resolver's answer for an explicit count above 10,000.
 pub(crate) fn refused_resolution() -> Resolution
     ensures { λ r. ⌜ r ≡ refusedResolution ⌝ }
 {
     let refusal = refusal::refusal_of(refusal::COUNT);
     let line = zero_line();
-    Resolution { refusal, line }
+    let held = no_marks();
+    Resolution {
+        refusal,
+        line,
+        held,
+    }
 }
 
 // One end.
@@ -55,7 +72,7 @@ fn resolve_end(
     store: &[u8],
     words: &[u64; PANEL_WORDS],
     bytes: &[u8; PANEL_BYTES],
-) -> NonNamedGridPlacement
+) -> ResolvedEnd
     requires { ⌜ around .explicit ≤ 10000 ⌝ }
     requires { ⌜ Lists (around .grouping) (now index) (now store) ⌝ }
     ensures { λ r. ⌜ r ≡ answered (bearsBy around (now (index .entry)) (now (store .entry)) (areaWordsIn (now (words .entry))) (areaBytesIn (now (bytes .entry)))) (placementBytesIn (now (bytes .entry))) (around .explicit) (questionOf (around .explicit) end) ⌝ }
@@ -71,7 +88,7 @@ fn resolve_end(
 }
 
 // The end that is resolved next: the first, then the other beside its line.
-fn next_end(line: Line, last: bool, first: NonNamedGridPlacement) -> End
+fn next_end(line: Line, last: bool, first: ResolvedEnd) -> End
     ensures { λ r. ⌜ r ≡ cond last (secondEnd line first) (firstEnd line) ⌝ }
 {
     if last {
@@ -95,16 +112,16 @@ pub(crate) fn resolve_line_names(
     if MOST_TRACKS < around.explicit {
         return refused_resolution();
     }
-    let mut first = NonNamedGridPlacement::Auto;
+    let mut first = ResolvedEnd {
+        placement: NonNamedGridPlacement::Auto,
+        held: false,
+    };
     let mut last = false;
     loop {
         let end = next_end(line, last, first);
         let resolved = resolve_end(around, end, index, store, words, bytes);
         if last {
-            return Resolution {
-                refusal: refusal::no_refusal(),
-                line: resolved_ends(line, first, resolved),
-            };
+            return resolved_ends(line, first, resolved);
         }
         first = resolved;
         last = true;

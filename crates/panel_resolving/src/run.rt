@@ -26,8 +26,8 @@ use panel_tables::region::axis_words;
 // The most placements of a run, which is as many as a panel holds.
 const MOST_PLACEMENTS: u32 = 256;
 
-// The numbers of a run: six for each placement.
-pub const PLACEMENT_RUN: usize = 1536;
+// The numbers of a run: eight for each placement.
+pub const PLACEMENT_RUN: usize = 2048;
 
 // What a run is refused by: `held` placements, the bytes of the shorter store.
 fn numbers_refusal(held: u32, shorter: usize, first: u32) -> u32
@@ -45,7 +45,7 @@ fn numbers_refusal(held: u32, shorter: usize, first: u32) -> u32
 // How many placements are written from one that there is.
 fn numbers_count(held: u32, first: u32) -> u32
     requires { ⌜ first ≤ held ⌝ }
-    ensures { λ r. ⌜ (r ≡ numbersCount held first) × (first + r ≤ 4294967295) × (6 * r ≤ 1536) ⌝ }
+    ensures { λ r. ⌜ (r ≡ numbersCount held first) × (first + r ≤ 4294967295) × (8 * r ≤ 2048) ⌝ }
 {
     let left = held - first;
     if left < MOST_PLACEMENTS {
@@ -77,7 +77,7 @@ fn write_numbers(
     count: u32,
     numbers: &mut [i32],
 )
-    requires { ⌜ (first + count ≤ grid .placements) × (first + count ≤ 4294967295) × (6 * count ≤ length (now numbers)) ⌝ }
+    requires { ⌜ (first + count ≤ grid .placements) × (first + count ≤ 4294967295) × (8 * count ≤ length (now numbers)) ⌝ }
     requires { ⌜ 32768 ≤ shorterStore (nameTablesIn (now words) (now columnstore) (now rowstore)) ⌝ }
     ensures { λ _. ⌜ now (numbers .exit) ≡ sets (now (numbers .entry)) 0 (runNumbers grid (nameTablesIn (now (words .entry)) (now (columnstore .entry)) (now (rowstore .entry))) (areaTableIn (now (words .entry)) (now (bytes .entry))) (placementTableIn (now (words .entry)) (now (bytes .entry))) first count) ⌝ }
 {

@@ -73,7 +73,7 @@ pub(crate) fn write_beside(
     bytes: &[u8; PANEL_BYTES],
     numbers: &mut [i32],
 ) -> Resolution
-    requires { ⌜ (run .first + run .count ≤ 4294967295) × (6 * run .count ≤ length (now numbers)) ⌝ }
+    requires { ⌜ (run .first + run .count ≤ 4294967295) × (8 * run .count ≤ length (now numbers)) ⌝ }
     requires { ⌜ Lists (run .around .grouping) (now index) (now store) ⌝ }
     ensures { λ r. ⌜ (now (numbers .exit) ≡ chosenSets (onAxis (run .around .axis) (placementWordsIn (now (words .entry)))) (numbersBy (resolutionBy (run .around .explicit) (bearsBy (run .around) (now (index .entry)) (now (store .entry)) (areaWordsIn (now (words .entry))) (areaBytesIn (now (bytes .entry)))) (placementBytesIn (now (bytes .entry)))) (placementWordsIn (now (words .entry)))) 0 (run .first) (run .count) (now (numbers .entry))) × OnlyOne run (placementWordsIn (now (words .entry))) (resolutionBy (run .around .explicit) (bearsBy (run .around) (now (index .entry)) (now (store .entry)) (areaWordsIn (now (words .entry))) (areaBytesIn (now (bytes .entry)))) (placementBytesIn (now (bytes .entry)))) r ⌝ }
 {
@@ -90,7 +90,7 @@ pub(crate) fn write_beside(
         }
         let line = line_placement(place);
         let resolved = resolve_line_names(around, index, store, words, bytes, line);
-        put_placement(numbers, 6 * i as usize, placed_by(resolved, axis, false));
+        put_placement(numbers, 8 * i as usize, placed_by(resolved, axis, false));
         last = resolved;
         i += 1;
     }
@@ -125,7 +125,7 @@ fn write_few(
     bytes: &[u8; PANEL_BYTES],
     numbers: &mut [i32],
 )
-    requires { ⌜ (run .first + run .count ≤ 4294967295) × (6 * run .count ≤ length (now numbers)) ⌝ }
+    requires { ⌜ (run .first + run .count ≤ 4294967295) × (8 * run .count ≤ length (now numbers)) ⌝ }
     requires { ⌜ length (now entries) ≤ 128 ⌝ }
     ensures { λ _. ⌜ now (numbers .exit) ≡ chosenSets (onAxis (run .around .axis) (placementWordsIn (now (words .entry)))) (numbersBy (resolutionOf (axisNames (run .around .explicit) (run .around .axis) (now (entries .entry)) (now (store .entry)) (partOf (areaWordsIn (now (words .entry))) 0 (run .around .areas)) (partOf (areaWordsIn (now (words .entry))) 64 (run .around .areas)) (areaBytesIn (now (bytes .entry)))) (placementBytesIn (now (bytes .entry)))) (placementWordsIn (now (words .entry)))) 0 (run .first) (run .count) (now (numbers .entry)) ⌝ }
 {
@@ -145,7 +145,7 @@ fn write_many(
     bytes: &[u8; PANEL_BYTES],
     numbers: &mut [i32],
 )
-    requires { ⌜ (run .first + run .count ≤ 4294967295) × (6 * run .count ≤ length (now numbers)) ⌝ }
+    requires { ⌜ (run .first + run .count ≤ 4294967295) × (8 * run .count ≤ length (now numbers)) ⌝ }
     requires { ⌜ length (now entries) ≤ 4096 ⌝ }
     ensures { λ _. ⌜ now (numbers .exit) ≡ chosenSets (onAxis (run .around .axis) (placementWordsIn (now (words .entry)))) (numbersBy (resolutionOf (axisNames (run .around .explicit) (run .around .axis) (now (entries .entry)) (now (store .entry)) (partOf (areaWordsIn (now (words .entry))) 0 (run .around .areas)) (partOf (areaWordsIn (now (words .entry))) 64 (run .around .areas)) (areaBytesIn (now (bytes .entry)))) (placementBytesIn (now (bytes .entry)))) (placementWordsIn (now (words .entry)))) 0 (run .first) (run .count) (now (numbers .entry)) ⌝ }
 {
@@ -181,7 +181,7 @@ pub(crate) fn write_axis(
     bytes: &[u8; PANEL_BYTES],
     numbers: &mut [i32],
 )
-    requires { ⌜ (run .first + run .count ≤ 4294967295) × (6 * run .count ≤ length (now numbers)) ⌝ }
+    requires { ⌜ (run .first + run .count ≤ 4294967295) × (8 * run .count ≤ length (now numbers)) ⌝ }
     ensures { λ _. ⌜ now (numbers .exit) ≡ chosenSets (onAxis (run .around .axis) (placementWordsIn (now (words .entry)))) (numbersBy (resolutionOf (axisNames (run .around .explicit) (run .around .axis) (now (entries .entry)) (now (store .entry)) (partOf (areaWordsIn (now (words .entry))) 0 (run .around .areas)) (partOf (areaWordsIn (now (words .entry))) 64 (run .around .areas)) (areaBytesIn (now (bytes .entry)))) (placementBytesIn (now (bytes .entry)))) (placementWordsIn (now (words .entry)))) 0 (run .first) (run .count) (now (numbers .entry)) ⌝ }
 {
     match grouping_for(entries.len(), run.count) {

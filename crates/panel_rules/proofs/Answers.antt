@@ -12,10 +12,10 @@ use Rattle.coordinates.specs.declared.axis.Axis.the-variants.{Column, Row}
 use Rattle.coordinates.specs.Refusals.{noRefusal, count}
 use Rattle.name_rules.specs.Css as Css
 use Rattle.name_rules.specs.Css.{Entry, AxisNames}
-use Rattle.name_rules.specs.Rule.{named?, resolve}
+use Rattle.name_rules.specs.Rule.{named?, resolve, heldEnds}
 use Rattle.name_entries.specs.Entries.{entryOf, namedEntry, entriesOf}
 use Rattle.name_entries.specs.LineNames.{ofAxis}
-use Rattle.name_resolver.specs.Placements.{endsOf, resolvedLine, resolutionOf}
+use Rattle.name_resolver.specs.Placements.{endsOf, heldAnswer, resolvedLine, heldLine, resolutionOf}
 use Rattle.name_resolver.proofs.Theorems.{resolution-accepted}
 use Rattle.axis_tables.specs.declared.AxisGrid.{AxisGrid}
 use Rattle.axis_tables.specs.View.{AxisView, sizesOf, componentsOf, axisBytes}
@@ -170,7 +170,7 @@ module _ (v : PanelView) (f : FitsPanel v) (range : PanelRange v) (ok : endFault
   abbrev answerFor : Axis → Css.Placement → Css.Placement → PlacementAnswer
   answerFor a p q =
       let x : AxisNames = namesAfter v a (es a) in
-      record { refusal = noRefusal; axis = a; line = endsOf (resolve (x .explicit) (named? x) p q) }
+      record { refusal = noRefusal; axis = a; line = endsOf (resolve (x .explicit) (named? x) p q); held = heldAnswer (heldEnds (x .explicit) (named? x) p q) }
 
   -- placement i as its words and bytes hold it, and the names of its axis
   module _ (i : ℕ) (k : i < length (v .placements)) where
@@ -185,7 +185,8 @@ module _ (v : PanelView) (f : FitsPanel v) (range : PanelRange v) (ok : endFault
 
     -- nothing is refused: at most 10,000 explicit tracks
     resolved-after : resolutionOf names bytes (linePlacement place)
-        ≡ record { refusal = noRefusal; line = resolvedLine (namesAfter v (place .axis) (es (place .axis))) bytes (linePlacement place) }
+        ≡ (let x : AxisNames = namesAfter v (place .axis) (es (place .axis)) in
+        record { refusal = noRefusal; line = resolvedLine x bytes (linePlacement place); held = heldLine x bytes (linePlacement place) })
     resolved-after =
         ap (λ (x : AxisNames). resolutionOf x bytes (linePlacement place)) (names-after (place .axis))
         ∙ resolution-accepted (namesAfter v (place .axis) (es (place .axis))) bytes (linePlacement place) (explicit-few (viewIn v (place .axis)) (no-fault v ok (place .axis)))

@@ -9,8 +9,8 @@ use Rattle.coordinates.specs.declared.axis.Axis.{Axis}
 use Rattle.coordinates.specs.declared.axis.Axis.the-variants.{Column}
 use Rattle.coordinates.specs.Refusals.{noRefusal, count}
 use Rattle.name_rules.specs.Css.{Entry, AxisNames}
-use Rattle.name_rules.specs.Rule.{named?, resolve}
-use Rattle.name_resolver.specs.Placements.{endsOf}
+use Rattle.name_rules.specs.Rule.{named?, resolve, heldEnds}
+use Rattle.name_resolver.specs.Placements.{endsOf, heldAnswer}
 use Rattle.track_rules.specs.declared.GridTrack.{GridTrack}
 use Rattle.axis_tables.specs.View.{AxisView}
 use Rattle.panel_tables.specs.View.{Area, Placement, PanelView, noPlacement}
@@ -60,7 +60,13 @@ names-same v u c d x e line place = ap₂ (λ (a : AxisView) (es : List Entry). 
 
 -- the answer for a placement whose axis is a, from all that names the lines of that axis
 abbrev placedOn : AxisNames → Axis → Placement → PlacementAnswer
-placedOn x a p = record { refusal = noRefusal; axis = a; line = endsOf (resolve (x .explicit) (named? x) (cssEnd (p .start)) (cssEnd (p .end))) }
+placedOn x a p =
+    record {
+      refusal = noRefusal;
+      axis = a;
+      line = endsOf (resolve (x .explicit) (named? x) (cssEnd (p .start)) (cssEnd (p .end)));
+      held = heldAnswer (heldEnds (x .explicit) (named? x) (cssEnd (p .start)) (cssEnd (p .end)));
+    }
 
 abbrev columnNames : AxisView → List Area → List Entry → AxisNames
 columnNames columns areas es = record { explicit = explicitOf columns; book = entriesAfter columns es; areas = areasIn Column areas }

@@ -11,7 +11,7 @@ use Rattle.coordinates.specs.declared.axis.Axis.the-variants.{Column, Row}
 use Rattle.coordinates.specs.Refusals.{count}
 use Rattle.template_rules.specs.declared.TemplateSize.{TemplateSize}
 use Rattle.name_rules.specs.Css.{Entry, AxisNames}
-use Rattle.name_rules.specs.Rule.{named?, resolve}
+use Rattle.name_rules.specs.Rule.{named?, resolve, heldEnds}
 use Rattle.name_rules.specs.Template.{ruleFrom}
 use Rattle.track_rules.specs.declared.GridTrack.{GridTrack}
 use Rattle.track_rules.specs.declared.AxisTracks.{AxisTracks}
@@ -111,7 +111,8 @@ named-alike Row v h b es =
 abbrev placedBy : PanelView → ℕ → AxisNames → PlacementAnswer
 placedBy v i x =
     let p = placementAt v i in
-    cond (ltb i (length (v .placements))) (answerAt p (resolve (x .explicit) (named? x) (cssEnd (p .start)) (cssEnd (p .end)))) (refusedPlacement count)
+    cond (ltb i (length (v .placements))) (answerAt p (resolve (x .explicit) (named? x) (cssEnd (p .start)) (cssEnd (p .end)))
+    (heldEnds (x .explicit) (named? x) (cssEnd (p .start)) (cssEnd (p .end)))) (refusedPlacement count)
 
 placement-alike : (a : Axis) (v : PanelView) → (ValidTemplate (viewIn v a .template) → ⊥) → (es : Axis → List Entry) (i : ℕ)
     → placementAfter v es i ≡ placementAfter (emptied a v) es i

@@ -1,6 +1,6 @@
 -- Names may arrive in any order: two panels that are the same but for that, with the same accepted entries, resolve every placement alike. Assumes nothing.
 use Prim.Native.Nat.{ℕ, _-_, _≤_, _<_, max}
-use mathlib.Core.Path.{_≡_, refl, sym, ap, _∙_}
+use mathlib.Core.Path.{_≡_, refl, sym, ap, ap₂, _∙_}
 use mathlib.Core.Logic.{_⊎_, ⊎-elim}
 use mathlib.Core.Bool.{Bool, true, false, cond}
 use mathlib.Core.List.{List, [], _∷_, map, List·Memᴰ, List·Memᴰ·head, List·Memᴰ·tail, List·Memᴰ·cases-cons, List·Memᴰ·not-nil, Memᴰ·cast, Memᴰ·map, Memᴰ·of-map}
@@ -8,13 +8,13 @@ use native.Mathlib.Omega.{arith}
 use lib.Dec.{ltb}
 use lib.ListN.{length, getD}
 use Rattle.coordinates.specs.declared.axis.Axis.{Axis}
-use Rattle.coordinates.specs.Refusals.{noRefusal, count}
+use Rattle.coordinates.specs.Refusals.{count}
 use Rattle.template_rules.specs.Template.{Component}
 use Rattle.name_rules.specs.Css.{Entry, AxisNames, Area as CssArea, Placement as CssPlacement, ResolvedEnds}
+use Rattle.name_rules.specs.CssMarks.{HeldEnds}
 use Rattle.name_rules.specs.Conditions.{SameMembers, SameNames}
-use Rattle.name_rules.specs.Rule.{named?, resolve}
-use Rattle.name_rules.proofs.Order.{resolve-same}
-use Rattle.name_resolver.specs.Placements.{endsOf}
+use Rattle.name_rules.specs.Rule.{named?, resolve, heldEnds}
+use Rattle.name_rules.proofs.Order.{resolve-same, marks-same}
 use Rattle.axis_tables.specs.View.{AxisView, AxisLine, componentsOf}
 use Rattle.axis_tables.proofs.Fits.{Fits}
 use Rattle.panel_tables.specs.View.{Area, Placement, PanelView, noPlacement}
@@ -24,7 +24,7 @@ use Rattle.sheet_rules.specs.Sheet.{sizeOf, explicitOf}
 use Rattle.panel_rules.specs.declared.PlacementAnswer.{PlacementAnswer}
 use Rattle.panel_rules.specs.Placing.{refusedPlacement}
 use Rattle.panel_rules.specs.Runs.{Call}
-use Rattle.panel_rules.specs.Views.{areaIn, areasIn, cssEnd, placementAt, namesAfter, placementAfter}
+use Rattle.panel_rules.specs.Views.{areaIn, areasIn, cssEnd, placementAt, namesAfter, answerAt, placementAfter}
 use Rattle.panel_rules.specs.Book.{CssTemplate, book, bookNames, AllCounted, Regular}
 use Rattle.panel_rules.specs.Order.{SamePanel, SameEntries}
 use Rattle.panel_rules.specs.Ranges.{largest}
@@ -68,15 +68,16 @@ answer ps names i =
     cond (ltb i (length ps))
     (let p : Placement = getD ps i noPlacement in
     let x : AxisNames = names (p .axis) in
-    record { refusal = noRefusal; axis = p .axis; line = endsOf (resolve (x .explicit) (named? x) (cssEnd (p .start)) (cssEnd (p .end))) })
+    answerAt p (resolve (x .explicit) (named? x) (cssEnd (p .start)) (cssEnd (p .end))) (heldEnds (x .explicit) (named? x) (cssEnd (p .start)) (cssEnd (p .end))))
     (refusedPlacement count)
 
 -- names that are the same in any order give the same answer
 same-answer : (ps : List Placement) (x y : Axis → AxisNames) (i : ℕ) → ((a : Axis) → SameNames (x a) (y a)) → answer ps x i ≡ answer ps y i
 same-answer ps x y i s =
     let p : Placement = getD ps i noPlacement in
-    ap (λ (r : ResolvedEnds). cond (ltb i (length ps)) (record { refusal = noRefusal; axis = p .axis; line = endsOf r }) (refusedPlacement count))
+    ap₂ (λ (r : ResolvedEnds) (h : HeldEnds). cond (ltb i (length ps)) (answerAt p r h) (refusedPlacement count))
     (resolve-same (x (p .axis)) (y (p .axis)) (s (p .axis)) (cssEnd (p .start)) (cssEnd (p .end)))
+    (marks-same (x (p .axis)) (y (p .axis)) (s (p .axis)) (cssEnd (p .start)) (cssEnd (p .end)))
 
 module _ (n m : Axis → CssTemplate) (v w : PanelView) (cs ds : List Call) (f : (a : Axis) → Fits (viewIn v a)) (g : (a : Axis) → Fits (viewIn w a))
     (css : AllCounted n v) (also : AllCounted m w) (r : Regular n v cs) (q : Regular m w ds) (same : SamePanel v w) (spanned : (a : Axis) → viewIn v a .areas ≡ viewIn w a .areas)

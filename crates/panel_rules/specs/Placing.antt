@@ -12,7 +12,7 @@ use Rattle.name_resolver.specs.declared.GridPlacement.{GridPlacement}
 use Rattle.name_resolver.specs.declared.GridPlacement.the-variants.{Auto, Line as AtLine, NamedLine, Span, NamedSpan}
 use Rattle.name_resolver.specs.declared.Line.{Line}
 use Rattle.name_resolver.specs.declared.Resolution.{Resolution}
-use Rattle.name_resolver.specs.Placements.{gridLineOf, zeroLine, resolutionOf}
+use Rattle.name_resolver.specs.Placements.{gridLineOf, zeroLine, noMarks, resolutionOf}
 use Rattle.panel_tables.specs.declared.Grid.{Grid}
 use Rattle.panel_tables.specs.declared.EndPlace.{EndPlace}
 use Rattle.panel_tables.specs.declared.PlacementPlace.{PlacementPlace}
@@ -49,13 +49,13 @@ linePlacement p = record { start = endPlacement (p .start); end = endPlacement (
 
 -- a refused answer: its number, line 0 and zeros
 abbrev pub refusedPlacement : ℕ → PlacementAnswer
-refusedPlacement n = record { refusal = refusalOf n; axis = Column; line = zeroLine }
+refusedPlacement n = record { refusal = refusalOf n; axis = Column; line = zeroLine; held = noMarks }
 
 -- the answer of the resolver, for the placement's axis; 10 comes after every other number
 abbrev pub placedBy : Resolution → Axis → Bool → PlacementAnswer
 placedBy r a isShort =
     cond (eqb (r .refusal .number) 0)
-    (cond isShort (refusedPlacement short) (record { refusal = noRefusal; axis = a; line = r .line }))
+    (cond isShort (refusedPlacement short) (record { refusal = noRefusal; axis = a; line = r .line; held = r .held }))
     (refusedPlacement (r .refusal .number))
 
 -- "a placement index that isn't held" is 4

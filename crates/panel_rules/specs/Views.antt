@@ -1,7 +1,7 @@
 -- What is held, and what the calls answer, after an accepted sheet and accepted entries, from the sheet's view and those entries alone.
 use Prim.Native.Nat.{ℕ, zero, suc, _+_}
 use mathlib.Core.Path.{_≡_}
-use mathlib.Core.Bool.{cond}
+use mathlib.Core.Bool.{false, cond}
 use mathlib.Core.List.{List, [], _∷_, _++_, map}
 use lib.IntN.{ℤ, pos, negsuc}
 use lib.Dec.{ltb}
@@ -13,10 +13,11 @@ use Rattle.sizing.specs.Words.{sizingOf}
 use Rattle.sizing.specs.declared.MinMax.{MinMax}
 use Rattle.name_rules.specs.Css as Css
 use Rattle.name_rules.specs.Css.{Bytes, Entry, AxisNames}
-use Rattle.name_rules.specs.Rule.{named?, resolve}
+use Rattle.name_rules.specs.CssMarks.{HeldEnds}
+use Rattle.name_rules.specs.Rule.{named?, resolve, uncutEnd, heldEnds}
 use Rattle.name_entries.specs.Entries.{wordOf}
 use Rattle.name_entries.specs.LineNames.{ofAxis, explicitLineNames, lineCount}
-use Rattle.name_resolver.specs.Placements.{endsOf, resolvedEnds}
+use Rattle.name_resolver.specs.Placements.{answerOf, endsOf, heldAnswer, resolvedEnds}
 use Rattle.track_rules.specs.declared.AxisTracks.{AxisTracks}
 use Rattle.track_rules.specs.declared.RecordAnswer.{RecordAnswer}
 use Rattle.track_rules.specs.Records.{recordAnswerOf}
@@ -115,9 +116,9 @@ cssEnd e = cssBy (e .end .kind) e
 abbrev pub placementAt : PanelView → ℕ → Placement
 placementAt v i = getD (v .placements) i noPlacement
 
--- an answer that is not refused: of the placement's axis, with these ends
-abbrev pub answerAt : Placement → Css.ResolvedEnds → PlacementAnswer
-answerAt p r = record { refusal = noRefusal; axis = p .axis; line = endsOf r }
+-- an answer that is not refused: of the placement's axis, with these ends and marks
+abbrev pub answerAt : Placement → Css.ResolvedEnds → HeldEnds → PlacementAnswer
+answerAt p r h = record { refusal = noRefusal; axis = p .axis; line = endsOf r; held = heldAnswer h }
 
 -- an answer to a placement that is not refused, is of the placement's axis and has the ends that CSS counts to over x
 pub record PlacedByCss (x : AxisNames) (p : Placement) (r : PlacementAnswer) : Type 0 where
@@ -125,13 +126,18 @@ pub record PlacedByCss (x : AxisNames) (p : Placement) (r : PlacementAnswer) : T
   pub axis : r .axis ≡ p .axis
   pub ends : Css.CssEnds x (cssEnd (p .start)) (cssEnd (p .end)) (resolvedEnds (r .line))
 
+-- an end without a mark is where a rule that never holds a line has it
+pub record UncutUnmarked (x : AxisNames) (p : Placement) (r : PlacementAnswer) : Type 0 where
+  pub start : r .held .start ≡ false → r .line .start ≡ answerOf (uncutEnd (x .explicit) (named? x) Css.start (cssEnd (p .end)) (cssEnd (p .start)))
+  pub end : r .held .end ≡ false → r .line .end ≡ answerOf (uncutEnd (x .explicit) (named? x) Css.end (cssEnd (p .start)) (cssEnd (p .end)))
+
 -- the answer for a placement, by the rule over the names of its axis
 unfoldable pub placementAfter : PanelView → (Axis → List Entry) → ℕ → PlacementAnswer
 placementAfter v es i =
     cond (ltb i (length (v .placements)))
     (let p : Placement = placementAt v i in
     let x : AxisNames = namesAfter v (p .axis) (es (p .axis)) in
-    record { refusal = noRefusal; axis = p .axis; line = endsOf (resolve (x .explicit) (named? x) (cssEnd (p .start)) (cssEnd (p .end))) })
+    answerAt p (resolve (x .explicit) (named? x) (cssEnd (p .start)) (cssEnd (p .end))) (heldEnds (x .explicit) (named? x) (cssEnd (p .start)) (cssEnd (p .end))))
     (refusedPlacement count)
 
 unfoldable pub sizeAfter : AxisView → AxisSize

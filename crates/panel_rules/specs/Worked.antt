@@ -17,7 +17,7 @@ use Rattle.template_rules.specs.Css.{Automatic}
 use Rattle.name_rules.specs.Css.{Bytes}
 use Rattle.name_resolver.specs.declared.NonNamedGridPlacement.{NonNamedGridPlacement}
 use Rattle.name_resolver.specs.declared.NonNamedGridPlacement.the-variants as Placed
-use Rattle.name_resolver.specs.Placements.{gridLineOf}
+use Rattle.name_resolver.specs.Placements.{gridLineOf, noMarks}
 use Rattle.track_rules.specs.declared.GridTrack.{GridTrack}
 use Rattle.track_rules.specs.declared.GridTrackKind.the-variants as Kind
 use Rattle.track_rules.specs.declared.TrackSource.{TrackSource}
@@ -141,7 +141,7 @@ abbrev shutGutter : GridTrack
 shutGutter = gutterOf (ofLength 0) true
 
 abbrev placed : Axis → NonNamedGridPlacement → NonNamedGridPlacement → PlacementAnswer
-placed a start end = record { refusal = noRefusal; axis = a; line = record { start = start; end = end } }
+placed a start end = record { refusal = noRefusal; axis = a; line = record { start = start; end = end }; held = noMarks }
 
 abbrev line : ℕ → NonNamedGridPlacement
 line n = Placed.Line (gridLineOf (pos n))

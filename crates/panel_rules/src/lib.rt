@@ -1,6 +1,7 @@
 // What the calls on a panel answer, runs of them, and the laws of the third demand: definitions and proofs alone.
 use coordinates::Axis;
 use coordinates::Refusal;
+use name_resolver::HeldEnds;
 use name_resolver::ResolvedLine;
 use panel_tables::Panel;
 
@@ -10,9 +11,10 @@ pub struct EntryAnswer {
     pub panel: Panel,
 }
 
-// A resolved placement with its axis, or a refusal and zeros.
+// A resolved placement with its axis and the marks of its ends, or a refusal and zeros.
 pub struct PlacementAnswer {
     pub refusal: Refusal,
     pub axis: Axis,
     pub line: ResolvedLine,
+    pub held: HeldEnds,
 }

@@ -12,6 +12,7 @@ use crate::input::further;
 use crate::input::head_at;
 use crate::input::line_at;
 use crate::input::number_of;
+use crate::marks::seen_marks;
 use crate::names::seen_names;
 use panel_tables::Panel;
 use panel_tables::region::PANEL_BYTES;
@@ -119,7 +120,7 @@ fn seen_accepted(
         columnstore,
         rowstore,
     );
-    seen_names(
+    let named = seen_names(
         expected,
         seen,
         block.cut,
@@ -127,7 +128,8 @@ fn seen_accepted(
         words,
         columnstore,
         rowstore,
-    )
+    );
+    seen_marks(expected, named, grid, words, bytes, columnstore, rowstore)
 }
 
 // Whether the answers of a block are the expected ones.

@@ -1,4 +1,4 @@
-// Rows of conversions: explicit count, grid line, refusal, origin-zero line, and the grid line back; or explicit count, `-`, refusal,
+// Rows of conversions: explicit count, grid line, refusal, origin-zero line, the grid line back, and its mark, `y` or `n`; or explicit count, `-`, refusal,
 // origin-zero line, its grid line, and refusal and tracks that it implies before the grid, and after it.
 use crate::input::after_line;
 use crate::input::line_at;
@@ -26,6 +26,14 @@ fn whole_of(field: &[u8]) -> i16 {
     }
 }
 
+// Whether a field writes a mark.
+fn is_mark(held: bool, field: &[u8]) -> bool {
+    if held {
+        return text::equal(field, b"y");
+    }
+    text::equal(field, b"n")
+}
+
 // Whether a row of a grid line holds.
 fn is_right(row: &[u8]) -> bool {
     let explicit = (number_of(text::part(row, 9, 0)) % 65536) as u16;
@@ -36,6 +44,9 @@ fn is_right(row: &[u8]) -> bool {
     }
     let line = there.line;
     if line.0 != whole_of(text::part(row, 9, 3)) {
+        return false;
+    }
+    if !is_mark(there.held, text::part(row, 9, 5)) {
         return false;
     }
     if refusal != 0 {

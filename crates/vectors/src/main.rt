@@ -9,6 +9,7 @@ mod conversions;
 mod counts;
 mod expected;
 mod input;
+mod marks;
 mod names;
 mod replay;
 

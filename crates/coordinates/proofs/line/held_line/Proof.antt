@@ -23,7 +23,7 @@ no-refusal-requires c κs = search needs
 
 -- src/line.rt:47:1
 returns : tie.Need-returns
-returns c = let z = integerOf (c .before .before .before .args .number) in let e : c .before .joined .result ≡ held z = c .before .joined .ensures ∙ ap sixteenBits (c .before .before .hold .ensures) ∙ sixteen-held z in rw (e, toZ-ofZ (held-fits z), c .no-refusal .ensures)
+returns c = let z = integerOf (c .before .before .before .args .number) in let e : c .before .joined .result ≡ held z = c .before .joined .ensures ∙ ap sixteenBits (c .before .before .hold .ensures .line) ∙ sixteen-held z in rw (e, toZ-ofZ (held-fits z), c .no-refusal .ensures, c .before .before .hold .ensures .mark)
 
 pub held-line-spec : {M : Type 1} → statement M
 held-line-spec = tie.close (tie.spec hold-requires joined-requires no-refusal-requires returns)

@@ -21,11 +21,18 @@ end-kind-requires-2 c κs = search needs
 end-number-requires-2 : tie.Need-end-number-requires-2
 end-number-requires-2 c κs = search needs
 
+mark-number-requires : tie.Need-mark-number-requires
+mark-number-requires c κs = search needs
+
+mark-number-requires-2 : tie.Need-mark-number-requires-2
+mark-number-requires-2 c κs = search needs
+
 returns : tie.Need-returns
 unfolding placementNumbers
-returns c = let f : SFits w32 (c .end-number2 .result) = record { sfits = c .end-number2 .ok } in
-    let g : SFits w32 (c .before .before .end-number .result) = record { sfits = c .before .before .end-number .ok } in
-    rw (toZ-ofZ f, toZ-ofZ g, c .end-number2 .ensures, c .before .end-kind2 .ensures, c .before .before .end-number .ensures, c .before .before .before .end-kind .ensures, c .before .before .before .before .axis-number .ensures)
+returns c = let n = c .before .before in
+    let f : SFits w32 (n .end-number2 .result) = record { sfits = n .end-number2 .ok } in
+    let g : SFits w32 (n .before .before .end-number .result) = record { sfits = n .before .before .end-number .ok } in
+    rw (toZ-ofZ f, toZ-ofZ g, c .mark-number2 .ensures, c .before .mark-number .ensures, n .end-number2 .ensures, n .before .end-kind2 .ensures, n .before .before .end-number .ensures, n .before .before .before .end-kind .ensures, n .before .before .before .before .axis-number .ensures)
 
 pub placement-numbers-spec : {M : Type 1} → statement M
 placement-numbers-spec =
@@ -36,4 +43,6 @@ placement-numbers-spec =
     end-number-requires
     end-kind-requires-2
     end-number-requires-2
+    mark-number-requires
+    mark-number-requires-2
     returns)

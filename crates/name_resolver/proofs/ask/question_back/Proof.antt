@@ -1,6 +1,8 @@
 use native.Mathlib.Omega.{arith}
 use lib.IntN.{negsuc}
-use Rattle.coordinates.proofs.Integers.{sixteen-held}
+use mathlib.Core.Path.{_∙_, ap}
+use Rattle.name_resolver.specs.declared.Asked.the-variants.{Resolved}
+use Rattle.name_resolver.proofs.Integers.{end-held}
 use Rattle.name_resolver.specs.Steps.{BackFits}
 use borrow.Author.Needs.{needs}
 use Rattle.name_resolver.proofs.ask.question_back.Statement.{statement}
@@ -15,8 +17,8 @@ explicit-end-requires c κs = search needs
 enum-known-last-2 : tie.Need-enum-known-last-2
 enum-known-last-2 c = search needs
 
-add-t13 : tie.Need-add-t13
-add-t13 c =
+add-t14 : tie.Need-add-t14
+add-t14 c =
     let k = c .before .last2 .given .0 .0 in
     let h : BackFits (negsuc k) (c .before .before .before .args .over) = rw (c .before .last2 .given .1) at (c .before .before .before .pre) in
     record { fits = omega arith }
@@ -24,14 +26,15 @@ add-t13 c =
 hold-requires : tie.Need-hold-requires
 hold-requires c κs = search needs
 
-grid-line-requires : tie.Need-grid-line-requires
-grid-line-requires c κs = search needs
+end-on-line-requires : tie.Need-end-on-line-requires
+end-on-line-requires c κs = search needs
 
 returns : tie.Need-returns
 returns c = rw (c .before .before .last .given .1, c .explicit-end .ensures)
 
 returns-2 : tie.Need-returns-2
-returns-2 c = rw (c .before .before .before .last2 .given .1, c .grid-line .ensures, c .before .hold .ensures, sixteen-held)
+returns-2 c = let a = c .before .before .before .before .before .args in
+    rw (c .before .before .before .last2 .given .1) (ap Resolved (c .end-on-line .ensures ∙ end-held (a .explicit) (a .held) _ _ (c .before .hold .ensures)))
 
 pub question-back-spec : {M : Type 1} → statement M
 question-back-spec =
@@ -40,8 +43,8 @@ question-back-spec =
     enum-known-last
     explicit-end-requires
     enum-known-last-2
-    add-t13
+    add-t14
     hold-requires
-    grid-line-requires
+    end-on-line-requires
     returns
     returns-2)

@@ -16,6 +16,15 @@ enum-known-placement c = search needs
 enum-known-placement-2 : tie.Need-enum-known-placement-2
 enum-known-placement-2 c = search needs
 
+unmarked-end-requires : tie.Need-unmarked-end-requires
+unmarked-end-requires c κs = search needs
+
+written-end-requires : tie.Need-written-end-requires
+written-end-requires c κs = search needs
+
+unmarked-end-requires-2 : tie.Need-unmarked-end-requires-2
+unmarked-end-requires-2 c κs = search needs
+
 named-question-requires : tie.Need-named-question-requires
 named-question-requires c κs = search needs
 
@@ -30,11 +39,11 @@ span-question-requires c κs = search needs
 
 returns : tie.Need-returns
 unfolding questionOf
-returns c = rw (c .enum-told .given .1)
+returns c = rw (c .before .enum-told .given .1, c .unmarked-end .ensures)
 
 returns-2 : tie.Need-returns-2
 unfolding questionOf
-returns-2 c = rw (c .before .placement .given .1)
+returns-2 c = rw (c .before .before .placement .given .1, c .written-end .ensures)
 
 returns-3 : tie.Need-returns-3
 unfolding questionOf
@@ -44,7 +53,7 @@ returns-3 c = let i = c .before .before .placement2 .given .0 .1 .0 in
 
 returns-4 : tie.Need-returns-4
 unfolding questionOf
-returns-4 c = rw (c .before .placement3 .given .1)
+returns-4 c = rw (c .before .before .placement3 .given .1, c .unmarked-end2 .ensures)
 
 returns-5 : tie.Need-returns-5
 unfolding questionOf
@@ -55,10 +64,13 @@ question-of-spec =
     tie.close
     (tie.spec
     enum-told
+    unmarked-end-requires
     enum-known-placement
+    written-end-requires
     enum-known-placement-2
     named-question-requires
     enum-known-placement-3
+    unmarked-end-requires-2
     enum-known-placement-4
     span-question-requires
     returns

@@ -18,13 +18,16 @@ split-16-bits-requires c κs = search needs
 is-zero-requires : tie.Need-is-zero-requires
 is-zero-requires c κs = search needs
 
+unmarked-end-requires : tie.Need-unmarked-end-requires
+unmarked-end-requires c κs = search needs
+
 returns : tie.Need-returns
-returns c = let a = c .before .before .before .before .args in
-    let number = c .before .before .split-16-bits in
-    let fits = c .before .before .before .struct-told .given .0 .1 in
+returns c = let a = c .before .before .before .before .before .args in
+    let number = c .before .before .before .split-16-bits in
+    let fits = c .before .before .before .before .struct-told .given .0 .1 in
     let z : integerOf (number .result) ≡ a .beside .0 = number .ensures .is ∙ toZ-ofZ {w = w16} {z = a .beside .0} (record { sfits = fits }) in
-    let y : isZero (a .beside .0) ≡ true = rw z at (sym (c .before .is-zero .ensures) ∙ c .if1 .taken) in
-    rw y
+    let y : isZero (a .beside .0) ≡ true = rw z at (sym (c .before .before .is-zero .ensures) ∙ c .before .if1 .taken) in
+    rw (y, c .unmarked-end .ensures)
 
 into-origin-zero-line-requires : tie.Need-into-origin-zero-line-requires
 into-origin-zero-line-requires c κs = search needs
@@ -46,7 +49,7 @@ returns-2 c = let a = c .before .before .before .before .before .before .before 
     let o = c .before .before .into-origin-zero-line in
     let n = c .before .span-count in
     rw (y, ← (o .ensures), c .question-of-count .ensures)
-    (span-counted (a .explicit) (a .name) (a .span) (sideOf (a .side)) (o .result .line .0) (n .result) (n .ensures))
+    (span-counted (a .explicit) (a .name) (a .span) (sideOf (a .side)) (o .result .line .0) (a .held) (n .result) (n .ensures))
 
 pub span-question-spec : {M : Type 1} → statement M
 span-question-spec =
@@ -54,6 +57,7 @@ span-question-spec =
     (tie.spec
     split-16-bits-requires
     is-zero-requires
+    unmarked-end-requires
     returns
     into-origin-zero-line-requires
     span-count-requires

@@ -19,11 +19,11 @@ returns : tie.Need-returns
 returns c = let a = c .before .before .before .before .args in let m = c .before .before .found2 .given .0 .0 in
     rw (c .before .before .found2 .given .1) (held-past (max (a .first) (suc (a .explicit)) + m) (either-past (a .first) m (max (a .first) (suc (a .explicit))) (c .if1 .taken) (omega arith)))
 
-add-t12 : tie.Need-add-t12
-add-t12 c = search needs
-
 add-t13 : tie.Need-add-t13
-add-t13 c = let a = c .before .before .before .before .before .args in record { fits = omega (arith, neither-past (a .first) (c .before .before .before .found2 .given .0 .0) (c .before .if1 .left) .1) }
+add-t13 c = search needs
+
+add-t14 : tie.Need-add-t14
+add-t14 c = let a = c .before .before .before .before .before .args in record { fits = omega (arith, neither-past (a .first) (c .before .before .before .found2 .given .0 .0) (c .before .if1 .left) .1) }
 
 hold-requires-2 : tie.Need-hold-requires-2
 hold-requires-2 c κs = search needs
@@ -32,8 +32,8 @@ returns-2 : tie.Need-returns-2
 returns-2 c = let a = c .before .before .before .before .before .before .args in let m = c .before .before .before .before .found2 .given .0 .0 in let q : max (a .first) (suc (a .explicit)) + m ≡ a .explicit + 1 + m = omega (arith, c .before .if2 .taken) in
     rw (c .before .before .before .before .found2 .given .1, q) (c .hold2 .ensures)
 
-add-t15 : tie.Need-add-t15
-add-t15 c = let a = c .before .before .before .before .before .args in let n = neither-past (a .first) (c .before .before .before .found2 .given .0 .0) (c .before .if1 .left) in record { fits = omega arith }
+add-t16 : tie.Need-add-t16
+add-t16 c = let a = c .before .before .before .before .before .args in let n = neither-past (a .first) (c .before .before .before .found2 .given .0 .0) (c .before .if1 .left) in record { fits = omega arith }
 
 hold-requires-3 : tie.Need-hold-requires-3
 hold-requires-3 c κs = search needs
@@ -53,11 +53,11 @@ line-forwards-spec =
     hold-requires
     enum-known-found-2
     returns
-    add-t12
     add-t13
+    add-t14
     hold-requires-2
     returns-2
-    add-t15
+    add-t16
     hold-requires-3
     returns-3
     returns-4)

@@ -8,8 +8,11 @@ refusal-of-requires c κs = search needs
 zero-line-requires : tie.Need-zero-line-requires
 zero-line-requires c κs = search needs
 
+no-marks-requires : tie.Need-no-marks-requires
+no-marks-requires c κs = search needs
+
 returns : tie.Need-returns
-returns c = rw (c .zero-line .ensures, c .before .refusal-of .ensures)
+returns c = rw (c .no-marks .ensures, c .before .zero-line .ensures, c .before .before .refusal-of .ensures)
 
 pub refused-resolution-spec : {M : Type 1} → statement M
-refused-resolution-spec = tie.close (tie.spec refusal-of-requires zero-line-requires returns)
+refused-resolution-spec = tie.close (tie.spec refusal-of-requires zero-line-requires no-marks-requires returns)

@@ -35,16 +35,13 @@ next-end-requires c κs = search needs
 resolve-end-requires : tie.Need-resolve-end-requires Inv-loop μ-loop
 resolve-end-requires c κs = (c .before .before .if1 .left, c .before .before .before .before .before .before .pre)
 
-no-refusal-requires : tie.Need-no-refusal-requires Inv-loop μ-loop
-no-refusal-requires c κs = search needs
-
 resolved-ends-requires : tie.Need-resolved-ends-requires Inv-loop μ-loop
 resolved-ends-requires c κs = search needs
 
 returns-2 : tie.Need-returns-2 Inv-loop μ-loop
 unfolding resolutionBy answeredLine
-returns-2 c = let a = c .before .before .before .before .before .before .before .before .before .before .args in let l = c .before .before .before .before .before .loop in let second = c .before .before .before .resolve-end in
-    rw (le-leb (a .around .explicit) 10000 (c .before .before .before .before .before .before .if1 .left), c .before .no-refusal .ensures, c .resolved-ends .ensures, second .ensures, c .before .before .before .before .next-end .ensures, c .before .before .if2 .taken, l .inv (c .before .before .if2 .taken))
+returns-2 c = let a = c .before .before .before .before .before .before .before .before .before .args in let l = c .before .before .before .before .loop in let second = c .before .before .resolve-end in
+    rw (le-leb (a .around .explicit) 10000 (c .before .before .before .before .before .if1 .left), c .resolved-ends .ensures, second .ensures, c .before .before .before .next-end .ensures, c .before .if2 .taken, l .inv (c .before .if2 .taken))
 
 loop-less : tie.Need-loop-less Inv-loop μ-loop
 loop-less c = rw (c .if2 .left) (omega arith)
@@ -63,7 +60,6 @@ resolve-line-names-spec =
     loop-holds
     next-end-requires
     resolve-end-requires
-    no-refusal-requires
     resolved-ends-requires
     returns-2
     loop-less

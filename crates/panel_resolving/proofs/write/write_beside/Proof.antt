@@ -90,7 +90,7 @@ loop-less-2 c = omega (arith, c .before .before .before .before .before .before 
 loop-again-2 : tie.Need-loop-again-2 Inv-loop μ-loop
 loop-again-2 c = let a = c .before .before .before .before .before .before .before .before .before .before .before .before .before .before .before .before .before .before .args in let l = c .before .before .before .before .before .before .before .before .before .before .before .before .before .loop in let seen = rw (c .before .before .before .before .before .before .before .before .placement-at .ensures, c .before .before .before .before .before .before .before .before .before .before .placement-words .ensures) at (c .before .before .before .before .before .before .before .same-axis .ensures) in
     let put = c .before .put-placement in (
-      ap length (put .ensures) ∙ (length-sets (l .numbers) (6 * l .i) (numbersOf (placementNumbers (c .before .before .placed-by .result))) ∙ l .inv .0),
+      ap length (put .ensures) ∙ (length-sets (l .numbers) (8 * l .i) (numbersOf (placementNumbers (c .before .before .placed-by .result))) ∙ l .inv .0),
       rest-taken (onAxis (a .run .around .axis) (placementWordsIn (a .words .now))) (numbersBy (resolutionBy (a .run .around .explicit) (bearsBy (a .run .around) (a .index .now) (a .store .now) (areaWordsIn (a .words .now)) (areaBytesIn (a .bytes .now))) (placementBytesIn (a .bytes .now))) (placementWordsIn (a .words .now))) (a .run .first) (a .run .count) (l .i) (l .numbers) (c .before .before .before .before .before .before .before .before .before .before .before .if1 .taken) (sym seen ∙ not-false (c .before .before .before .before .before .before .before .same-axis .result) (c .before .before .before .before .before .before .if2 .left)) (put .last .0)
           (rw (c .before .before .placed-by .ensures, c .before .before .before .before .resolve-line-names .ensures, c .before .before .before .before .before .line-placement .ensures, c .before .before .before .before .before .before .before .before .placement-at .ensures, c .before .before .before .before .before .before .before .before .before .before .placement-words .ensures) at (put .ensures)) ∙ l .inv .1,
       omega (arith, c .before .before .before .before .before .before .before .before .before .before .before .if1 .taken),

@@ -23,7 +23,7 @@ joined-requires c κs = search needs
 
 -- src/line.rt:140:5
 returns : tie.Need-returns
-returns c = let z = c .before .before .before .args .line in let e : c .joined .result ≡ held z = c .joined .ensures ∙ ap sixteenBits (c .before .hold .ensures ∙ ap held (c .before .before .split .ensures ∙ toZ-ofZ (c .before .before .before .fits .line))) ∙ sixteen-held z in rw (e, toZ-ofZ (held-fits z))
+returns c = let z = c .before .before .before .args .line in let e : c .joined .result ≡ held z = c .joined .ensures ∙ ap sixteenBits (c .before .hold .ensures .line ∙ ap held (c .before .before .split .ensures ∙ toZ-ofZ (c .before .before .before .fits .line))) ∙ sixteen-held z in rw (e, toZ-ofZ (held-fits z))
 
 pub clamped-spec : {M : Type 1} → statement M
 clamped-spec = tie.close (tie.spec split-requires hold-requires joined-requires returns)
