@@ -65,7 +65,7 @@ back-and-there-before n g h w =
     ap (toGridLine n) (ap held (uncut-out n g h) ∙ held-same (negsuc (g - suc n)) w) ∙ ap negsuc (omega arith)
 
 -- order: holding keeps it, and so does the conversion on each side of 0
-held-ordered : (a b : ℤ) → a ≤ℤ b → held a ≤ℤ held b
+pub held-ordered : (a b : ℤ) → a ≤ℤ b → held a ≤ℤ held b
 held-ordered (pos a) (pos b) h = let q : a ≤ b = leb→le a b (h .le) in record { le = le→leb (min a 10000) (min b 10000) (omega arith) }
 held-ordered (pos a) (negsuc b) h = absurd (h .le)
 held-ordered (negsuc a) (pos b) h = record { le = tt }

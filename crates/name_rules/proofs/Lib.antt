@@ -10,3 +10,5 @@ pub mod Order
 pub mod Cases
 pub mod Written
 pub mod Walk
+pub mod OneMore
+pub mod OneMoreCases

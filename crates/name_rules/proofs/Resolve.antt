@@ -34,7 +34,7 @@ held-line c = rw (c .limited) (held-within (c .line))
 
 module _ (x : AxisNames) (small : x .explicit ≤ 10000) where
   -- where every line of a name is explicit, the implementation's marks are those that CSS counts
-  all-marked : (nm : Bytes) → NameLies x nm → Marked x nm (marks (x .explicit) (named? x) nm)
+  pub all-marked : (nm : Bytes) → NameLies x nm → Marked x nm (marks (x .explicit) (named? x) nm)
   all-marked nm lies =
       record {
         to = λ k t. let n : Named x nm (suc k) = named→ x nm (suc k) t in (lies k n, n);

@@ -6,3 +6,5 @@ pub mod Rule
 pub mod Template
 pub mod Walk
 pub mod Cases
+pub mod OneMore
+pub mod OneMoreCases

@@ -37,7 +37,7 @@ length-store v es store h =
     ∙ omega arith
 
 -- what the table does not refuse has a short name and a line from 1 to 20,000, and fits
-table-accepted : (count used line : ℕ) (name : Bytes) → tableRefusal count used line name ≡ 0 → Accepted 4096 32768 count used line name
+pub table-accepted : (count used line : ℕ) (name : Bytes) → tableRefusal count used line name ≡ 0 → Accepted 4096 32768 count used line name
 table-accepted count used line name ok = accepted 4096 32768 count used line name (table-refusal 32768 count used line name (omega arith) ∙ ok)
 
 -- one entry in range more

@@ -65,6 +65,16 @@ module _ (a : Axis) (v : AxisView) where
   added-first : (calls : List Call) → addedAfter [] calls ≡ addedFrom (length (entryWords v)) (length (axisBytes v)) a calls
   added-first calls = rw (add-zero (length (entryWords v)), append-nil (axisBytes v))
 
+  -- one call more after the others
+  added-more : (es : List Entry) (calls : List Call) (c : Call)
+      → es ++ addedAfter es (calls ++ (c ∷ [])) ≡ entriesWith a v (es ++ addedAfter es calls) c
+  unfolding addedFrom
+  added-more es [] c = added-next es c [] ∙ append-nil (entriesWith a v es c) ∙ ap (λ (l : List Entry). entriesWith a v l c) (sym (append-nil es))
+  added-more es (d ∷ calls) c =
+      added-next es d (calls ++ (c ∷ []))
+      ∙ added-more (entriesWith a v es d) calls c
+      ∙ ap (λ (l : List Entry). entriesWith a v l c) (sym (added-next es d calls))
+
 -- on an axis of a sheet without fault, no further entries at all fit
 sheet-fit : (s : List ℕ) → sheetOf s .fault ≡ 0 → (a : Axis) → EntriesFit (sheetAxis s a) []
 sheet-fit s ok a =
@@ -78,6 +88,13 @@ sheet-fit s ok a =
 pub added-fit : (s : List ℕ) → sheetOf s .fault ≡ 0 → (a : Axis) (calls : List Call) → EntriesFit (sheetAxis s a) (added s a calls)
 added-fit s ok a calls =
     subst (EntriesFit (sheetAxis s a)) (added-first a (sheetAxis s a) calls) (added-fits a (sheetAxis s a) [] calls (sheet-fit s ok a))
+
+-- one call more adds its entry last, where it is on that axis and the table refuses nothing
+pub added-last : (s : List ℕ) (a : Axis) (calls : List Call) (c : Call) → added s a (calls ++ (c ∷ [])) ≡ entriesWith a (sheetAxis s a) (added s a calls) c
+added-last s a calls c =
+    sym (added-first a (sheetAxis s a) (calls ++ (c ∷ [])))
+    ∙ added-more a (sheetAxis s a) [] calls c
+    ∙ ap (λ (l : List Entry). entriesWith a (sheetAxis s a) l c) (added-first a (sheetAxis s a) calls)
 
 -- ---- the calls on both
 module _ (v : PanelView) (t : Tables) (long : shortStores t ≡ false) where

@@ -26,6 +26,8 @@ pub mod Order
 pub mod Tracks
 pub mod Runs
 pub mod Invalid
+--   one more name: `one-more-name`
+pub mod OneMoreName
 pub mod RegularTest
 pub mod Worked
 --   columns alone: `columns-alone`

@@ -9,4 +9,5 @@ pub mod Order
 pub mod Ranges
 pub mod Alone
 pub mod Invalid
+pub mod OneMoreName
 pub mod Worked
