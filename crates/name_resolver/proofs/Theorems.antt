@@ -6,7 +6,7 @@ use Prim.Native.Nat.{ℕ, _≤_, _<_}
 use borrow.Author.Tests.{le-leb, lt-leb}
 use lib.Dec.{leb}
 use Rattle.coordinates.specs.Refusals.{noRefusal, refusalOf, count}
-use Rattle.name_rules.specs.Css.{AxisNames, Placement, Resolved, free, atLine, spanning, ResolvedEnds, CssEnds}
+use Rattle.name_rules.specs.Css.{Side, start, end, AxisNames, Placement, Resolved, free, atLine, spanning, ResolvedEnds, CssEnds}
 use Rattle.name_rules.specs.CssMarks.{HeldEnds, CssMarks}
 use Rattle.name_rules.specs.Conditions.{UsedNamesLie, SameNames, AgreeOn}
 use Rattle.name_rules.specs.Rule.{named?, resolve, heldEnds}
@@ -39,24 +39,24 @@ module _ (x : AxisNames) (names : List ℕ) (l : Line) where
   resolution-refused h = rw (lt-leb (x .explicit) 10000 h)
 
   -- (a) where the lines of the names that the placement uses are explicit and no end writes line 0, the answer is what CSS counts to
-  pub resolve-line-names-css : x .explicit ≤ 10000 → UsedNamesLie x (placementOf names (l .start)) → UsedNamesLie x (placementOf names (l .end))
+  pub resolve-line-names-css : x .explicit ≤ 10000 → UsedNamesLie x start (placementOf names (l .start)) → UsedNamesLie x end (placementOf names (l .end))
       → CssEnds x (placementOf names (l .start)) (placementOf names (l .end)) (resolvedEnds (resolutionOf x names l .line))
   resolve-line-names-css h p q =
       rw (resolution-accepted h, ends-back (resolve (x .explicit) (named? x) (placementOf names (l .start)) (placementOf names (l .end))))
       (resolve-css x h (placementOf names (l .start)) (placementOf names (l .end)) p q)
 
   -- and CSS counts to nothing else
-  pub resolve-line-names-only : x .explicit ≤ 10000 → UsedNamesLie x (placementOf names (l .start)) → UsedNamesLie x (placementOf names (l .end))
+  pub resolve-line-names-only : x .explicit ≤ 10000 → UsedNamesLie x start (placementOf names (l .start)) → UsedNamesLie x end (placementOf names (l .end))
       → (t : ResolvedEnds) → CssEnds x (placementOf names (l .start)) (placementOf names (l .end)) t → resolvedEnds (resolutionOf x names l .line) ≡ t
   resolve-line-names-only h p q t c =
       ends-unique x (placementOf names (l .start)) (placementOf names (l .end)) (resolvedEnds (resolutionOf x names l .line)) t (resolve-line-names-css h p q) c
 
   -- and its marks are those of CSS's counting, which has no others
-  pub resolve-line-names-marks : x .explicit ≤ 10000 → UsedNamesLie x (placementOf names (l .start)) → UsedNamesLie x (placementOf names (l .end))
+  pub resolve-line-names-marks : x .explicit ≤ 10000 → UsedNamesLie x start (placementOf names (l .start)) → UsedNamesLie x end (placementOf names (l .end))
       → CssMarks x (placementOf names (l .start)) (placementOf names (l .end)) (heldMarks (resolutionOf x names l .held))
   resolve-line-names-marks h p q = rw (resolution-accepted h) (marks-css x h (placementOf names (l .start)) (placementOf names (l .end)) p q)
 
-  pub resolve-line-names-marked : x .explicit ≤ 10000 → UsedNamesLie x (placementOf names (l .start)) → UsedNamesLie x (placementOf names (l .end))
+  pub resolve-line-names-marked : x .explicit ≤ 10000 → UsedNamesLie x start (placementOf names (l .start)) → UsedNamesLie x end (placementOf names (l .end))
       → (t : HeldEnds) → CssMarks x (placementOf names (l .start)) (placementOf names (l .end)) t → heldMarks (resolutionOf x names l .held) ≡ t
   resolve-line-names-marked h p q t c =
       marks-unique x (placementOf names (l .start)) (placementOf names (l .end)) (heldMarks (resolutionOf x names l .held)) t (resolve-line-names-marks h p q) c
@@ -76,7 +76,7 @@ resolve-line-names-same x y names l s =
 
 -- only which lines bear the names that the placement uses counts
 pub resolve-line-names-agrees : (x y : AxisNames) (names : List ℕ) (l : Line) → x .explicit ≡ y .explicit
-    → AgreeOn (named? x) (named? y) (placementOf names (l .start)) → AgreeOn (named? x) (named? y) (placementOf names (l .end))
+    → AgreeOn (named? x) (named? y) start (placementOf names (l .start)) → AgreeOn (named? x) (named? y) end (placementOf names (l .end))
     → resolutionOf x names l ≡ resolutionOf y names l
 unfolding resolutionOf
 resolve-line-names-agrees x y names l e f g =

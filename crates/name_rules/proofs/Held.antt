@@ -30,7 +30,7 @@ module _ (x : AxisNames) (small : x .explicit ≤ 10000) where
       rw (there-and-back (x .explicit) (negsuc l) h) (beside-line nm n (negsuc l) _ m has mark (span-counts x small s nm (negsuc l) n lies h))
 
   -- one end p, beside the other, b
-  end-marked : (s : Side) (b p : Placement) → UsedNamesLie x b → UsedNamesLie x p → MarkedBy x s b p (endHeld (x .explicit) (named? x) s b p)
+  end-marked : (s : Side) (b p : Placement) → UsedNamesLie x (other s) b → UsedNamesLie x s p → MarkedBy x s b p (endHeld (x .explicit) (named? x) s b p)
   end-marked s b auto ub up = of-auto
   end-marked s b (line g) ub up = of-line (line g) _ (of-number g (up .nonzero))
   end-marked s b (span n) ub up = of-span n
@@ -50,7 +50,7 @@ module _ (x : AxisNames) (small : x .explicit ≤ 10000) where
       beside-mark s nm n (named k i) (held (found (x .explicit) (named? x) k (other s) i)) _ (up .lies nm (List·Memᴰ·head refl)) (held-within (found (x .explicit) (named? x) k (other s) i))
       (by-name k i _ (record { line = _; found = f; limited = refl })) (of-name k i _ f)
 
-  pub marks-css : (p q : Placement) → UsedNamesLie x p → UsedNamesLie x q → CssMarks x p q (heldEnds (x .explicit) (named? x) p q)
+  pub marks-css : (p q : Placement) → UsedNamesLie x start p → UsedNamesLie x end q → CssMarks x p q (heldEnds (x .explicit) (named? x) p q)
   marks-css p q up uq = record { first = end-marked start q p uq up; last = end-marked end p q up uq }
 
 -- so are those of every placement that writes no line 0, where every name lies on an explicit line

@@ -316,17 +316,17 @@ module _ (x y : AxisNames) (e : Entry) (more : OneMoreEntry x y e) where
     )
 
     -- an end that does not use the name
-    agree-on : (p : Placement) → (List·Memᴰ (e .name) (usedNames p) → ⊥) → AgreeOn (named? y) (named? x) p
-    agree-on p out nm m l = sym (agree-else nm (λ h. out (rw h at m)) l)
+    agree-on : (s : Side) (p : Placement) → (List·Memᴰ (e .name) (usedNames s p) → ⊥) → AgreeOn (named? y) (named? x) s p
+    agree-on s p out nm m l = sym (agree-else nm (λ h. out (rw h at m)) l)
 
-    others-stay : (p q : Placement) → (List·Memᴰ (e .name) (usedNames p) → ⊥) → (List·Memᴰ (e .name) (usedNames q) → ⊥)
+    others-stay : (p q : Placement) → (List·Memᴰ (e .name) (usedNames start p) → ⊥) → (List·Memᴰ (e .name) (usedNames end q) → ⊥)
         → (resolve (y .explicit) (named? y) p q ≡ resolve (x .explicit) (named? x) p q)
         × (heldEnds (y .explicit) (named? y) p q ≡ heldEnds (x .explicit) (named? x) p q)
     others-stay p q hp hq = (
       ap (λ (n : ℕ). resolve n (named? y) p q) (more .explicit)
-          ∙ resolve-agrees-on (x .explicit) (named? y) (named? x) p q (agree-on p hp) (agree-on q hq),
+          ∙ resolve-agrees-on (x .explicit) (named? y) (named? x) p q (agree-on start p hp) (agree-on end q hq),
       ap (λ (n : ℕ). heldEnds n (named? y) p q) (more .explicit)
-          ∙ held-agrees-on (x .explicit) (named? y) (named? x) p q (agree-on p hp) (agree-on q hq),
+          ∙ held-agrees-on (x .explicit) (named? y) (named? x) p q (agree-on start p hp) (agree-on end q hq),
     )
 
     -- document 02, request 13

@@ -19,22 +19,22 @@ module _ (explicit : ℕ) (a b : Bytes → ℕ → Bool) where
   same-marks : (nm : Bytes) → Agree a b nm → marks explicit a nm ≡ marks explicit b nm
   same-marks nm h = fun-ext λ l. h l
 
-  same-found : (nm : Bytes) (s : Side) (i : ℤ) → AgreeOn a b (named nm i) → found explicit a nm s i ≡ found explicit b nm s i
+  same-found : (nm : Bytes) (s : Side) (i : ℤ) → AgreeOn a b s (named nm i) → found explicit a nm s i ≡ found explicit b nm s i
   same-found nm s (pos zero) h =
       ap (λ (f : ℕ → Bool). orFirst explicit a nm (seek f top 0 0)) (same-marks (nm ++ suffix s) (h (nm ++ suffix s) (the-edge nm s)))
       ∙ go (seek (marks explicit b (nm ++ suffix s)) top 0 0)
     where
       go : (r : Seek) → orFirst explicit a nm r ≡ orFirst explicit b nm r
       go (at l) = refl
-      go (left r) = ap (λ (f : ℕ → Bool). forwards explicit f (pos 0) 0) (same-marks nm (h nm (the-name nm (pos zero))))
-  same-found nm s (pos (suc i)) h = ap (λ (f : ℕ → Bool). forwards explicit f (pos 0) i) (same-marks nm (h nm (the-name nm (pos (suc i)))))
-  same-found nm s (negsuc i) h = ap (λ (f : ℕ → Bool). backwards explicit f (pos explicit) i) (same-marks nm (h nm (the-name nm (negsuc i))))
+      go (left r) = ap (λ (f : ℕ → Bool). forwards explicit f (pos 0) 0) (same-marks nm (h nm (the-name nm s (pos zero))))
+  same-found nm s (pos (suc i)) h = ap (λ (f : ℕ → Bool). forwards explicit f (pos 0) i) (same-marks nm (h nm (the-name nm s (pos (suc i)))))
+  same-found nm s (negsuc i) h = ap (λ (f : ℕ → Bool). backwards explicit f (pos explicit) i) (same-marks nm (h nm (the-name nm s (negsuc i))))
 
   same-span : (s : Side) (nm : Bytes) (n : ℕ) (o : ℤ) → Agree a b nm → spanCounted explicit a s nm n o ≡ spanCounted explicit b s nm n o
   same-span start nm n o h = ap (λ (f : ℕ → Bool). backwards explicit f (o -ℤ pos 1) (pred n)) (same-marks nm h)
   same-span end nm n o h = ap (λ (f : ℕ → Bool). forwards explicit f (o +ℤ pos 1) (pred n)) (same-marks nm h)
 
-  same-numbered : (s : Side) (p : Placement) → AgreeOn a b p → numbered explicit a s p ≡ numbered explicit b s p
+  same-numbered : (s : Side) (p : Placement) → AgreeOn a b s p → numbered explicit a s p ≡ numbered explicit b s p
   same-numbered s auto h = refl
   same-numbered s (line g) h = refl
   same-numbered s (named nm i) h = ap (λ (l : ℤ). line (toGridLine explicit (held l))) (same-found nm s i h)
@@ -47,7 +47,7 @@ module _ (explicit : ℕ) (a b : Bytes → ℕ → Bool) where
   same-beside s nm n (pos (suc g)) h = ap (λ (l : ℤ). atLine (toGridLine explicit (held l))) (same-span s nm n (toOriginZero explicit (pos (suc g))) h)
   same-beside s nm n (negsuc g) h = ap (λ (l : ℤ). atLine (toGridLine explicit (held l))) (same-span s nm n (toOriginZero explicit (negsuc g)) h)
 
-  same-resolved : (s : Side) (g : ℤ) (p : Placement) → AgreeOn a b p
+  same-resolved : (s : Side) (g : ℤ) (p : Placement) → AgreeOn a b s p
       → resolved explicit a s g (numbered explicit a s p) ≡ resolved explicit b s g (numbered explicit b s p)
   same-resolved s g auto h = refl
   same-resolved s g (line l) h = refl
@@ -56,7 +56,7 @@ module _ (explicit : ℕ) (a b : Bytes → ℕ → Bool) where
   same-resolved s g (nspan nm n) h = same-beside s nm n g (h nm (List·Memᴰ·head refl))
 
   -- names that a placement does not use have no part in it
-  pub resolve-agrees-on : (p q : Placement) → AgreeOn a b p → AgreeOn a b q → resolve explicit a p q ≡ resolve explicit b p q
+  pub resolve-agrees-on : (p q : Placement) → AgreeOn a b start p → AgreeOn a b end q → resolve explicit a p q ≡ resolve explicit b p q
   resolve-agrees-on p q hp hq =
       let f = same-resolved start (lineAt (numbered explicit a end q)) p hp
       ∙ ap (λ (o : Placement). resolved explicit b start (lineAt o) (numbered explicit b start p)) (same-numbered end q hq) in
@@ -65,7 +65,7 @@ module _ (explicit : ℕ) (a b : Bytes → ℕ → Bool) where
       λ i. record { first = f i; last = l i }
 
   -- nor in its marks
-  same-line-held : (s : Side) (p : Placement) → AgreeOn a b p → lineHeld explicit a s p ≡ lineHeld explicit b s p
+  same-line-held : (s : Side) (p : Placement) → AgreeOn a b s p → lineHeld explicit a s p ≡ lineHeld explicit b s p
   same-line-held s auto h = refl
   same-line-held s (line g) h = refl
   same-line-held s (named nm i) h = ap outside (same-found nm s i h)
@@ -78,20 +78,20 @@ module _ (explicit : ℕ) (a b : Bytes → ℕ → Bool) where
   same-beside-held s nm n (pos (suc g)) m h = ap (λ (l : ℤ). m || outside l) (same-span s nm n (toOriginZero explicit (pos (suc g))) h)
   same-beside-held s nm n (negsuc g) m h = ap (λ (l : ℤ). m || outside l) (same-span s nm n (toOriginZero explicit (negsuc g)) h)
 
-  same-mark : (s : Side) (g : ℤ) (m : Bool) (p : Placement) → AgreeOn a b p → markOf explicit a s g m p ≡ markOf explicit b s g m p
+  same-mark : (s : Side) (g : ℤ) (m : Bool) (p : Placement) → AgreeOn a b s p → markOf explicit a s g m p ≡ markOf explicit b s g m p
   same-mark s g m auto h = refl
   same-mark s g m (line l) h = refl
   same-mark s g m (named nm i) h = same-line-held s (named nm i) h
   same-mark s g m (span n) h = refl
   same-mark s g m (nspan nm n) h = same-beside-held s nm n g m (h nm (List·Memᴰ·head refl))
 
-  same-end-held : (s : Side) (o p : Placement) → AgreeOn a b o → AgreeOn a b p → endHeld explicit a s o p ≡ endHeld explicit b s o p
+  same-end-held : (s : Side) (o p : Placement) → AgreeOn a b (other s) o → AgreeOn a b s p → endHeld explicit a s o p ≡ endHeld explicit b s o p
   same-end-held s o p ho hp =
       same-mark s (lineAt (numbered explicit a (other s) o)) (lineHeld explicit a (other s) o) p hp
       ∙ ap (λ (q : Placement). markOf explicit b s (lineAt q) (lineHeld explicit a (other s) o) p) (same-numbered (other s) o ho)
       ∙ ap (λ (m : Bool). markOf explicit b s (lineAt (numbered explicit b (other s) o)) m p) (same-line-held (other s) o ho)
 
-  pub held-agrees-on : (p q : Placement) → AgreeOn a b p → AgreeOn a b q → heldEnds explicit a p q ≡ heldEnds explicit b p q
+  pub held-agrees-on : (p q : Placement) → AgreeOn a b start p → AgreeOn a b end q → heldEnds explicit a p q ≡ heldEnds explicit b p q
   held-agrees-on p q hp hq =
       let f = same-end-held start q p hq hp in
       let l = same-end-held end p q hp hq in

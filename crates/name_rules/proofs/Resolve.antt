@@ -18,15 +18,14 @@ use Rattle.name_rules.proofs.Counting.{nearest-same, seek-first, seek-n
 use Rattle.name_rules.proofs.Lines.{Marked, forwards-index, forwards-span, backwards-index, backwards-span}
 use Rattle.name_rules.proofs.Names.{named→, →named}
 
--- a named line uses its name, and without a number its edges too
-pub the-name : (nm : Bytes) (i : ℤ) → List·Memᴰ nm (usedNames (named nm i))
-the-name nm (pos zero) = List·Memᴰ·head refl
-the-name nm (pos (suc i)) = List·Memᴰ·head refl
-the-name nm (negsuc i) = List·Memᴰ·head refl
+-- a named line uses its name, and without a number the edge of its own side too
+pub the-name : (nm : Bytes) (s : Side) (i : ℤ) → List·Memᴰ nm (usedNames s (named nm i))
+the-name nm s (pos zero) = List·Memᴰ·head refl
+the-name nm s (pos (suc i)) = List·Memᴰ·head refl
+the-name nm s (negsuc i) = List·Memᴰ·head refl
 
-pub the-edge : (nm : Bytes) (s : Side) → List·Memᴰ (nm ++ suffix s) (usedNames (named nm (pos zero)))
-the-edge nm start = List·Memᴰ·tail (List·Memᴰ·head refl)
-the-edge nm end = List·Memᴰ·tail (List·Memᴰ·tail (List·Memᴰ·head refl))
+pub the-edge : (nm : Bytes) (s : Side) → List·Memᴰ (nm ++ suffix s) (usedNames s (named nm (pos zero)))
+the-edge nm s = List·Memᴰ·tail (List·Memᴰ·head refl)
 
 -- a line that CSS counts to is held
 pub held-line : {x : AxisNames} {nm : Bytes} {s : Side} {i l : ℤ} → CssLine x nm s i l → Within l
@@ -42,7 +41,7 @@ module _ (x : AxisNames) (small : x .explicit ≤ 10000) where
       }
 
   -- a named line
-  pub found-css : (nm : Bytes) (s : Side) (i : ℤ) → ((n : Bytes) → List·Memᴰ n (usedNames (named nm i)) → NameLies x n)
+  pub found-css : (nm : Bytes) (s : Side) (i : ℤ) → ((n : Bytes) → List·Memᴰ n (usedNames s (named nm i)) → NameLies x n)
       → CssFound x nm s i (found (x .explicit) (named? x) nm s i)
   found-css nm s (pos zero) lies = go (seek (marks (x .explicit) (named? x) (nm ++ suffix s)) top 0 0) refl
     where
@@ -54,13 +53,13 @@ module _ (x : AxisNames) (small : x .explicit ≤ 10000) where
       go (left r) e =
           bare _ (λ k n. seek-none (marks (x .explicit) (named? x) (nm ++ suffix s)) top 0 r e k (omega arith)
           (omega (arith, lies (nm ++ suffix s) (the-edge nm s) k n)) (→named x (nm ++ suffix s) (suc k) n))
-          (forwards-index x nm (marks (x .explicit) (named? x) nm) (all-marked nm (lies nm (the-name nm (pos zero)))) small 0)
+          (forwards-index x nm (marks (x .explicit) (named? x) nm) (all-marked nm (lies nm (the-name nm s (pos zero)))) small 0)
   found-css nm s (pos (suc i)) lies =
-      index i _ (forwards-index x nm (marks (x .explicit) (named? x) nm) (all-marked nm (lies nm (the-name nm (pos (suc i))))) small i)
+      index i _ (forwards-index x nm (marks (x .explicit) (named? x) nm) (all-marked nm (lies nm (the-name nm s (pos (suc i))))) small i)
   found-css nm s (negsuc i) lies =
-      back i _ (backwards-index x nm (marks (x .explicit) (named? x) nm) (all-marked nm (lies nm (the-name nm (negsuc i)))) small i)
+      back i _ (backwards-index x nm (marks (x .explicit) (named? x) nm) (all-marked nm (lies nm (the-name nm s (negsuc i)))) small i)
 
-  find-css : (nm : Bytes) (s : Side) (i : ℤ) → ((n : Bytes) → List·Memᴰ n (usedNames (named nm i)) → NameLies x n)
+  find-css : (nm : Bytes) (s : Side) (i : ℤ) → ((n : Bytes) → List·Memᴰ n (usedNames s (named nm i)) → NameLies x n)
       → CssLine x nm s i (held (found (x .explicit) (named? x) nm s i))
   find-css nm s i lies = record { line = _; found = found-css nm s i lies; limited = refl }
 
@@ -83,7 +82,7 @@ module _ (x : AxisNames) (small : x .explicit ≤ 10000) where
       rw (there-and-back (x .explicit) (negsuc l) h) (to-span nm n (negsuc l) _ has (span-css s nm (negsuc l) n lies h))
 
   -- one end p, beside the other, b
-  end-css : (s : Side) (b p : Placement) → UsedNamesLie x b → UsedNamesLie x p
+  end-css : (s : Side) (b p : Placement) → UsedNamesLie x (other s) b → UsedNamesLie x s p
       → ResolvesTo x s b p (resolved (x .explicit) (named? x) s (lineAt (numbered (x .explicit) (named? x) (other s) b)) (numbered (x .explicit) (named? x) s p))
   end-css s b auto ub up = left-auto
   end-css s b (line g) ub up = left-line g
@@ -104,7 +103,7 @@ module _ (x : AxisNames) (small : x .explicit ≤ 10000) where
       beside-css s nm n (named k i) _ (up .lies nm (List·Memᴰ·head refl)) (held-line c) (by-name k i _ c)
 
   -- a placement is resolved to what CSS counts to, where the lines of the names that it uses are explicit and it writes no line 0
-  pub resolve-css : (p q : Placement) → UsedNamesLie x p → UsedNamesLie x q → CssEnds x p q (resolve (x .explicit) (named? x) p q)
+  pub resolve-css : (p q : Placement) → UsedNamesLie x start p → UsedNamesLie x end q → CssEnds x p q (resolve (x .explicit) (named? x) p q)
   resolve-css p q up uq = record { first = end-css start q p uq up; last = end-css end p q up uq }
 
 -- so is every placement that writes no line 0, where every name lies on an explicit line

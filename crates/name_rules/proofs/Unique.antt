@@ -59,6 +59,6 @@ ends-unique x p q r t a b =
     λ i. record { first = f i; last = l i }
 
 -- so the rule's answer is the only one that CSS allows
-pub resolve-only : (x : AxisNames) → x .explicit ≤ 10000 → (p q : Placement) → UsedNamesLie x p → UsedNamesLie x q
+pub resolve-only : (x : AxisNames) → x .explicit ≤ 10000 → (p q : Placement) → UsedNamesLie x start p → UsedNamesLie x end q
     → (r : ResolvedEnds) → CssEnds x p q r → r ≡ resolve (x .explicit) (named? x) p q
 resolve-only x small p q up uq r c = ends-unique x p q r _ c (resolve-css x small p q up uq)

@@ -6,7 +6,7 @@ use Prim.Native.Nat.{ℕ, suc, _-_, _≤_}
 use lib.IntN.{ℤ, pos, negsuc}
 use lib.Signed.{_≤ℤ_}
 use Rattle.coordinates.specs.Lines.{held}
-use Rattle.name_rules.specs.Css.{Bytes, Entry, Side, start, suffix, AxisNames, Named, Placement, other}
+use Rattle.name_rules.specs.Css.{Bytes, Entry, Side, start, end, suffix, AxisNames, Named, Placement, other}
 use Rattle.name_rules.specs.Conditions.{usedNames, NameLies, SameMembers}
 use Rattle.name_rules.specs.Rule.{named?, found, resolve, heldEnds}
 
@@ -35,7 +35,7 @@ pub record MovesLittle (x y : AxisNames) (e : Entry) : Type 0 where
   pub back-no-earlier : NameLies x (e .name) → (s : Side) (k : ℕ) → lineOfIndex x (e .name) s (negsuc k) ≤ℤ lineOfIndex y (e .name) s (negsuc k)
   pub back-no-later : NameLies x (e .name) → (s : Side) (k : ℕ) → lineOfIndex y (e .name) s (negsuc (suc k)) ≤ℤ lineOfIndex x (e .name) s (negsuc k)
   -- "placements using neither that name nor, through its suffix, its area are unchanged", the marks of held lines too
-  pub others : (p q : Placement) → (List·Memᴰ (e .name) (usedNames p) → ⊥) → (List·Memᴰ (e .name) (usedNames q) → ⊥)
+  pub others : (p q : Placement) → (List·Memᴰ (e .name) (usedNames start p) → ⊥) → (List·Memᴰ (e .name) (usedNames end q) → ⊥)
       → (resolve (y .explicit) (named? y) p q ≡ resolve (x .explicit) (named? x) p q)
       × (heldEnds (y .explicit) (named? y) p q ≡ heldEnds (x .explicit) (named? x) p q)
   -- "index 0 of that area either keeps its line or takes the new one"

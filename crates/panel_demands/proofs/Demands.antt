@@ -11,7 +11,6 @@ use lib.ListN.{length, getD, length-append}
 use Rattle.coordinates.specs.declared.axis.Axis.{Axis}
 use Rattle.coordinates.specs.Refusals.{noRefusal, refusalOf, count, short}
 use Rattle.name_rules.specs.Css.{Bytes, Entry, AxisNames, ResolvedEnds, CssEnds}
-use Rattle.name_rules.specs.Conditions.{UsedNamesLie}
 use Rattle.name_resolver.specs.Placements.{resolvedEnds, resolutionOf}
 use Rattle.name_resolver.proofs.Theorems.{resolution-accepted, resolution-refused}
 use Rattle.track_rules.specs.declared.GridTrack.{GridTrack}

@@ -12,7 +12,7 @@ use Rattle.coordinates.specs.Refusals.{noRefusal, refusalOf, count, short}
 use Rattle.sizing.specs.Words.{sizingOf}
 use Rattle.template_rules.specs.Template.{Component}
 use Rattle.template_rules.specs.Css.{Automatic, Valid, Repetitions}
-use Rattle.name_rules.specs.Css.{Bytes, Entry, AxisNames, ResolvedEnds, CssEnds}
+use Rattle.name_rules.specs.Css.{Bytes, start, end, Entry, AxisNames, ResolvedEnds, CssEnds}
 use Rattle.name_rules.specs.CssMarks.{HeldEnds, CssMarks}
 use Rattle.name_rules.specs.Conditions.{UsedNamesLie}
 use Rattle.name_resolver.specs.Placements.{heldMarks}
@@ -129,16 +129,16 @@ pub record SecondDemand (s : List ℕ) (t : Tables) (calls : List Call) : Type 0
   -- each placement under conditions on its own names only: what CSS counts to
   pub placed : (i : ℕ) → i < length (sheetOf s .view .placements)
       → let p = placementAt (sheetOf s .view) i in let x = namesAfter (sheetOf s .view) (p .axis) (added s (p .axis) calls) in
-      UsedNamesLie x (cssEnd (p .start)) → UsedNamesLie x (cssEnd (p .end)) → PlacedByCss x p (placementOf (runOf s t calls) i)
+      UsedNamesLie x start (cssEnd (p .start)) → UsedNamesLie x end (cssEnd (p .end)) → PlacedByCss x p (placementOf (runOf s t calls) i)
   -- its marks say which ends were held on the way there (document 02, Req 06)
   pub marked : (i : ℕ) → i < length (sheetOf s .view .placements)
       → let p = placementAt (sheetOf s .view) i in let x = namesAfter (sheetOf s .view) (p .axis) (added s (p .axis) calls) in
-      UsedNamesLie x (cssEnd (p .start)) → UsedNamesLie x (cssEnd (p .end))
+      UsedNamesLie x start (cssEnd (p .start)) → UsedNamesLie x end (cssEnd (p .end))
       → CssMarks x (cssEnd (p .start)) (cssEnd (p .end)) (heldMarks (placementOf (runOf s t calls) i .held))
   -- and nothing else
   pub only : (i : ℕ) → i < length (sheetOf s .view .placements)
       → let p = placementAt (sheetOf s .view) i in let x = namesAfter (sheetOf s .view) (p .axis) (added s (p .axis) calls) in
-      UsedNamesLie x (cssEnd (p .start)) → UsedNamesLie x (cssEnd (p .end))
+      UsedNamesLie x start (cssEnd (p .start)) → UsedNamesLie x end (cssEnd (p .end))
       → (r : ResolvedEnds) (h : HeldEnds) → CssEnds x (cssEnd (p .start)) (cssEnd (p .end)) r → CssMarks x (cssEnd (p .start)) (cssEnd (p .end)) h
       → placementOf (runOf s t calls) i ≡ answerAt p r h
   -- on any names: an end without a mark is where it would be if no line were ever held

@@ -115,11 +115,10 @@ module _ (s : List ℕ) (t : Tables) (calls : List Call) (c : Call) (more : OneM
       record {
         explicit = refl;
         areas = λ a. (λ m. m, λ m. m);
-        entries = λ d.
-            (
-              λ m. last-first (callEntry c) (entriesOf (sheetAxis s (c .axis))) (added s (c .axis) calls) d (rw entries-more at m),
-              λ m. rw entries-more (first-last (callEntry c) (entriesOf (sheetAxis s (c .axis))) (added s (c .axis) calls) d m),
-            );
+        entries = λ d. (
+          λ m. last-first (callEntry c) (entriesOf (sheetAxis s (c .axis))) (added s (c .axis) calls) d (rw entries-more at m),
+          λ m. rw entries-more (first-last (callEntry c) (entriesOf (sheetAxis s (c .axis))) (added s (c .axis) calls) d m),
+        );
         first = table-accepted _ _ (c .line) (c .name) free .from;
         last = more .explicit;
       }
@@ -134,11 +133,10 @@ module _ (s : List ℕ) (t : Tables) (calls : List Call) (c : Call) (more : OneM
       go : (b : Bool) → sameAxis (placementAt (sheetOf s .view) i .axis) (c .axis) ≡ b → Unused c (placementAt (sheetOf s .view) i)
           → (resolvedOver (sheetOf s .view) i (namesAt s (withCall calls c) (placementAt (sheetOf s .view) i .axis)) ≡ resolvedOver (sheetOf s .view) i (namesAt s calls (placementAt (sheetOf s .view) i .axis)))
           × (markedOver (sheetOf s .view) i (namesAt s (withCall calls c) (placementAt (sheetOf s .view) i .axis)) ≡ markedOver (sheetOf s .view) i (namesAt s calls (placementAt (sheetOf s .view) i .axis)))
-      go false e w =
-          (
-            ap (λ (es : List Entry). resolvedOver (sheetOf s .view) i (namesAfter (sheetOf s .view) (placementAt (sheetOf s .view) i .axis) es)) (entries-else (placementAt (sheetOf s .view) i .axis) e),
-            ap (λ (es : List Entry). markedOver (sheetOf s .view) i (namesAfter (sheetOf s .view) (placementAt (sheetOf s .view) i .axis) es)) (entries-else (placementAt (sheetOf s .view) i .axis) e),
-          )
+      go false e w = (
+        ap (λ (es : List Entry). resolvedOver (sheetOf s .view) i (namesAfter (sheetOf s .view) (placementAt (sheetOf s .view) i .axis) es)) (entries-else (placementAt (sheetOf s .view) i .axis) e),
+        ap (λ (es : List Entry). markedOver (sheetOf s .view) i (namesAfter (sheetOf s .view) (placementAt (sheetOf s .view) i .axis) es)) (entries-else (placementAt (sheetOf s .view) i .axis) e),
+      )
       go true e (elsewhere w) = absurd (w (same-axis (placementAt (sheetOf s .view) i .axis) (c .axis) e))
       go true e (unnamed f l) =
           let h : placementAt (sheetOf s .view) i .axis ≡ c .axis = same-axis (placementAt (sheetOf s .view) i .axis) (c .axis) e in

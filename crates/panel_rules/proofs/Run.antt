@@ -8,7 +8,7 @@ use borrow.Author.Tests.{lt-ltb}
 use lib.ListN.{length, getD}
 use lib.Dec.{ltb}
 use Rattle.coordinates.specs.declared.axis.Axis.{Axis}
-use Rattle.name_rules.specs.Css.{Bytes, Entry, AxisNames, Placement as CssPlacement, Resolved, free, atLine, spanning, ResolvedEnds, CssEnds}
+use Rattle.name_rules.specs.Css.{Bytes, start, end, Entry, AxisNames, Placement as CssPlacement, Resolved, free, atLine, spanning, ResolvedEnds, CssEnds}
 use Rattle.name_rules.specs.CssMarks.{HeldEnds, CssMarks}
 use Rattle.name_rules.specs.Css as Css
 use Rattle.name_rules.specs.Conditions.{UsedNamesLie, NoZero}
@@ -69,17 +69,17 @@ module _ (v : PanelView) (es : Axis → List Entry) (i : ℕ) (held : i < length
       ∙ ap₂ (answerAt p) (ends-unique y (cssEnd (p .start)) (cssEnd (p .end)) (ruled y) t c d) (marks-unique y (cssEnd (p .start)) (cssEnd (p .end)) (marked y) h m n)
 
   -- each placement under conditions on its own names only
-  pub placement-css : x .explicit ≤ 10000 → UsedNamesLie x (cssEnd (p .start)) → UsedNamesLie x (cssEnd (p .end))
+  pub placement-css : x .explicit ≤ 10000 → UsedNamesLie x start (cssEnd (p .start)) → UsedNamesLie x end (cssEnd (p .end))
       → PlacedByCss x p (placementAfter v es i)
   placement-css h a b = by-css x refl (resolve-css x h (cssEnd (p .start)) (cssEnd (p .end)) a b)
 
   -- and its marks
-  pub placement-marks : x .explicit ≤ 10000 → UsedNamesLie x (cssEnd (p .start)) → UsedNamesLie x (cssEnd (p .end))
+  pub placement-marks : x .explicit ≤ 10000 → UsedNamesLie x start (cssEnd (p .start)) → UsedNamesLie x end (cssEnd (p .end))
       → CssMarks x (cssEnd (p .start)) (cssEnd (p .end)) (heldMarks (placementAfter v es i .held))
   placement-marks h a b = by-marks x refl (marks-css x h (cssEnd (p .start)) (cssEnd (p .end)) a b)
 
   -- and CSS comes to nothing else
-  pub placement-only : x .explicit ≤ 10000 → UsedNamesLie x (cssEnd (p .start)) → UsedNamesLie x (cssEnd (p .end))
+  pub placement-only : x .explicit ≤ 10000 → UsedNamesLie x start (cssEnd (p .start)) → UsedNamesLie x end (cssEnd (p .end))
       → (t : ResolvedEnds) (h : HeldEnds) → CssEnds x (cssEnd (p .start)) (cssEnd (p .end)) t → CssMarks x (cssEnd (p .start)) (cssEnd (p .end)) h
       → placementAfter v es i ≡ answerAt p t h
   placement-only h a b = by-ends x refl (resolve-css x h (cssEnd (p .start)) (cssEnd (p .end)) a b) (marks-css x h (cssEnd (p .start)) (cssEnd (p .end)) a b)

@@ -30,7 +30,7 @@ withCall calls c = calls ++ (c ∷ [])
 -- a placement that does not use the name of a call: it is of the other axis, or neither of its ends uses the name
 pub data Unused (c : Call) (p : Placement) : Type 0 where
   elsewhere : (p .axis ≡ c .axis → ⊥) → Unused c p
-  unnamed : (List·Memᴰ (c .name) (usedNames (cssEnd (p .start))) → ⊥) → (List·Memᴰ (c .name) (usedNames (cssEnd (p .end))) → ⊥) → Unused c p
+  unnamed : (List·Memᴰ (c .name) (usedNames start (cssEnd (p .start))) → ⊥) → (List·Memᴰ (c .name) (usedNames end (cssEnd (p .end))) → ⊥) → Unused c p
 
 -- the call is accepted, "on an explicit line"; no entry call changes the explicit count
 pub record OneMoreCall (s : List ℕ) (t : Tables) (calls : List Call) (c : Call) : Type 0 where
