@@ -45,8 +45,7 @@ pub(crate) fn write_pairs(
     requires { ⌜ tracks .place + 6 * tracks .count ≤ length (now words) ⌝ }
     ensures { λ _. ⌜ now (words .exit) ≡ sets (now (words .entry)) (tracks .place) (joined (axisPair (axisTracks grid) plan (templateIn grid (now (tables .entry))) (sparesIn grid (now (tables .entry))) (now (items .entry))) (tracks .first) (tracks .count)) ⌝ }
 {
-    let axis = axis_tracks(grid);
-    let counts = axis.counts;
+    let counts = axis_tracks(grid).counts;
     let negative = counts.negative_implicit as u64;
     let end = negative + plan.written as u64;
     let gutters = gutters_of(grid, plan);
