@@ -8,7 +8,7 @@ use lib.Dec.{eqb, ltb}
 use lib.ListN.{length, length-append}
 use borrow.Author.Tests.{ltb-false}
 use Rattle.axis_tables.specs.Runs.{bytesOf}
-use Rattle.axis_tables.specs.View.{Sizes, Piece, name, track, Repeat, Item, single, repeat, Unended, none, inside, AxisView, AxisOutcome, refused, accepted, tracksIn, tracksOf, componentsOf, NameRecord, nameOf, namesOf, axisNames, axisBytes, withTemplate, withItem, withPiece, withName, repeatKind, noRoom, emptyAxis, trackStep, repeatStep, endStep, nameStep, spareStep, itemStep, extraStep, axisStep}
+use Rattle.axis_tables.specs.View.{Sizes, Piece, name, track, Repeat, Item, single, repeat, Unended, none, inside, AxisView, AxisOutcome, refused, accepted, tracksIn, tracksOf, componentsOf, NameRecord, nameOf, namesOf, axisNames, axisBytes, withTemplate, withItem, withPiece, withName, repeatKind, noRoom, namedFault, emptyAxis, trackStep, repeatStep, endStep, nameStep, spareStep, itemStep, extraStep, axisStep}
 use Rattle.axis_tables.specs.Written.{recordWord}
 use Rattle.axis_tables.proofs.Runs.{bytes-more}
 use Rattle.axis_tables.proofs.Joins.{length-more}
@@ -126,7 +126,7 @@ name-kept v is none f n =
     let w : AxisView = withTemplate v is none in
     let ns : List NameRecord = namesOf is in
     let x : NameRecord = record { component = length (componentsOf is); place = 0; name = n } in
-    fits-cond (noRoom 4096 32768 (length ns) (length (bytesOf nameOf ns)) (length n)) (refused 8 w) (accepted (withName w none n)) (λ e. f)
+    fits-cond (noRoom 4096 32768 (length ns) (length (bytesOf nameOf ns)) (length n)) (refused (namedFault (length n) 8) w) (accepted (withName w none n)) (λ e. f)
     (λ e.
     let h : Room 4096 32768 (length ns) (length (bytesOf nameOf ns)) (length n) = room 4096 32768 (length ns) (length (bytesOf nameOf ns)) (length n) e in
     record {
@@ -142,7 +142,7 @@ name-kept v is (inside r) f n =
     let w : AxisView = withTemplate v is (inside r) in
     let ns : List NameRecord = namesOf (is ++ (repeat r ∷ [])) in
     let x : NameRecord = record { component = length (componentsOf is); place = length (tracksIn (r .pieces)) + 1; name = n } in
-    fits-cond (noRoom 4096 32768 (length ns) (length (bytesOf nameOf ns)) (length n)) (refused 8 w) (accepted (withName w (inside r) n)) (λ e. f)
+    fits-cond (noRoom 4096 32768 (length ns) (length (bytesOf nameOf ns)) (length n)) (refused (namedFault (length n) 8) w) (accepted (withName w (inside r) n)) (λ e. f)
     (λ e.
     let h : Room 4096 32768 (length ns) (length (bytesOf nameOf ns)) (length n) = room 4096 32768 (length ns) (length (bytesOf nameOf ns)) (length n) e in
     record {

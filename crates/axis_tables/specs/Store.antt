@@ -13,7 +13,7 @@ use Rattle.axis_tables.specs.declared.AxisRoom.{AxisRoom}
 use Rattle.axis_tables.specs.declared.AxisState.{AxisState}
 use Rattle.axis_tables.specs.declared.AxisReading.{AxisReading}
 use Rattle.axis_tables.specs.declared.AxisPut.{AxisPut}
-use Rattle.axis_tables.specs.View.{noRoom, repeatKind}
+use Rattle.axis_tables.specs.View.{noRoom, namedFault, repeatKind}
 
 -- ---- words
 
@@ -172,7 +172,7 @@ placeIn r = cond (eqb (r .kind) 0) 0 (r .length + 1)
 
 unfoldable pub putName : AxisState → AxisReading → List ℕ → List ℕ → List ℕ → InNames
 putName s r w b n =
-    cond (noRoom 4096 32768 (s .room .names) (s .room .used) (length n)) (record { answer = put 8 s r; words = w; bytes = b })
+    cond (noRoom 4096 32768 (s .room .names) (s .room .used) (length n)) (record { answer = put (namedFault (length n) 8) s r; words = w; bytes = b })
     (record {
       answer = put 0 (withNames s (s .room .names + 1) (s .room .used + length n)) r;
       words = set w (names + s .room .names) (nameWord (s .room .template .components) (placeIn r) (s .room .used) (length n));

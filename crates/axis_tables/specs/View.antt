@@ -183,6 +183,10 @@ endStep v = endBy v (v .unended)
 abbrev pub noRoom : ℕ → ℕ → ℕ → ℕ → ℕ → Bool
 noRoom most room names used length = cond (ltb 32 length) true (cond (leb most names) true (ltb room (used + length)))
 
+-- a fault beside a name of that length: "name: 1 to 32 bytes" is row 2, and the lowest number is answered
+abbrev pub namedFault : ℕ → ℕ → ℕ
+namedFault length fault = cond (ltb 32 length) 2 fault
+
 -- a name outside a repeat, or in one
 abbrev pub withName : AxisView → Unended → List ℕ → AxisView
 withName v none n = withItem v (single (name n))
@@ -191,7 +195,7 @@ withName v (inside r) n = withPiece v r (name n)
 -- 4,096 names and 32,768 bytes an axis; "names join the set before the next track or repeat"; `name` inside a repeat joins its sets
 unfoldable pub nameStep : AxisView → List ℕ → AxisOutcome
 nameStep v n =
-    cond (noRoom 4096 32768 (length (axisNames v)) (length (axisBytes v)) (length n)) (refused 8 v)
+    cond (noRoom 4096 32768 (length (axisNames v)) (length (axisBytes v)) (length n)) (refused (namedFault (length n) 8) v)
     (accepted (withName v (v .unended) n))
 
 -- at most 64 spare sizes an axis

@@ -4,7 +4,7 @@ ghost use Prim.Native.Nat.{_+_, _≤_};
 ghost use lib.ListN.{length};
 ghost use lib.Seq.{sets};
 ghost use Rattle.axis_tables.specs.Store.{InNames, placeIn, putName};
-ghost use Rattle.axis_tables.specs.View.{noRoom};
+ghost use Rattle.axis_tables.specs.View.{noRoom, namedFault};
 ghost use Rattle.axis_tables.specs.Runs.{putBytes, partOf};
 use crate::AxisPut;
 use crate::AxisReading;
@@ -86,6 +86,16 @@ pub fn no_room(most: u32, room: u32, names: u32, used: u32, length: usize) -> bo
     (room as usize) < used as usize + length
 }
 
+// A fault beside a name of that length: a name of more than 32 bytes is 2, the lowest number.
+pub fn named_fault(length: usize, fault: u32) -> u32
+    ensures { λ r. ⌜ r ≡ namedFault length fault ⌝ }
+{
+    if 32 < length {
+        return 2;
+    }
+    fault
+}
+
 // Where a name stands: 0 outside a repeat, one more than the tracks before it in the open repeat.
 fn place_in(reading: AxisReading) -> u64
     ensures { λ r. ⌜ r ≡ placeIn reading ⌝ }
@@ -96,7 +106,7 @@ fn place_in(reading: AxisReading) -> u64
     reading.length as u64 + 1
 }
 
-// A name: its word is the next, and its bytes follow those of the names before it. 8: it has no room.
+// A name: its word is the next, and its bytes follow those of the names before it. 2: more than 32 bytes; 8: it has no room.
 pub fn put_name(
     state: AxisState,
     reading: AxisReading,
@@ -110,7 +120,7 @@ pub fn put_name(
     let names = state.room.names;
     let used = state.room.used;
     if no_room(4096, 32768, names, used, length) {
-        return put(8, state, reading);
+        return put(named_fault(length, 8), state, reading);
     }
     let word = name_word(
         state.room.template.components,

@@ -2,10 +2,12 @@
 ghost use mathlib.Core.Path.{_≡_};
 ghost use Prim.Native.Nat.{_≤_, max};
 ghost use Rattle.template_rules.specs.Template.{templateOf};
-ghost use Rattle.template_rules.specs.Explicit.{validOf, templateSizeOf, refusedSize, withAreas, innerValue, explicitSizeOf};
+ghost use Rattle.template_rules.specs.Explicit.{validOf, templateSizeOf, refusedSize, withAreas, innerValue, innerInRange, spaceInRange, crowdedBy, explicitAnswerOf};
 ghost use Rattle.template_rules.specs.Bounds.{Gathered};
 use crate::repetitions::automatic_repetitions;
 use sizing::Sizing;
+use sizing::range::number_in_range;
+use sizing::range::sizing_in_range;
 use template_rules::AutoRepeatStrategy;
 use template_rules::ExplicitSize;
 use template_rules::InnerSize;
@@ -101,7 +103,38 @@ fn inner_value(inner: InnerSize) -> f32
     }
 }
 
-// The explicit size of an axis, from the words of its template and the tracks that its areas span.
+// Whether an inner size is in range, where there is one.
+fn inner_in_range(inner: InnerSize) -> bool
+    ensures { λ r. ⌜ r ≡ innerInRange inner ⌝ }
+{
+    match inner {
+        InnerSize::Definite(x) => number_in_range(x),
+        InnerSize::Indefinite => true,
+    }
+}
+
+// Whether an inner size and a gap are in range.
+fn space_in_range(inner: InnerSize, gap: Sizing) -> bool
+    ensures { λ r. ⌜ r ≡ spaceInRange inner gap ⌝ }
+{
+    if inner_in_range(inner) {
+        return sizing_in_range(gap);
+    }
+    false
+}
+
+// The refusal of too many components: 4 where the areas alone pass 10,000 tracks, else 8.
+fn crowded_by(areas: u32) -> u32
+    ensures { λ r. ⌜ r ≡ crowdedBy areas ⌝ }
+{
+    if areas <= 10000 {
+        return coordinates::refusal::CROWDED;
+    }
+    coordinates::refusal::COUNT
+}
+
+// The explicit size of an axis, from the words of its template and the tracks that its areas span. Refuses an inner size or a gap out of
+// range by 3, more than 10,000 tracks by 4, and more than 64 components by 8.
 pub fn compute_explicit_grid_size_in_axis(
     components: &[u64],
     minimums: &[u64],
@@ -111,10 +144,13 @@ pub fn compute_explicit_grid_size_in_axis(
     gap: Sizing,
     areas: u32,
 ) -> ExplicitSize
-    ensures { λ r. ⌜ r ≡ explicitSizeOf inner strategy gap areas (templateOf (now (components .entry)) (now (minimums .entry)) (now (maximums .entry))) ⌝ }
+    ensures { λ r. ⌜ r ≡ explicitAnswerOf inner strategy gap areas (templateOf (now (components .entry)) (now (minimums .entry)) (now (maximums .entry))) ⌝ }
 {
+    if !space_in_range(inner, gap) {
+        return refused_size(coordinates::refusal::VALUE);
+    }
     if components.len() > 64 {
-        return refused_size(coordinates::refusal::CROWDED);
+        return refused_size(crowded_by(areas));
     }
     let summary = template_summary(
         components,

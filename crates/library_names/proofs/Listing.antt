@@ -32,14 +32,15 @@ module _ (explicit bytes : ℕ) where
   unfolding listsRefusal
   refused-not h k = rw (le-ltb 10000 explicit h, le-ltb bytes 32768 k)
 
-  -- what is not refused has few lines
-  pub unrefused : listsRefusal explicit bytes ≡ 0 → explicit ≤ 10000
+  -- what is not refused has few lines, and long stores
+  pub unrefused : listsRefusal explicit bytes ≡ 0 → (explicit ≤ 10000) × (32768 ≤ bytes)
   unfolding listsRefusal
-  unrefused = go (ltb 10000 explicit) (ltb bytes 32768) refl
+  unrefused = go (ltb 10000 explicit) (ltb bytes 32768) refl refl
     where
-      go : (a b : Bool) → ltb 10000 explicit ≡ a → cond a count (cond b short 0) ≡ 0 → explicit ≤ 10000
-      go true b e z = absurd (omega (arith, z))
-      go false b e z = ltb-false 10000 explicit e
+      go : (a b : Bool) → ltb 10000 explicit ≡ a → ltb bytes 32768 ≡ b → cond a count (cond b short 0) ≡ 0 → (explicit ≤ 10000) × (32768 ≤ bytes)
+      go true b e f z = absurd (omega (arith, z))
+      go false true e f z = absurd (omega (arith, z))
+      go false false e f z = (ltb-false 10000 explicit e, ltb-false bytes 32768 f)
 
 -- the words of an axis are 12,480 at most
 pub axis-long : (a : Axis) (words : List ℕ) → length (axisWordsIn a words) ≤ 12480
@@ -63,10 +64,11 @@ lists-fit a s words store =
 module _ (s : AxisGrid) (words store : List ℕ) (bytes : ℕ) (lent entries : List ℕ) (known : entries ≡ entryWordsIn s words)
     (number : ℕ) (told : number ≡ listsRefusal (s .size .explicit) bytes) where
   -- what a run that is not refused may ask for
-  pub lists-asked : number ≡ 0 → length words ≤ 12480 → length lent ≡ 4096 → (s .size .explicit ≤ 10000) × ((length entries ≤ 4096) × (length entries ≤ length lent))
-  lists-asked z n m =
+  pub lists-asked : number ≡ 0 → length words ≤ 12480 → (s .size .explicit ≤ 10000) × ((length entries ≤ 4096) × (32768 ≤ bytes))
+  lists-asked z n =
       let k : length entries ≤ 4096 = rw known (few-entries s words n) in
-      (unrefused (s .size .explicit) bytes (sym told ∙ z), (k, rw m k))
+      let u = unrefused (s .size .explicit) bytes (sym told ∙ z) in
+      (u .0, (k, u .1))
 
   pub lists-refused : (answer : CountAnswer) → (number ≡ 0 → ⊥) → answer ≡ uncounted number → record { answer = answer; words = lent } ≡ writtenLists s words store bytes lent
   unfolding writtenLists

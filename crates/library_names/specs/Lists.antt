@@ -10,7 +10,7 @@ use Rattle.name_lists.specs.Lists.{lists}
 use Rattle.axis_tables.specs.declared.AxisGrid.{AxisGrid}
 use Rattle.panel_tables.specs.declared.Grid.{Grid}
 use Rattle.panel_tables.specs.Axes.{gridIn}
-use Rattle.panel_tables.specs.Placements.{axisOf}
+use Rattle.coordinates.specs.Axes.{axisOf}
 use Rattle.panel_rules.specs.Calls.{NameTables, wordsIn, storeIn, shorterStore, entryWordsIn}
 use Rattle.library_numbers.specs.Answers.{isAxis, counted, uncounted}
 use Rattle.library_numbers.specs.Records.{WrittenRun}

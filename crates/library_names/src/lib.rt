@@ -1,5 +1,7 @@
 // All line names of an axis, written as numbers in one run.
 ghost use mathlib.Core.Path.{_≡_};
+ghost use Prim.Native.Nat.{_≤_};
+ghost use lib.ListN.{length};
 ghost use Rattle.panel_tables.specs.Axes.{gridIn};
 ghost use Rattle.panel_tables.specs.Regions.{axisWordsIn};
 ghost use Rattle.panel_rules.specs.Calls.{NameTables, nameTablesIn, shorterStore, storeIn, wordsIn};
@@ -35,7 +37,7 @@ fn lists_refusal(explicit: u32, bytes: usize) -> u32
     0
 }
 
-// Writes the lists of one axis.
+// Writes the lists of one axis. `bytes` are those of the shorter store.
 fn write_on(
     grid: AxisGrid,
     words: &[u64; PANEL_WORDS],
@@ -44,6 +46,7 @@ fn write_on(
     bytes: usize,
     out: &mut [u64; LINE_NAME_RUN],
 ) -> CountAnswer
+    requires { ⌜ bytes ≤ length (now store) ⌝ }
     ensures { λ r. ⌜ record { answer = r; words = now (out .exit) } ≡ writtenLists grid (axisWordsIn axis (now (words .entry))) (now (store .entry)) bytes (now (out .entry)) ⌝ }
 {
     let entries = entries_of(grid, axis_words(words, axis));
@@ -51,8 +54,8 @@ fn write_on(
     if number != 0 {
         return uncounted(number);
     }
-    let count = name_lists::detailed_line_names(entries, store, grid.size.explicit, out);
-    counted(count as u64)
+    let listed = name_lists::detailed_line_names(entries, store, grid.size.explicit, out);
+    counted(listed.count)
 }
 
 // Writes the lists of an axis of a panel. 4: an explicit count above 10,000; 10: a store below 32,768 bytes.

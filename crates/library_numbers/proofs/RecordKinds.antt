@@ -5,7 +5,7 @@ use Rattle.track_rules.specs.declared.GridTrackKind.{GridTrackKind}
 use Rattle.track_rules.specs.declared.GridTrackKind.the-variants.{Track, Gutter}
 use Rattle.track_rules.specs.declared.TrackSource.{TrackSource}
 use Rattle.track_rules.specs.declared.TrackSource.the-variants as Source
-use Rattle.library_numbers.specs.Records.{kindNumber, sourceNumber}
+use Rattle.track_rules.specs.Numbers.{kindNumber, sourceNumber}
 
 -- a kind is 0 or 1
 pub kind-small : (k : GridTrackKind) → kindNumber k ≤ 1

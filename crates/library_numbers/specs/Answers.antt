@@ -11,7 +11,7 @@ use Rattle.track_rules.specs.Records.{recordsIn}
 use Rattle.panel_tables.specs.declared.Grid.{Grid}
 use Rattle.panel_tables.specs.declared.Panel.{Panel}
 use Rattle.panel_tables.specs.Axes.{gridIn}
-use Rattle.panel_tables.specs.Placements.{axisNumber, axisOf}
+use Rattle.coordinates.specs.Axes.{axisNumber, axisOf}
 use Rattle.sheet_rules.specs.Panels.{Tables}
 use Rattle.sheet_rules.specs.Read.{SheetRead}
 use Rattle.panel_rules.specs.declared.PlacementAnswer.{PlacementAnswer}

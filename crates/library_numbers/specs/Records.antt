@@ -9,34 +9,18 @@ use Rattle.coordinates.specs.Refusals.{count, short}
 use Rattle.sizing.specs.declared.Sizing.{Sizing}
 use Rattle.sizing.specs.Words.{sizeWordOf, kindOf, bitsOf}
 use Rattle.track_rules.specs.declared.GridTrack.{GridTrack}
-use Rattle.track_rules.specs.declared.GridTrackKind.{GridTrackKind}
-use Rattle.track_rules.specs.declared.GridTrackKind.the-variants.{Track, Gutter}
-use Rattle.track_rules.specs.declared.TrackSource.{TrackSource}
-use Rattle.track_rules.specs.declared.TrackSource.the-variants as Source
+use Rattle.track_rules.specs.Numbers.{kindNumber, sourceNumber}
 use Rattle.track_rules.specs.Records.{tracksIn, recordsIn}
 use Rattle.axis_tables.specs.declared.AxisGrid.{AxisGrid}
 use Rattle.panel_tables.specs.declared.Grid.{Grid}
 use Rattle.panel_tables.specs.Axes.{gridIn}
 use Rattle.panel_tables.specs.Regions.{axisWordsIn}
-use Rattle.panel_tables.specs.Placements.{axisOf}
+use Rattle.coordinates.specs.Axes.{axisOf}
 use Rattle.panel_rules.specs.Calls.{axisTracks, trackRecord}
 use Rattle.library_numbers.specs.declared.CountAnswer.{CountAnswer}
 use Rattle.library_numbers.specs.Answers.{isAxis, counted, uncounted}
 
 -- ---- one record
-
-abbrev pub kindNumber : GridTrackKind → ℕ
-kindNumber Track = 0
-kindNumber Gutter = 1
-
--- in the order of document 02, Req 08: negative implicit, template, automatic repeat, area only, positive implicit, gutter
-abbrev pub sourceNumber : TrackSource → ℕ
-sourceNumber Source.Negative = 0
-sourceNumber Source.Template = 1
-sourceNumber Source.Automatic = 2
-sourceNumber Source.Area = 3
-sourceNumber Source.Positive = 4
-sourceNumber Source.Gutter = 5
 
 -- the number of its kind, 2 more where it is collapsed, and 4 times the number of its source
 abbrev pub kindWord : GridTrack → ℕ

@@ -2,10 +2,11 @@
 ghost use mathlib.Core.Path.{_≡_};
 ghost use Rattle.name_resolver.specs.Placements.{resolvedKindOf, resolvedNumberOf};
 ghost use Rattle.library_numbers.specs.Answers.{counted, markNumber, uncounted, placementNumbers};
-ghost use Rattle.library_numbers.specs.Records.{kindNumber, sourceNumber, sizeWord};
+ghost use Rattle.track_rules.specs.Numbers.{kindNumber, sourceNumber};
+ghost use Rattle.library_numbers.specs.Records.{sizeWord};
 use crate::CountAnswer;
 use crate::PlacementNumbers;
-use crate::axis::axis_number;
+use coordinates::axis::axis_number;
 use name_resolver::NonNamedGridPlacement;
 use panel_rules::PlacementAnswer;
 use sizing::Sizing;

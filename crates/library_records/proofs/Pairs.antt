@@ -12,7 +12,7 @@ use lib.Seq.{sets}
 use Rattle.sizing.specs.Words.{minMaxOf}
 use Rattle.track_rules.specs.declared.WrittenTrack.{WrittenTrack}
 use Rattle.track_rules.specs.Records.{itemAt}
-use Rattle.library_numbers.specs.Records.{sourceNumber}
+use Rattle.track_rules.specs.Numbers.{sourceNumber}
 use Rattle.library_records.specs.declared.Gutters.{Gutters}
 use Rattle.track_record.specs.declared.Repeated.{Repeated}
 use Rattle.library_records.specs.Pairs.{wordOf, recordNumbers, pairWords, joined, partPair}

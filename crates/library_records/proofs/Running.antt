@@ -42,7 +42,8 @@ use Rattle.panel_calls.proofs.Carried.{carried-answer}
 use Rattle.library_numbers.proofs.RecordKinds.{kind-small, source-small}
 use Rattle.library_records.specs.Pairs.{recordNumbers, joined, axisPair, recordAt}
 use Rattle.library_records.proofs.Pairs.{joined-none, joined-one, three-runs}
-use Rattle.library_numbers.specs.Records.{kindNumber, sourceNumber, sizeWord, recordWords, runWords, runRefusal, runCount}
+use Rattle.track_rules.specs.Numbers.{kindNumber, sourceNumber}
+use Rattle.library_numbers.specs.Records.{sizeWord, recordWords, runWords, runRefusal, runCount}
 
 -- ---- which records there are and fit
 

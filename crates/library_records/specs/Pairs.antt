@@ -17,7 +17,8 @@ use Rattle.track_rules.specs.Records.{itemAt, implicit, spareAt}
 use Rattle.track_rules.specs.Steps.{cursorOf, writtenAt, trackAt, recordOf}
 use Rattle.axis_tables.specs.declared.AxisGrid.{AxisGrid}
 use Rattle.panel_rules.specs.Calls.{axisTracks, templateIn, sparesIn}
-use Rattle.library_numbers.specs.Records.{sourceNumber, recordWords}
+use Rattle.track_rules.specs.Numbers.{sourceNumber}
+use Rattle.library_numbers.specs.Records.{recordWords}
 use Rattle.library_records.specs.declared.Gutters.{Gutters}
 use Rattle.track_record.specs.declared.Repeated.{Repeated}
 

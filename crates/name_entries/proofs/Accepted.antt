@@ -13,14 +13,13 @@ use Rattle.name_entries.specs.Enter.{entryRefusal}
 use Rattle.name_entries.proofs.Booleans.{both, neither}
 use Rattle.name_entries.proofs.Graphic.{name-length}
 
-pub record Accepted (words bytes count used line : ℕ) (name : Bytes) : Type 0 where
+pub record Accepted (bytes count used line : ℕ) (name : Bytes) : Type 0 where
   pub named : isName name ≡ true
   pub short : length name ≤ 32
   pub from : 1 ≤ line
   pub to : line ≤ 20000
   pub few : count < 4096
   pub fits : used + length name ≤ 32768
-  pub long : 4096 ≤ words
   pub wide : 32768 ≤ bytes
 
 zero-suc : {A : Type 0} (n : ℕ) → _≡_ {A = ℕ} (suc n) 0 → A
@@ -33,14 +32,13 @@ through true true true d e = zero-suc 7 e
 through true false c d e = zero-suc 3 e
 through false b c d e = zero-suc 1 e
 
-pub accepted : (words bytes count used line : ℕ) (name : Bytes) → entryRefusal words bytes count used line name ≡ 0
-    → Accepted words bytes count used line name
+pub accepted : (bytes count used line : ℕ) (name : Bytes) → entryRefusal bytes count used line name ≡ 0
+    → Accepted bytes count used line name
 unfolding entryRefusal
-accepted words bytes count used line name e =
-    let t = through (isName name) (leb 1 line && leb line 20000) (leb 4096 count || ltb 32768 (used + length name)) (ltb words 4096 || ltb bytes 32768) e in
+accepted bytes count used line name e =
+    let t = through (isName name) (leb 1 line && leb line 20000) (leb 4096 count || ltb 32768 (used + length name)) (ltb bytes 32768) e in
     let l = both (leb 1 line) (leb line 20000) (t .1) in
     let k = neither (leb 4096 count) (ltb 32768 (used + length name)) (t .2) in
-    let s = neither (ltb words 4096) (ltb bytes 32768) (t .3) in
     record {
       named = t .0;
       short = name-length name (t .0);
@@ -48,6 +46,5 @@ accepted words bytes count used line name e =
       to = leb-true line 20000 (l .1);
       few = leb-false 4096 count (k .0);
       fits = ltb-false 32768 (used + length name) (k .1);
-      long = ltb-false words 4096 (s .0);
-      wide = ltb-false bytes 32768 (s .1);
+      wide = ltb-false bytes 32768 (t .3);
     }

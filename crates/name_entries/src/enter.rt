@@ -3,16 +3,9 @@ ghost use mathlib.Core.Path.{_≡_};
 ghost use Rattle.name_entries.specs.Enter.{entryRefusal};
 use crate::name::is_name;
 
-// The number of the refusal of an entry, 0 where there is none. `words` and `bytes` are the lengths of the table and the store.
-pub fn entry_refusal(
-    words: usize,
-    bytes: usize,
-    count: u32,
-    used: u32,
-    line: u32,
-    name: &[u8],
-) -> u32
-    ensures { λ r. ⌜ r ≡ entryRefusal words bytes count used line (now (name .entry)) ⌝ }
+// The number of the refusal of an entry, 0 where there is none. `bytes` is the length of the store.
+pub fn entry_refusal(bytes: usize, count: u32, used: u32, line: u32, name: &[u8]) -> u32
+    ensures { λ r. ⌜ r ≡ entryRefusal bytes count used line (now (name .entry)) ⌝ }
 {
     if !is_name(name) {
         return coordinates::refusal::NAME;
@@ -28,9 +21,6 @@ pub fn entry_refusal(
     }
     if 32768 < used as usize + name.len() {
         return coordinates::refusal::CROWDED;
-    }
-    if words < 4096 {
-        return coordinates::refusal::SHORT;
     }
     if bytes < 32768 {
         return coordinates::refusal::SHORT;

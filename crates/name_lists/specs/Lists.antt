@@ -2,15 +2,17 @@
 -- out", one list after the other. A name is a word: its line, and the part of the store that it is.
 use Prim.Native.Nat.{ℕ, zero, suc, _+_, _-_, _≤_, _<_, min}
 use mathlib.Core.Path.{_≡_}
-use mathlib.Core.Bool.{Bool, cond, _&&_}
+use mathlib.Core.Bool.{cond}
 use mathlib.Core.List.{List, [], _∷_, _++_, map}
-use lib.Dec.{eqb, leb}
+use lib.Dec.{eqb, ltb}
 use lib.ListN.{length, getD, take}
 use lib.Seq.{sets}
+use Rattle.coordinates.specs.Refusals.{noRefusal, refusalOf, count, crowded, short}
 use Rattle.name_entries.specs.declared.NameEntry.{NameEntry}
 use Rattle.name_entries.specs.Entries.{entryOf, wordOf, namedEntry, entriesOf}
 use Rattle.name_entries.specs.LineNames.{shows}
 use Rattle.name_entries.specs.LineEntries.{lineEntriesOf}
+use Rattle.name_lists.specs.declared.ListedNames.{ListedNames}
 use Rattle.name_lists.specs.Chains.{placesOf, Chain, Chained}
 
 -- the line of an entry, and where its name lies: cut where the store ends
@@ -30,13 +32,22 @@ listsFrom words store line (suc n) = lineWords words store line ++ listsFrom wor
 unfoldable pub lists : ℕ → List ℕ → List ℕ → List ℕ
 lists explicit words store = listsFrom words store 1 (explicit + 1)
 
--- at most 10,000 tracks and 4,096 entries (document 01, panel ranges), and a word for each entry
-abbrev pub listsFit : ℕ → ℕ → ℕ → Bool
-listsFit explicit entries room = (leb explicit 10000 && leb entries 4096) && leb entries room
+-- what the lists are refused by, 0 where they are not: 4 for more than 10,000 tracks, 8 for more than 4,096 entries (document 01, panel
+-- ranges), 10 for "a line-name store below 32,768 bytes"
+unfoldable pub lineNamesRefusal : ℕ → ℕ → ℕ → ℕ
+lineNamesRefusal explicit entries bytes = cond (ltb 10000 explicit) count (cond (ltb 4096 entries) crowded (cond (ltb bytes 32768) short 0))
 
--- the lists where that holds, else none
-unfoldable pub fittingLists : ℕ → List ℕ → List ℕ → ℕ → List ℕ
-fittingLists explicit words store room = cond (listsFit explicit (length words) room) (lists explicit words store) []
+-- an answer, and what the lent words hold then
+pub record NamesListed : Type 0 where
+  pub answer : ListedNames
+  pub words : List ℕ
+
+-- the lists in the first words, and how many names they have; a refusal is its number and 0, and then nothing is written
+unfoldable pub lineNamesListed : ℕ → List ℕ → List ℕ → List ℕ → NamesListed
+lineNamesListed explicit words store lent =
+    cond (eqb (lineNamesRefusal explicit (length words) (length store)) 0)
+    (record { answer = record { refusal = noRefusal; count = length (lists explicit words store) }; words = sets lent 0 (lists explicit words store) })
+    (record { answer = record { refusal = refusalOf (lineNamesRefusal explicit (length words) (length store)); count = 0 }; words = lent })
 
 -- the words that are on a line: of the lists, its own
 unfoldable pub onLine : ℕ → List ℕ → List ℕ

@@ -1,4 +1,5 @@
 // Lines of a name, marked: a byte for each line of a window that begins at line `low`, 1 where the line bears the name. A line is marked or not, so it counts once.
+// A mark is any byte but 0: which one it is, is open.
 ghost use Prim.Native.Nat.{_+_, suc};
 ghost use Rattle.name_rules.specs.Rule.{any, written?};
 ghost use Rattle.name_lines.specs.Marks.{Adds, liesIn};

@@ -137,17 +137,17 @@ module _ (names components entries : List ℕ) (repetitions used : ℕ) (below :
 
   pub table-accepted : namesWritten names components repetitions entries .answer .refusal ≡ noRefusal
   unfolding written namesWritten
-  table-accepted = rw (le-ltb 4096 (length written) fits, le-ltb (length entries) (length written) room)
+  table-accepted = rw (le-ltb 4096 (length written) fits)
 
   pub table-entries : (store : List ℕ) → let after = namesWritten names components repetitions entries in
       entriesOf (take (after .answer .count) (after .entries)) store ≡ map (namedEntry store) (writtenEntries names components repetitions)
   unfolding written namesWritten
   table-entries store =
-      rw (le-ltb 4096 (length written) fits, le-ltb (length entries) (length written) room, first-places)
+      rw (le-ltb 4096 (length written) fits, first-places)
       (read-back used written store (written-lines names components repetitions used below few tracks))
 
   pub table-within : let after = namesWritten names components repetitions entries in Within used (take (after .answer .count) (after .entries))
   unfolding written namesWritten
   table-within =
-      rw (le-ltb 4096 (length written) fits, le-ltb (length entries) (length written) room, first-places)
+      rw (le-ltb 4096 (length written) fits, first-places)
       (read-within used written (written-lines names components repetitions used below few tracks))

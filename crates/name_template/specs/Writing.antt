@@ -1,6 +1,6 @@
 -- The template's names written out (document 01, layer 4; named.rs, `NamedLineResolver::new`). Each entry shares the bytes of its record.
 use Prim.Native.Nat.{ℕ, zero, suc, _+_, _-_}
-use mathlib.Core.Bool.{true, false, cond, _||_}
+use mathlib.Core.Bool.{true, false, cond}
 use mathlib.Core.List.{List, [], _∷_, _++_, map}
 use lib.Dec.{ltb}
 use lib.ListN.{length}
@@ -68,10 +68,10 @@ pub record TableAfter : Type 0 where
   pub answer : WrittenNames
   pub entries : List ℕ
 
--- the entries in the table's first places; crowded where they are more than 4,096, or than it has places, and then nothing is written
+-- the entries in the table's first places; crowded where they are more than 4,096, and then nothing is written
 unfoldable pub namesWritten : List ℕ → List ℕ → ℕ → List ℕ → TableAfter
 namesWritten names components repetitions entries =
     let written = writtenEntries names components repetitions in
-    cond (ltb 4096 (length written) || ltb (length entries) (length written))
+    cond (ltb 4096 (length written))
     (record { answer = record { refusal = refusalOf 8; count = 0 }; entries = entries })
     (record { answer = record { refusal = noRefusal; count = length written }; entries = sets entries 0 (map entryWord written) })

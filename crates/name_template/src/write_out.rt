@@ -124,26 +124,17 @@ fn write_all(names: &[u64], components: &[u64], repetitions: u64, entries: &mut 
     write_once(&names[at..end], line, entries, o);
 }
 
-// Writes the template's names into the first places of the table of entries. Refused where there are more than 4,096, or than it has places.
+// Writes the template's names into the first places of the table of entries. 8: more than 4,096 of them.
 pub fn write_names(
     names: &[u64],
     components: &[u64],
     repetitions: u32,
-    entries: &mut [u64],
+    entries: &mut [u64; 4096],
 ) -> WrittenNames
     ensures { λ r. ⌜ record { answer = r; entries = now (entries .exit) } ≡ namesWritten (now (names .entry)) (now (components .entry)) repetitions (now (entries .entry)) ⌝ }
 {
     let count = count_written_names(names, components, repetitions);
     if 4096 < count {
-        return WrittenNames {
-            refusal: Refusal {
-                number: coordinates::refusal::CROWDED,
-                line: 0,
-            },
-            count: 0,
-        };
-    }
-    if entries.len() < count as usize {
         return WrittenNames {
             refusal: Refusal {
                 number: coordinates::refusal::CROWDED,

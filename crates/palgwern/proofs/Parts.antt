@@ -14,7 +14,7 @@ use Rattle.name_entries.specs.LineNames.{ofAxis}
 use Rattle.name_entries.specs.declared.NameEntry.{NameEntry}
 use Rattle.axis_tables.specs.Runs.{partOf}
 use Rattle.panel_tables.specs.declared.Grid.{Grid}
-use Rattle.panel_tables.specs.Placements.{axisOf}
+use Rattle.coordinates.specs.Axes.{axisOf}
 use Rattle.panel_rules.specs.Calls.{NameTables, storeIn, shorterStore, lineNameIn}
 use Rattle.panel_names.specs.LineEntries.{lineEntryIn}
 use Rattle.panel_names.proofs.LineEntries.{line-entry-name}

@@ -7,7 +7,7 @@ use lib.ListN.{length}
 use Rattle.coordinates.specs.Refusals.{count, short}
 use Rattle.axis_tables.specs.Runs.{partOf}
 use Rattle.panel_tables.specs.declared.Grid.{Grid}
-use Rattle.panel_tables.specs.Placements.{axisOf}
+use Rattle.coordinates.specs.Axes.{axisOf}
 use Rattle.panel_rules.specs.Calls.{NameTables, storeIn, shortNames, lineNameIn}
 use Rattle.panel_names.specs.LineEntries.{lineEntryIn}
 use Rattle.library_numbers.specs.declared.NameAnswer.{NameAnswer}

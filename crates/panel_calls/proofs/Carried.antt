@@ -11,6 +11,7 @@ use Rattle.track_rules.proofs.Answers.{answer-held}
 use Rattle.track_run.proofs.Filling.{state-record, advanced}
 use Rattle.axis_tables.specs.declared.AxisGrid.{AxisGrid}
 use Rattle.axis_tables.specs.Runs.{partOf}
+use Rattle.panel_rules.proofs.AxisBack.{state-unrefused}
 use Rattle.panel_rules.specs.Calls.{axisTracks, templateIn, sparesIn, trackRecord}
 use Rattle.panel_calls.specs.Carried.{carriedTo, carriedRecord, carriedOn}
 
@@ -31,5 +32,5 @@ module _ (s : AxisGrid) (words items : List ℕ) where
       record { refusal = noRefusal; track = carriedRecord s words items (carriedTo s words items i) i } ≡ trackRecord s words items i
   unfolding trackRecord
   carried-answer i h k =
-      answer-held (axisTracks s) (templateIn s words) (sparesIn s words) items i h k noRefusal (carriedRecord s words items (carriedTo s words items i) i) refl
+      answer-held (axisTracks s) (templateIn s words) (sparesIn s words) items i (state-unrefused s) h k noRefusal (carriedRecord s words items (carriedTo s words items i) i) refl
       (state-record (axisTracks s) (templateIn s words) (itemAt items) (sparesIn s words) i)

@@ -18,7 +18,7 @@ use Rattle.track_rules.specs.declared.RecordAnswer.{RecordAnswer}
 use Rattle.track_rules.specs.Written.{writtenOut}
 use Rattle.track_rules.specs.Lines.{Stands}
 use Rattle.track_rules.specs.Tracks.{zeroGridTrack}
-use Rattle.track_rules.specs.Records.{tracksIn, recordsIn, noTrack, recordAnswerOf}
+use Rattle.track_rules.specs.Records.{tracksIn, recordsIn, noTrack, axisRefusal, recordAnswerOf}
 use Rattle.track_rules.proofs.Sources.{answer-source}
 use Rattle.track_run.specs.Run.{fillAnswerOf, runAfter}
 use Rattle.axis_tables.specs.declared.AxisGrid.{AxisGrid}
@@ -55,7 +55,8 @@ use Rattle.panel_rules.proofs.Book as Book
 use Rattle.panel_rules.proofs.Run.{addedTo, placement-css, placement-marks, placement-only, placement-uncut, run-css, run-marked, run-only}
 use Rattle.panel_rules.proofs.Order.{largest-same, order-same}
 use Rattle.panel_rules.proofs.Tracks as Tracks
-use Rattle.panel_rules.proofs.Runs.{axis-fits, words-entries, added-to, few-tracks, run-entries, run-sizes, run-lists, run-names, run-records, run-placements, run-template, run-used, run-bytes, run-filled, run-fill, run-marks, marks-enough}
+use Rattle.panel_rules.proofs.Runs.{axis-fits, words-entries, added-to, few-tracks, run-entries, run-sizes, run-lists, run-names, run-records, run-placements, run-template, run-used, run-bytes, run-filled, run-fill, run-marks, marks-enough, run-axis}
+use Rattle.panel_rules.proofs.AxisBack.{state-unrefused}
 use Rattle.panel_rules.proofs.ColumnsAlone.{columns-alone}
 use Rattle.panel_demands.specs.Demands.{SheetAnswered, EntryAnswered, PlacementAnswered, RecordAnswered, RunAnswered, FirstDemand, InvalidTheorem, SecondDemand, TemplateTheorem, RunTheorem, bothWritten, ThirdDemand, WithoutValidity}
 use Rattle.panel_demands.specs.Demands.{sheetAccepted, sheetRefused, sheetShort, entryAccepted, entryRefused, placementAccepted, placementOutside, placementShort, recordAccepted, recordOutside, recordShort, runAccepted, runShort}
@@ -119,19 +120,25 @@ record-answered : (s : AxisGrid) (words items : List ℕ) (i : ℕ) → RecordAn
 unfolding trackRecord recordAnswerOf
 record-answered s words items i = go (leb (recordsIn (axisTracks s)) i) refl (ltb (length items) (tracksIn (axisTracks s))) refl
   where
+    u : eqb (axisRefusal (axisTracks s)) 0 ≡ true
+    u = eq-eqb (axisRefusal (axisTracks s)) 0 (state-unrefused s)
+
     go : (b : Bool) → leb (recordsIn (axisTracks s)) i ≡ b → (c : Bool) → ltb (length items) (tracksIn (axisTracks s)) ≡ c → RecordAnswered s words items i
-    go true e c f = recordOutside (leb-true (recordsIn (axisTracks s)) i e) (rw e)
-    go false e true f = recordShort (leb-false (recordsIn (axisTracks s)) i e) (ltb-true (length items) (tracksIn (axisTracks s)) f) (rw (e, f))
-    go false e false f = recordAccepted (leb-false (recordsIn (axisTracks s)) i e) (ltb-false (length items) (tracksIn (axisTracks s)) f) (rw (e, f))
+    go true e c f = recordOutside (leb-true (recordsIn (axisTracks s)) i e) (rw (u, e))
+    go false e true f = recordShort (leb-false (recordsIn (axisTracks s)) i e) (ltb-true (length items) (tracksIn (axisTracks s)) f) (rw (u, e, f))
+    go false e false f = recordAccepted (leb-false (recordsIn (axisTracks s)) i e) (ltb-false (length items) (tracksIn (axisTracks s)) f) (rw (u, e, f))
 
 run-answered : (s : AxisGrid) (words items : List ℕ) (run : List GridTrack) → RunAnswered s words items run
 unfolding fillAnswerOf runAfter
 run-answered s words items run = go (ltb (length run) (recordsIn (axisTracks s))) refl (ltb (length items) (tracksIn (axisTracks s))) refl
   where
+    u : eqb (axisRefusal (axisTracks s)) 0 ≡ true
+    u = eq-eqb (axisRefusal (axisTracks s)) 0 (state-unrefused s)
+
     go : (b : Bool) → ltb (length run) (recordsIn (axisTracks s)) ≡ b → (c : Bool) → ltb (length items) (tracksIn (axisTracks s)) ≡ c → RunAnswered s words items run
-    go true e c f = runShort (inl (ltb-true (length run) (recordsIn (axisTracks s)) e)) (rw e) (rw e)
-    go false e true f = runShort (inr (ltb-true (length items) (tracksIn (axisTracks s)) f)) (rw (e, f)) (rw (e, f))
-    go false e false f = runAccepted (ltb-false (length run) (recordsIn (axisTracks s)) e) (ltb-false (length items) (tracksIn (axisTracks s)) f) (rw (e, f))
+    go true e c f = runShort (inl (ltb-true (length run) (recordsIn (axisTracks s)) e)) (rw (u, e)) (rw (u, e))
+    go false e true f = runShort (inr (ltb-true (length items) (tracksIn (axisTracks s)) f)) (rw (u, e, f)) (rw (u, e, f))
+    go false e false f = runAccepted (ltb-false (length run) (recordsIn (axisTracks s)) e) (ltb-false (length items) (tracksIn (axisTracks s)) f) (rw (u, e, f))
 
 pub first-demand : FirstDemand
 first-demand =
@@ -171,7 +178,7 @@ second-demand s t calls ok =
       lists = run-lists s t calls ok;
       names = run-names s t calls ok;
       records = run-records s t calls ok;
-      sources = λ a items long i held. rw (run-records s t calls ok a items i) (answer-source (tracksAfter (sheetAxis s a)) (componentsOf (counted (sheetAxis s a))) (map sizesOf (sheetAxis s a .spares)) items i held long);
+      sources = λ a items long i held. rw (run-records s t calls ok a items i) (answer-source (tracksAfter (sheetAxis s a)) (componentsOf (counted (sheetAxis s a))) (map sizesOf (sheetAxis s a .spares)) (run-axis s z a) items i held long);
       lent = run-filled s t calls ok;
       filled = run-fill s t calls ok;
       marks = λ a. rw (run-marks s t calls ok a) (marks-enough s z a);
@@ -215,7 +222,7 @@ module _ (m : CssTemplate) (s : List ℕ) (t : Tables) (calls : List Call) (a : 
       let f = axis-fits s a in
       let low : j ≤ length (writtenOut (componentsOf (m .template)) (m .repetitions)) = rw (Tracks.written-tracks m v a calls f css r) to in
       rw (run-records s t calls ok a items (2 * (sheetAxis s a .negative + j) - 1))
-      (Tracks.track-accepted m v a calls f css r items long j from low, Tracks.track-after m v a calls f css r items long j from low)
+      (Tracks.track-accepted m v a calls f css r (run-axis s good a) items long j from low, Tracks.track-after m v a calls f css r (run-axis s good a) items long j from low)
 
   lent : (items : List ℕ) (run : List GridTrack) → tracksIn (tracksAfter (sheetAxis s a)) ≤ length items → recordsIn (tracksAfter (sheetAxis s a)) ≤ length run
       → (j : ℕ) → 1 ≤ j → j ≤ sheetTracks m
@@ -224,7 +231,7 @@ module _ (m : CssTemplate) (s : List ℕ) (t : Tables) (calls : List Call) (a : 
   lent items run long room j from to =
       let f = axis-fits s a in
       let low : j ≤ length (writtenOut (componentsOf (m .template)) (m .repetitions)) = rw (Tracks.written-tracks m v a calls f css r) to in
-      rw (run-filled s t calls ok a items run, Book.counted-same m v a calls f css r) (Tracks.track-run m v a calls f css r items long j from low run room)
+      rw (run-filled s t calls ok a items run, Book.counted-same m v a calls f css r) (Tracks.track-run m v a calls f css r (run-axis s good a) items long j from low run room)
 
   pub template-theorem : TemplateTheorem m s t calls a
   template-theorem =

@@ -86,7 +86,7 @@ pub data RunAnswered (g : AxisGrid) (words items : List ℕ) (run : List GridTra
   runAccepted : recordsIn (axisTracks g) ≤ length run → tracksIn (axisTracks g) ≤ length items
       → fillAnswerOf (axisTracks g) (length run) (length items) ≡ record { refusal = noRefusal; count = recordsIn (axisTracks g) } → RunAnswered g words items run
   runShort : (length run < recordsIn (axisTracks g)) ⊎ (length items < tracksIn (axisTracks g))
-      → fillAnswerOf (axisTracks g) (length run) (length items) ≡ refusedFill
+      → fillAnswerOf (axisTracks g) (length run) (length items) ≡ refusedFill short
       → runAfter (axisTracks g) (templateIn g words) (sparesIn g words) items run ≡ run → RunAnswered g words items run
 
 pub record FirstDemand : Type 0 where

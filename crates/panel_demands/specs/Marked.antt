@@ -17,6 +17,7 @@ use Rattle.template_rules.specs.declared.InnerSize.the-variants.{Definite}
 use Rattle.template_rules.specs.declared.AutoRepeatStrategy.the-variants.{MaxRepetitionsThatDoNotOverflow}
 use Rattle.track_rules.specs.declared.GridTrack.{GridTrack}
 use Rattle.track_rules.specs.declared.GridTrackKind.{GridTrackKind}
+use Rattle.track_rules.specs.Numbers.{kindNumber}
 use Rattle.track_rules.specs.declared.GridTrackKind.the-variants.{Track, Gutter}
 use Rattle.track_rules.specs.declared.WrittenTrack.{WrittenTrack}
 use Rattle.track_rules.specs.Tracks.{gutterOf, trackOf}
@@ -42,10 +43,7 @@ names = map Names.holds Names.cases
 -- ---- M12, fit with an item in the middle, on whole records: kind, collapsed, and both sizes to the bit
 
 abbrev pub sameKind : GridTrackKind → GridTrackKind → Bool
-sameKind Track Track = true
-sameKind Track Gutter = false
-sameKind Gutter Track = false
-sameKind Gutter Gutter = true
+sameKind j k = eqb (kindNumber j) (kindNumber k)
 
 abbrev pub sameSize : Sizing → Sizing → Bool
 sameSize s t = eqb (kindOf s) (kindOf t) && eqb (bitsOf s) (bitsOf t)

@@ -74,11 +74,11 @@ module _ (p : Panel) (t : NameTables) (line : ℕ) (name : List ℕ) where
   module _ (a : Axis) where
     -- the number that the call computes
     pub refusal-is : (s : AxisState) (shorter number : ℕ) → s ≡ stateIn p a → shorter ≡ shorterStore t →
-        number ≡ entryRefusal 4096 shorter (s .grid .entries) (s .room .used) line name → number ≡ enterRefusal p t a line name
+        number ≡ entryRefusal shorter (s .grid .entries) (s .room .used) line name → number ≡ enterRefusal p t a line name
     unfolding enterRefusal
     refusal-is s shorter number e f g =
-        g ∙ ap (λ (x : AxisState). entryRefusal 4096 shorter (x .grid .entries) (x .room .used) line name) e
-        ∙ ap (λ (n : ℕ). entryRefusal 4096 n (stateIn p a .grid .entries) (stateIn p a .room .used) line name) f
+        g ∙ ap (λ (x : AxisState). entryRefusal shorter (x .grid .entries) (x .room .used) line name) e
+        ∙ ap (λ (n : ℕ). entryRefusal n (stateIn p a .grid .entries) (stateIn p a .room .used) line name) f
 
     -- a refused call leaves everything as it came
     pub refused : (number : ℕ) (x : Refusal) → (number ≡ 0 → ⊥) → number ≡ enterRefusal p t a line name → x ≡ refusalOf number →
@@ -94,13 +94,13 @@ module _ (p : Panel) (t : NameTables) (line : ℕ) (name : List ℕ) where
     -- and has room for it
     pub roomy : enterRefusal p t a line name ≡ 0 → Roomy (stateIn p a) (length (storeIn t a)) name
     unfolding enterRefusal
-    roomy e = within (accepted 4096 (shorterStore t) (stateIn p a .grid .entries) (stateIn p a .room .used) line name e)
+    roomy e = within (accepted (shorterStore t) (stateIn p a .grid .entries) (stateIn p a .room .used) line name e)
       where
         longer : (b : Axis) → shorterStore t ≤ length (storeIn t b)
         longer Column = omega arith
         longer Row = omega arith
 
-        within : Accepted 4096 (shorterStore t) (stateIn p a .grid .entries) (stateIn p a .room .used) line name → Roomy (stateIn p a) (length (storeIn t a)) name
+        within : Accepted (shorterStore t) (stateIn p a .grid .entries) (stateIn p a .room .used) line name → Roomy (stateIn p a) (length (storeIn t a)) name
         within k = record { short = k .short; few = k .few; fits = k .fits; wide = let h = longer a in omega (arith, h, k .wide) }
 
 -- an entry written to one axis

@@ -95,14 +95,7 @@ pub fn enter_name(
 {
     let state = state_in(panel, axis);
     let shorter = smaller(columnstore.len(), rowstore.len());
-    let number = entry_refusal(
-        4096,
-        shorter,
-        state.grid.entries,
-        state.room.used,
-        line,
-        name,
-    );
+    let number = entry_refusal(shorter, state.grid.entries, state.room.used, line, name);
     if number != 0 {
         return EntryAnswer {
             refusal: refusal_of(number),

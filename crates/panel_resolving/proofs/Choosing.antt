@@ -17,7 +17,8 @@ use Rattle.name_resolver.specs.Placements.{resolutionOf}
 use Rattle.axis_tables.specs.Runs.{partOf}
 use Rattle.panel_tables.specs.declared.Grid.{Grid}
 use Rattle.panel_tables.specs.declared.PlacementPlace.{PlacementPlace}
-use Rattle.panel_tables.specs.Placements.{axisNumber, placementAt}
+use Rattle.coordinates.specs.Axes.{axisNumber}
+use Rattle.panel_tables.specs.Placements.{placementAt}
 use Rattle.panel_rules.specs.Calls.{NameTables, NamedWords, entryWordsIn, namesIn, shorterStore, shortNames}
 use Rattle.panel_rules.specs.Placing.{linePlacement, placedBy, resolvePlacement}
 use Rattle.library_numbers.specs.declared.PlacementNumbers.{PlacementNumbers}

@@ -24,7 +24,7 @@ use Rattle.name_resolver.specs.Questions.{answeredLine}
 use Rattle.name_resolver.proofs.Questions.{answered-accepted}
 use Rattle.coordinates.specs.Refusals.{noRefusal}
 use Rattle.panel_tables.specs.declared.Grid.{Grid}
-use Rattle.panel_tables.specs.Placements.{axisNumber}
+use Rattle.coordinates.specs.Axes.{axisNumber}
 use Rattle.panel_rules.specs.declared.PlacementAnswer.{PlacementAnswer}
 use Rattle.panel_rules.specs.Calls.{NameTables, NamedWords, shorterStore}
 use Rattle.panel_rules.specs.Placing.{refusedPlacement, placedBy}

@@ -9,7 +9,8 @@ use lib.Seq.{sets}
 use Rattle.coordinates.specs.declared.axis.Axis.{Axis}
 use Rattle.name_resolver.specs.declared.Line.{Line}
 use Rattle.name_resolver.specs.declared.Resolution.{Resolution}
-use Rattle.panel_tables.specs.Placements.{axisNumber, placementAt}
+use Rattle.coordinates.specs.Axes.{axisNumber}
+use Rattle.panel_tables.specs.Placements.{placementAt}
 use Rattle.panel_rules.specs.Placing.{linePlacement, placedBy}
 use Rattle.library_numbers.specs.Answers.{placementNumbers}
 use Rattle.name_groups.specs.declared.key.Grouping.{Grouping}

@@ -4,7 +4,7 @@ ghost use Prim.Native.Nat.{_*_, _+_, _≤_};
 ghost use Rattle.name_lines.specs.Areas.{axisNames};
 ghost use Rattle.name_groups.specs.Groups.{Lists};
 ghost use Rattle.name_resolver.specs.Placements.{resolutionOf};
-ghost use Rattle.panel_tables.specs.Placements.{axisNumber};
+ghost use Rattle.coordinates.specs.Axes.{axisNumber};
 ghost use Rattle.panel_tables.specs.Regions.{areaBytesIn, areaWordsIn, placementBytesIn, placementWordsIn};
 ghost use Rattle.axis_tables.specs.Runs.{partOf};
 ghost use Rattle.panel_resolving.specs.Chosen.{OnlyOne, chosenSets, groupingFor, numbersBy, onAxis, runGrouped};
@@ -18,6 +18,7 @@ use crate::put::put_placement;
 use crate::resolve::refused_resolution;
 use crate::resolve::resolve_line_names;
 use coordinates::Axis;
+use coordinates::axis::axis_number;
 use name_groups::index::group_entries;
 use name_groups::key::Grouping;
 use name_resolver::Resolution;
@@ -45,16 +46,6 @@ const PASSED_OVER: usize = 256;
 const FEW_WORDS: usize = 256;
 
 const MANY_WORDS: usize = 5120;
-
-// The number of an axis.
-fn axis_number(axis: Axis) -> u32
-    ensures { λ r. ⌜ r ≡ axisNumber axis ⌝ }
-{
-    match axis {
-        Axis::Column => 0,
-        Axis::Row => 1,
-    }
-}
 
 // Whether two axes are the same.
 fn same_axis(a: Axis, b: Axis) -> bool

@@ -1,5 +1,5 @@
 -- The template, the spare sizes and the counts that an axis holds read back. Assumes nothing.
-use Prim.Native.Nat.{ℕ, _≤_}
+use Prim.Native.Nat.{ℕ, _≤_, min}
 use mathlib.Core.Path.{_≡_, refl, sym}
 use mathlib.Core.List.{List, [], map, append-nil}
 use mathlib.Core.Bool.{Bool, true, false, cond}
@@ -10,6 +10,10 @@ use lib.ListN.{length-map}
 use borrow.Author.Tests.{ltb-false}
 use Rattle.name_rules.specs.Css.{Entry}
 use Rattle.track_rules.specs.Written.{sparesOf}
+use Rattle.sizing.proofs.Words.{sizing-in-range}
+use Rattle.track_rules.specs.Records.{axisRefusal}
+use Rattle.track_rules.proofs.Answers.{axis-unrefused}
+use Rattle.axis_tables.specs.declared.AxisGrid.{AxisGrid}
 use Rattle.sheet_forms.specs.Faults.{firstOf}
 use Rattle.sheet_forms.proofs.Firsts.{first-zero}
 use Rattle.axis_tables.specs.View.{AxisView, sizesOf, componentsOf}
@@ -68,3 +72,11 @@ module _ (x : AxisView) (f : Fits x) (es : List Entry) where
 pub tracks-held : (x : AxisView) (span : ℕ) → AxisRange span x → explicitOf x ≤ 10000 → (es : List Entry) → axisTracks (stateAfter x es .grid) ≡ tracksAfter x
 unfolding stateAfter sizedState
 tracks-held x span r h es = rw (min-eq-left (r .negative), min-eq-left h, min-eq-left (r .positive))
+
+-- whatever a state holds, its gap and its counts are read in their ranges, so that layer 5 does not refuse its axis
+pub state-unrefused : (g : AxisGrid) → axisRefusal (axisTracks g) ≡ 0
+state-unrefused g =
+    axis-unrefused (axisTracks g) (sizing-in-range (g .space .gap)) (held (g .implicit .negative)) (held (g .size .explicit)) (held (g .implicit .positive))
+  where
+    held : (n : ℕ) → min n 10000 ≤ 10000
+    held n = omega arith

@@ -22,9 +22,9 @@ use Rattle.panel_rules.specs.Views.{entryName, entryWordAt, wordsAfter, 
 use Rattle.panel_rules.specs.Book.{tableRefusal}
 use Rattle.panel_rules.proofs.Fit.{InRange, EntriesFit}
 
--- a table of 4,096 entries and stores that are long enough refuse what the table refuses
+-- stores that are long enough refuse what the table refuses
 pub table-refusal : (bytes count used line : ℕ) (name : Bytes) → 32768 ≤ bytes
-    → entryRefusal 4096 bytes count used line name ≡ tableRefusal count used line name
+    → entryRefusal bytes count used line name ≡ tableRefusal count used line name
 unfolding entryRefusal tableRefusal
 table-refusal bytes count used line name h = rw (le-ltb bytes 32768 h)
 
@@ -37,8 +37,8 @@ length-store v es store h =
     ∙ omega arith
 
 -- what the table does not refuse has a short name and a line from 1 to 20,000, and fits
-pub table-accepted : (count used line : ℕ) (name : Bytes) → tableRefusal count used line name ≡ 0 → Accepted 4096 32768 count used line name
-table-accepted count used line name ok = accepted 4096 32768 count used line name (table-refusal 32768 count used line name (omega arith) ∙ ok)
+pub table-accepted : (count used line : ℕ) (name : Bytes) → tableRefusal count used line name ≡ 0 → Accepted 32768 count used line name
+table-accepted count used line name ok = accepted 32768 count used line name (table-refusal 32768 count used line name (omega arith) ∙ ok)
 
 -- one entry in range more
 range-more : (es : List Entry) (e : Entry) → InRange es → 1 ≤ e .line → e .line ≤ 20000 → length (e .name) ≤ 32 → InRange (es ++ (e ∷ []))
@@ -90,7 +90,7 @@ module _ (v : AxisView) (es : List Entry) (e : Entry) where
 
   -- an entry that the table does not refuse
   module _ (ok : tableRefusal (length (entryWords v) + length es) (length (bytesAfter v es)) (e .line) (e .name) ≡ 0) where
-    fitting : Accepted 4096 32768 (length (entryWords v) + length es) (length (bytesAfter v es)) (e .line) (e .name)
+    fitting : Accepted 32768 (length (entryWords v) + length es) (length (bytesAfter v es)) (e .line) (e .name)
     fitting = table-accepted (length (entryWords v) + length es) (length (bytesAfter v es)) (e .line) (e .name) ok
 
     -- it leaves the axis with the entry last

@@ -5,7 +5,7 @@ use mathlib.Core.Bool.{Bool, true, false, cond}
 use lib.Dec.{ltb}
 use mathlib.Core.Path.{_∙_}
 use lib.ListN.{length, set, length-set}
-use Rattle.axis_tables.specs.View.{Item, single, repeat, track, Unended, none, inside, Sizes, AxisView, AxisOutcome, refused, accepted, tracksIn, componentsOf, axisNames, axisBytes, noRoom, withTemplate, withItem, withPiece, withName, morePieces, repeatKind, trackBy, repeatBy, endBy, trackStep, repeatStep, endStep, nameStep, spareStep, itemStep, extraStep, axisStep}
+use Rattle.axis_tables.specs.View.{Item, single, repeat, track, Unended, none, inside, Sizes, AxisView, AxisOutcome, refused, accepted, tracksIn, componentsOf, axisNames, axisBytes, noRoom, namedFault, withTemplate, withItem, withPiece, withName, morePieces, repeatKind, trackBy, repeatBy, endBy, trackStep, repeatStep, endStep, nameStep, spareStep, itemStep, extraStep, axisStep}
 use Rattle.panel_rules.specs.Ranges.{AxisRange}
 
 module _ (n : ℕ) where
@@ -54,7 +54,7 @@ module _ (n : ℕ) where
   pub name-range : (v : AxisView) (f : List ℕ) → AxisRange n v → AxisRange n (nameStep v f .axis)
   unfolding nameStep
   name-range v f r =
-      either (noRoom 4096 32768 (length (axisNames v)) (length (axisBytes v)) (length f)) (refused 8 v) (accepted (withName v (v .unended) f)) r (go (v .unended))
+      either (noRoom 4096 32768 (length (axisNames v)) (length (axisBytes v)) (length f)) (refused (namedFault (length f) 8) v) (accepted (withName v (v .unended) f)) r (go (v .unended))
     where
       go : (u : Unended) → AxisRange n (withName v u f)
       go none = record { areas = r .areas; negative = r .negative; positive = r .positive; marks = r .marks }

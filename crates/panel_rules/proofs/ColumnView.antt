@@ -16,7 +16,7 @@ use Rattle.sheet_forms.specs.declared.Record.the-variants.{Fault, Axis as AxisL
 use Rattle.sheet_forms.specs.Words.{at, axisWords, kindWords}
 use Rattle.sheet_forms.specs.Records.{recordOf}
 use Rattle.sheet_forms.specs.Forms.{Kind, axis, area, spare, extra, item, place, kindNumber}
-use Rattle.axis_tables.specs.View.{AxisView, AxisOutcome, emptyAxis, trackStep, repeatStep, endStep, nameStep, spareStep, itemStep, extraStep, axisStep}
+use Rattle.axis_tables.specs.View.{AxisView, AxisOutcome, emptyAxis, trackStep, repeatStep, endStep, nameStep, spareStep, itemStep, extraStep, axisStep, namedFault}
 use Rattle.panel_tables.specs.declared.AreaEdges.{AreaEdges}
 use Rattle.panel_tables.specs.View.{End as PlacedEnd, PanelView, refused, accepted, raised, edgesOutside, endOutside, areaStep, placeStep}
 use Rattle.panel_tables.specs.Axes.{viewIn, stepIn}
@@ -51,8 +51,8 @@ area-columns v n e = go (edgesOutside e) (ltb 32 (length n)) (leb 64 (length (v 
         }
 
     go : (s t u : Bool)
-        → onlyColumns (cond s (refused 4 v) (cond t (refused 8 v) (cond u (refused 8 v) (accepted (more v)))) .panel)
-        ≡ onlyColumns (cond s (refused 4 (onlyColumns v)) (cond t (refused 8 (onlyColumns v)) (cond u (refused 8 (onlyColumns v)) (accepted (more (onlyColumns v))))) .panel)
+        → onlyColumns (cond s (refused (namedFault (length n) 4) v) (cond t (refused 2 v) (cond u (refused 8 v) (accepted (more v)))) .panel)
+        ≡ onlyColumns (cond s (refused (namedFault (length n) 4) (onlyColumns v)) (cond t (refused 2 (onlyColumns v)) (cond u (refused 8 (onlyColumns v)) (accepted (more (onlyColumns v))))) .panel)
     go true t u = refl
     go false true u = refl
     go false false true = refl
@@ -72,8 +72,11 @@ place-columns v a s e = go (endOutside (s .end)) (endOutside (e .end)) (ltb 32 (
           stage = x .stage;
         }
 
+    number : ℕ
+    number = namedFault (length (s .name)) (namedFault (length (e .name)) 4)
+
     by : Bool → Bool → Bool → Bool → Bool → PanelView → PanelView
-    by c d f g i x = cond c (refused 4 x) (cond d (refused 4 x) (cond f (refused 8 x) (cond g (refused 8 x) (cond i (refused 8 x) (accepted (more x)))))) .panel
+    by c d f g i x = cond c (refused number x) (cond d (refused number x) (cond f (refused 2 x) (cond g (refused 2 x) (cond i (refused 8 x) (accepted (more x)))))) .panel
 
     go : (c d f g i : Bool) → onlyColumns (by c d f g i v) ≡ onlyColumns (by c d f g i (onlyColumns v))
     go true d f g i = refl

@@ -14,7 +14,7 @@ use Rattle.sheet_forms.specs.Words.{at}
 use Rattle.sheet_forms.specs.Records.{recordOf}
 use Rattle.sheet_forms.proofs.Bounds.{Bounded}
 use Rattle.sheet_forms.proofs.Theorem.{record-bounded}
-use Rattle.axis_tables.specs.View.{AxisView, AxisOutcome, emptyAxis, trackStep, repeatStep, endStep, nameStep, spareStep, itemStep, extraStep, axisStep}
+use Rattle.axis_tables.specs.View.{AxisView, AxisOutcome, emptyAxis, trackStep, repeatStep, endStep, nameStep, spareStep, itemStep, extraStep, axisStep, namedFault}
 use Rattle.axis_tables.proofs.Runs.{all-append}
 use Rattle.panel_tables.specs.declared.AreaEdges.{AreaEdges}
 use Rattle.panel_tables.specs.View.{Area, End, Placement, PanelView, emptyView, refused, accepted, raised, edgesOutside, endOutside, areaStep, placeStep}
@@ -62,7 +62,7 @@ area-range v n e r = go (edgesOutside e) (ltb 32 (length n)) (leb 64 (length (v 
     both Column = rw (largest-more Column (v .areas) x) (raised-range (largest Column (v .areas)) (e .columnend) (v .columns) (r .axes Column))
     both Row = rw (largest-more Row (v .areas) x) (raised-range (largest Row (v .areas)) (e .rowend) (v .rows) (r .axes Row))
 
-    go : (s t u : Bool) → PanelRange (cond s (refused 4 v) (cond t (refused 8 v) (cond u (refused 8 v) (accepted w))) .panel)
+    go : (s t u : Bool) → PanelRange (cond s (refused (namedFault (length n) 4) v) (cond t (refused 2 v) (cond u (refused 8 v) (accepted w))) .panel)
     go true t u = r
     go false true u = r
     go false false true = r
@@ -82,7 +82,7 @@ place-range v a s e h k r = go (endOutside (s .end)) (endOutside (e .end)) (ltb 
     both Column = r .axes Column
     both Row = r .axes Row
 
-    go : (c d f g i : Bool) → PanelRange (cond c (refused 4 v) (cond d (refused 4 v) (cond f (refused 8 v) (cond g (refused 8 v) (cond i (refused 8 v) (accepted w))))) .panel)
+    go : (c d f g i : Bool) → PanelRange (cond c (refused (namedFault (length (s .name)) (namedFault (length (e .name)) 4)) v) (cond d (refused (namedFault (length (s .name)) (namedFault (length (e .name)) 4)) v) (cond f (refused 2 v) (cond g (refused 2 v) (cond i (refused 8 v) (accepted w))))) .panel)
     go true d f g i = r
     go false true f g i = r
     go false false true g i = r

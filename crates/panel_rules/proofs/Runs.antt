@@ -12,7 +12,9 @@ use Rattle.name_entries.specs.Entries.{entryOf, namedEntry}
 use Rattle.name_entries.specs.Entries as Store
 use Rattle.name_entries.specs.LineNames.{ofAxis}
 use Rattle.track_rules.specs.declared.GridTrack.{GridTrack}
-use Rattle.track_rules.specs.Records.{tracksIn}
+use Rattle.sizing.proofs.Words.{sizing-in-range}
+use Rattle.track_rules.specs.Records.{tracksIn, axisRefusal}
+use Rattle.track_rules.proofs.Answers.{axis-unrefused}
 use Rattle.track_run.specs.Run.{fillAnswerOf, runAfter}
 use Rattle.axis_tables.specs.Runs.{bytesOf}
 use Rattle.axis_tables.specs.View.{AxisView, sizesOf, componentsOf, axisBytes}
@@ -166,3 +168,9 @@ pub marks-enough : (s : List ℕ) → sheetOf s .fault ≡ 0 → (a : Axis) → 
 marks-enough s z a =
     let r = sheet-range s .axes a in
     omega (arith, r .negative, r .positive, r .marks, few-tracks s z a)
+
+-- and layer 5 does not refuse an axis of an accepted sheet
+pub run-axis : (s : List ℕ) → sheetOf s .fault ≡ 0 → (a : Axis) → axisRefusal (tracksAfter (sheetAxis s a)) ≡ 0
+run-axis s z a =
+    let r = sheet-range s .axes a in
+    axis-unrefused (tracksAfter (sheetAxis s a)) (sizing-in-range (sheetAxis s a .line .gap)) (r .negative) (few-tracks s z a) (r .positive)

@@ -5,7 +5,7 @@ use mathlib.Core.Logic.{_⊎_, ⊎-elim}
 use mathlib.Core.Bool.{Bool, true, false, cond}
 use mathlib.Core.List.{List, [], _∷_, _++_, map}
 use native.Mathlib.Omega.{arith}
-use borrow.Author.Tests.{lt-leb, le-ltb}
+use borrow.Author.Tests.{lt-leb, le-ltb, eq-eqb}
 use lib.Dec.{leb, ltb}
 use lib.ListN.{length, getD}
 use Rattle.coordinates.specs.declared.axis.Axis.{Axis}
@@ -20,7 +20,7 @@ use Rattle.track_rules.specs.declared.RecordAnswer.{RecordAnswer}
 use Rattle.track_rules.specs.declared.WrittenTrack.{WrittenTrack}
 use Rattle.track_rules.specs.Tracks.{zeroGridTrack}
 use Rattle.track_rules.specs.Written.{repeatsOf, copies, onceOf, writtenOut}
-use Rattle.track_rules.specs.Records.{tracksIn, recordsIn, noTrack, recordsOf, recordAnswerOf}
+use Rattle.track_rules.specs.Records.{tracksIn, recordsIn, noTrack, recordsOf, axisRefusal, recordAnswerOf}
 use Rattle.track_rules.specs.Lines.{Stands}
 use Rattle.track_rules.proofs.Lines.{line-record}
 use Rattle.track_run.specs.Run.{runAfter}
@@ -76,7 +76,7 @@ module _ (m : CssTemplate) (v : PanelView) (a : Axis) (calls : List Call) (f : F
   within : length (writtenOut cs (sizeOf va .repetitions)) ≤ explicitOf va
   within = let e = Book.tracks-found m v a calls f css r in omega arith
 
-  module _ (items : List ℕ) (long : tracksIn (tracksAfter va) ≤ length items) (j : ℕ) (from : 1 ≤ j) (to : j ≤ length writtenTracks) where
+  module _ (unrefused : axisRefusal (tracksAfter va) ≡ 0) (items : List ℕ) (long : tracksIn (tracksAfter va) ≤ length items) (j : ℕ) (from : 1 ≤ j) (to : j ≤ length writtenTracks) where
     abbrev index : ℕ
     index = 2 * (va .negative + j) - 1
 
@@ -91,7 +91,7 @@ module _ (m : CssTemplate) (v : PanelView) (a : Axis) (calls : List Call) (f : F
     answered =
         let w = within in
         let i = inside in
-        rw (Book.counted-same m v a calls f css r, lt-leb (recordsIn (tracksAfter va)) index (omega arith), le-ltb (length items) (tracksIn (tracksAfter va)) long)
+        rw (Book.counted-same m v a calls f css r, eq-eqb (axisRefusal (tracksAfter va)) 0 unrefused, lt-leb (recordsIn (tracksAfter va)) index (omega arith), le-ltb (length items) (tracksIn (tracksAfter va)) long)
 
     -- record 2(m + j) - 1, m the negative tracks, is not refused and is track j
     pub track-accepted : recordAfter va items index .refusal ≡ noRefusal
@@ -107,4 +107,4 @@ module _ (m : CssTemplate) (v : PanelView) (a : Axis) (calls : List Call) (f : F
         → StandsThere (getD (runAfter (tracksAfter va) cs (map sizesOf (va .spares)) items run) index zeroGridTrack)
     track-run run room =
         rw (← written-found)
-        (run-line-record (tracksAfter va) cs (map sizesOf (va .spares)) items run room long j zeroGridTrack from inside within)
+        (run-line-record (tracksAfter va) cs (map sizesOf (va .spares)) items run unrefused room long j zeroGridTrack from inside within)

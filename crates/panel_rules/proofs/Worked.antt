@@ -38,7 +38,7 @@ use Rattle.name_entries.specs.LineNames.{shownAfter, explicitLineNames}
 use Rattle.track_rules.specs.declared.RecordAnswer.{RecordAnswer}
 use Rattle.track_rules.specs.Tracks.{refusedRecord}
 use Rattle.track_rules.specs.Written.{writtenOut}
-use Rattle.track_rules.specs.Records.{listed, openTo, allTracks, recordsOf, recordAnswerOf}
+use Rattle.track_rules.specs.Records.{listed, openTo, allTracks, recordsOf, axisRefusal, recordAnswerOf}
 use Rattle.axis_tables.specs.View.{Item, AxisView, componentsOf, emptyAxis, trackStep, repeatStep, endStep, nameStep, spareStep, itemStep, extraStep, axisStep}
 use Rattle.panel_tables.specs.View.{PanelView, emptyView, areaStep, placeStep}
 use Rattle.panel_tables.specs.Axes.{viewIn}
@@ -235,7 +235,7 @@ unfolding sampleSheet sample rowSheet rowRun otherSheet otherRun calledSheet fir
     templateSizeOf outsideCount automaticCount beforeCount automaticTracks anyEmpty allFixed everyFixed outsideSpace repetitionSpace fittingOf heldOf repetitionsOf floorOf ceilingOf
     repeated passed ruleFrom recordStep recordFault lineStep templateSize counted entriesOf endFault ended run sheetOf ofBits add sub mul div lt ofInt
     sheetBook sheetTracks tableRefusal addedFrom book isName
-    sizeAfter listsAfter nameAfter recordAfter placementAfter shownAfter explicitLineNames writtenOut openTo allTracks recordsOf recordAnswerOf seek named?
+    sizeAfter listsAfter nameAfter recordAfter placementAfter shownAfter explicitLineNames writtenOut openTo allTracks recordsOf axisRefusal recordAnswerOf seek named?
 all = record {
   ofSample = refl;
   ofRows = refl;

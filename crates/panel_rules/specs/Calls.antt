@@ -136,7 +136,7 @@ pub record EnteredName : Type 0 where
 
 -- 2 no name, 4 a line outside 1 to 20,000, 8 no room, then 10 where either store is short
 unfoldable pub enterRefusal : Panel → NameTables → Axis → ℕ → Bytes → ℕ
-enterRefusal p t a line name = entryRefusal 4096 (shorterStore t) (stateIn p a .grid .entries) (stateIn p a .room .used) line name
+enterRefusal p t a line name = entryRefusal (shorterStore t) (stateIn p a .grid .entries) (stateIn p a .room .used) line name
 
 -- "on a refusal a state passed in goes back as it came"
 unfoldable pub enterName : Panel → NameTables → Axis → ℕ → Bytes → EnteredName

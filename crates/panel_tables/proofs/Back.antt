@@ -25,7 +25,8 @@ use Rattle.panel_tables.specs.declared.EndPlace.{EndPlace}
 use Rattle.panel_tables.specs.View.{Area, End, Placement, hasArea, edgeOutside, edgesOutside, numberOutside, endOutside, noArea, noEnd, noPlacement}
 use Rattle.panel_tables.specs.Numbers.{countOf, numberOf}
 use Rattle.panel_tables.specs.Areas.{edgesWord, edgesOf, wordOf, areaAt, areaName, areaIn, namedIn, hasAreaIn}
-use Rattle.panel_tables.specs.Placements.{axisNumber, axisOf, wordAxis, endWord, endOf, startWord, finishWord, placementAt, endIn, placementIn}
+use Rattle.coordinates.specs.Axes.{axisNumber, axisOf}
+use Rattle.panel_tables.specs.Placements.{wordAxis, endWord, endOf, startWord, finishWord, placementAt, endIn, placementIn}
 use Rattle.panel_tables.specs.Written.{areaNameOf, areaEdgesWord, areaNameWord, areaBytesOf, areaRegions, areaWords, areaStore, AxisEnd, endsOf, endNameOf, axisEndWord, placementBytesOf, placementWords, placementStore}
 use Rattle.panel_tables.proofs.Fits.{GoodArea, GoodEnd, GoodPlacement, area-bytes, placement-bytes}
 use Rattle.panel_tables.proofs.Same.{length-ends}

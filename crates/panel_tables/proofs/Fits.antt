@@ -10,7 +10,7 @@ use lib.ListN.{length, length-append}
 use borrow.Author.Tests.{ltb-false, leb-false, leb-true}
 use Rattle.coordinates.specs.declared.axis.Axis.{Axis}
 use Rattle.axis_tables.specs.Runs.{bytesOf}
-use Rattle.axis_tables.specs.View.{AxisView}
+use Rattle.axis_tables.specs.View.{AxisView, namedFault}
 use Rattle.axis_tables.proofs.Runs.{All, all-append}
 use Rattle.axis_tables.proofs.Fits.{Fits}
 use Rattle.axis_tables.proofs.Kept.{empty-fits}
@@ -62,8 +62,8 @@ area-fits v n e f =
     let a : Area = record { name = n; edges = e } in
     let w : PanelView = record { columns = raised (v .columns) (e .columnend); rows = raised (v .rows) (e .rowend); areas = v .areas ++ (a ∷ []); placements = v .placements; stage = v .stage } in
     let o : PanelOutcome = cond (leb 64 (length (v .areas))) (refused 8 v) (accepted w) in
-    fits-cond (edgesOutside e) (refused 4 v) (cond (ltb 32 (length n)) (refused 8 v) o) f
-    (λ x. fits-cond (ltb 32 (length n)) (refused 8 v) o f
+    fits-cond (edgesOutside e) (refused (namedFault (length n) 4) v) (cond (ltb 32 (length n)) (refused 2 v) o) f
+    (λ x. fits-cond (ltb 32 (length n)) (refused 2 v) o f
     (λ y. fits-cond (leb 64 (length (v .areas))) (refused 8 v) (accepted w) f
     (λ z. record {
       columns = raised-fits (v .columns) (e .columnend) (f .columns);
@@ -80,12 +80,13 @@ place-fits v axis s e f =
     let p : Placement = record { axis = axis; start = s; end = e } in
     let w : PanelView = record { columns = v .columns; rows = v .rows; areas = v .areas; placements = v .placements ++ (p ∷ []); stage = v .stage } in
     let a : PanelOutcome = cond (leb 256 (length (v .placements))) (refused 8 v) (accepted w) in
-    let b : PanelOutcome = cond (ltb 32 (length (e .name))) (refused 8 v) a in
-    let d : PanelOutcome = cond (ltb 32 (length (s .name))) (refused 8 v) b in
-    fits-cond (endOutside (s .end)) (refused 4 v) (cond (endOutside (e .end)) (refused 4 v) d) f
-    (λ x. fits-cond (endOutside (e .end)) (refused 4 v) d f
-    (λ y. fits-cond (ltb 32 (length (s .name))) (refused 8 v) b f
-    (λ z. fits-cond (ltb 32 (length (e .name))) (refused 8 v) a f
+    let b : PanelOutcome = cond (ltb 32 (length (e .name))) (refused 2 v) a in
+    let d : PanelOutcome = cond (ltb 32 (length (s .name))) (refused 2 v) b in
+    let m : ℕ = namedFault (length (s .name)) (namedFault (length (e .name)) 4) in
+    fits-cond (endOutside (s .end)) (refused m v) (cond (endOutside (e .end)) (refused m v) d) f
+    (λ x. fits-cond (endOutside (e .end)) (refused m v) d f
+    (λ y. fits-cond (ltb 32 (length (s .name))) (refused 2 v) b f
+    (λ z. fits-cond (ltb 32 (length (e .name))) (refused 2 v) a f
     (λ t. fits-cond (leb 256 (length (v .placements))) (refused 8 v) (accepted w) f
     (λ u. record {
       columns = f .columns;

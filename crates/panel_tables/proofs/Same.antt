@@ -24,7 +24,8 @@ use Rattle.axis_tables.proofs.Regions.{zeros-part}
 use Rattle.panel_tables.specs.declared.AreaEdges.{AreaEdges}
 use Rattle.panel_tables.specs.View.{Area, End, Placement, PanelView, emptyView, edgesOutside, areaStep, endOutside, placeStep}
 use Rattle.panel_tables.specs.Areas.{edgesWord, putArea}
-use Rattle.panel_tables.specs.Placements.{axisNumber, endWord, placementFault, putPlacement}
+use Rattle.coordinates.specs.Axes.{axisNumber}
+use Rattle.panel_tables.specs.Placements.{endWord, placementFault, putPlacement}
 use Rattle.panel_tables.specs.Regions.{panelWords, panelBytes, axisWordsIn, areaWordsIn, placementWordsIn, marksIn, areaBytesIn, placementBytesIn}
 use Rattle.panel_tables.specs.Written.{zeroPanel, zeroPanelReading, areaNameOf, areaEdgesWord, areaNameWord, areaBytesOf, areaRegions, areaWords, areaStore, AxisEnd, endsOf, endNameOf, axisEndWord, placementBytesOf, placementWords, placementStore, panelOf, PanelHeld, panelHeldOf, heldPanel, stepped, ofAreas, ofPlacements}
 use Rattle.panel_tables.proofs.Fits.{FitsPanel, area-bytes, placement-bytes}
@@ -165,8 +166,12 @@ module _ (v : PanelView) (f : FitsPanel v) where
       go : (a b c d g : Bool) → endOutside (s .end) ≡ a → endOutside (e .end) ≡ b → ltb 32 (length (s .name)) ≡ c → ltb 32 (length (e .name)) ≡ d → leb 256 (length (v .placements)) ≡ g
           → ofPlacements (heldPanel v) (putPlacement (panelOf v) (placementWords (v .placements)) (placementStore (v .placements)) axis (s .end) (s .name) (e .end) (e .name))
           ≡ stepped (placeStep v axis s e)
-      go true b c d g w x y z t = rw w
-      go false true c d g w x y z t = rw (w, x)
+      go true b true d g w x y z t = rw (w, y)
+      go true b false true g w x y z t = rw (w, y, z)
+      go true b false false g w x y z t = rw (w, y, z)
+      go false true true d g w x y z t = rw (w, x, y)
+      go false true false true g w x y z t = rw (w, x, y, z)
+      go false true false false g w x y z t = rw (w, x, y, z)
       go false false true d g w x y z t = rw (w, x, y)
       go false false false true g w x y z t = last (leb 256 (length (v .placements))) (ltb 16384 (length (placementBytesOf (v .placements)) + length (s .name))) refl refl
         where

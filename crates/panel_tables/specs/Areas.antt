@@ -9,7 +9,7 @@ use Rattle.coordinates.specs.declared.axis.Axis.the-variants.{Column, Row}
 use Rattle.text.specs.Split.{same}
 use Rattle.axis_tables.specs.declared.AxisRoom.{AxisRoom}
 use Rattle.axis_tables.specs.Runs.{partOf, putBytes}
-use Rattle.axis_tables.specs.View.{noRoom}
+use Rattle.axis_tables.specs.View.{noRoom, namedFault}
 use Rattle.axis_tables.specs.Store.{nameWord, withAreas}
 use Rattle.axis_tables.specs.Reads.{namePlace}
 use Rattle.panel_tables.specs.declared.Room.{Room}
@@ -92,8 +92,8 @@ put fault p = record { fault = fault; panel = p }
 
 unfoldable pub putArea : Panel → List ℕ → List ℕ → List ℕ → AreaEdges → InAreas
 putArea p w b n e =
-    cond (edgesOutside e) (record { answer = put 4 p; words = w; bytes = b })
-    (cond (noRoom 64 2048 (p .grid .areas) (p .room .areabytes) (length n)) (record { answer = put 8 p; words = w; bytes = b })
+    cond (edgesOutside e) (record { answer = put (namedFault (length n) 4) p; words = w; bytes = b })
+    (cond (noRoom 64 2048 (p .grid .areas) (p .room .areabytes) (length n)) (record { answer = put (namedFault (length n) 8) p; words = w; bytes = b })
     (record {
       answer = put 0 (withArea p e (length n));
       words = set (set w (p .grid .areas) (edgesWord e)) (64 + p .grid .areas) (nameWord 0 0 (p .room .areabytes) (length n));

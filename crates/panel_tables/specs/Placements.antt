@@ -5,9 +5,9 @@ use mathlib.Core.Bool.{Bool, cond, _||_}
 use lib.Dec.{eqb, ltb}
 use lib.ListN.{length, getD, set}
 use Rattle.coordinates.specs.declared.axis.Axis.{Axis}
-use Rattle.coordinates.specs.declared.axis.Axis.the-variants.{Column, Row}
+use Rattle.coordinates.specs.Axes.{axisNumber, axisOf}
 use Rattle.axis_tables.specs.Runs.{partOf, putBytes}
-use Rattle.axis_tables.specs.View.{noRoom}
+use Rattle.axis_tables.specs.View.{noRoom, namedFault}
 use Rattle.panel_tables.specs.declared.Panel.{Panel}
 use Rattle.panel_tables.specs.declared.PanelPut.{PanelPut}
 use Rattle.panel_tables.specs.declared.PlacementEnd.{PlacementEnd}
@@ -16,14 +16,6 @@ use Rattle.panel_tables.specs.declared.PlacementPlace.{PlacementPlace}
 use Rattle.panel_tables.specs.View.{End, Placement, endOutside}
 use Rattle.panel_tables.specs.Numbers.{countOf, numberOf}
 use Rattle.panel_tables.specs.Areas.{InAreas, put}
-
--- `c` is 0, `r` is 1
-abbrev pub axisNumber : Axis → ℕ
-axisNumber Column = 0
-axisNumber Row = 1
-
-abbrev pub axisOf : ℕ → Axis
-axisOf n = cond (eqb n 0) Column Row
 
 -- `named` and `nspan` use their name
 abbrev pub usesName : ℕ → Bool
@@ -71,13 +63,13 @@ withPlacement p used =
       room = record { columns = p .room .columns; rows = p .room .rows; areabytes = p .room .areabytes; placementbytes = used };
     }
 
--- a kind or number outside its range is 4; a 257th placement is 8, and so are names without room
+-- a name above 32 bytes is 2; a kind or number outside its range is 4; a 257th placement is 8, and so are names without room
 unfoldable pub placementFault : Panel → PlacementEnd → ℕ → PlacementEnd → ℕ → ℕ
 placementFault p s m e n =
-    cond (endOutside s) 4
-    (cond (endOutside e) 4
-    (cond (noRoom 256 16384 (p .grid .placements) (p .room .placementbytes) m) 8
-    (cond (noRoom 256 16384 (p .grid .placements) (p .room .placementbytes + m) n) 8 0)))
+    cond (endOutside s) (namedFault m (namedFault n 4))
+    (cond (endOutside e) (namedFault m (namedFault n 4))
+    (cond (noRoom 256 16384 (p .grid .placements) (p .room .placementbytes) m) (namedFault m (namedFault n 8))
+    (cond (noRoom 256 16384 (p .grid .placements) (p .room .placementbytes + m) n) (namedFault n 8) 0)))
 
 unfoldable pub putPlacement : Panel → List ℕ → List ℕ → Axis → PlacementEnd → List ℕ → PlacementEnd → List ℕ → InAreas
 putPlacement p w b axis s m e n =

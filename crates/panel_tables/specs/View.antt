@@ -8,7 +8,7 @@ use lib.ListN.{length}
 use Rattle.coordinates.specs.declared.axis.Axis.{Axis}
 use Rattle.coordinates.specs.declared.axis.Axis.the-variants.{Column}
 use Rattle.text.specs.Split.{same}
-use Rattle.axis_tables.specs.View.{AxisView, emptyAxis}
+use Rattle.axis_tables.specs.View.{AxisView, namedFault, emptyAxis}
 use Rattle.panel_tables.specs.declared.AreaEdges.{AreaEdges}
 use Rattle.panel_tables.specs.declared.PlacementEnd.{PlacementEnd}
 
@@ -87,11 +87,11 @@ abbrev pub edgesOutside : AreaEdges → Bool
 edgesOutside e =
     cond (edgeOutside (e .rowstart)) true (cond (edgeOutside (e .rowend)) true (cond (edgeOutside (e .columnstart)) true (edgeOutside (e .columnend))))
 
--- 64 drawn areas; a name has at most 32 bytes
+-- a name above 32 bytes is 2, an edge outside its range 4, a 65th area 8
 unfoldable pub areaStep : PanelView → List ℕ → AreaEdges → PanelOutcome
 areaStep v n e =
-    cond (edgesOutside e) (refused 4 v)
-    (cond (ltb 32 (length n)) (refused 8 v)
+    cond (edgesOutside e) (refused (namedFault (length n) 4) v)
+    (cond (ltb 32 (length n)) (refused 2 v)
     (cond (leb 64 (length (v .areas))) (refused 8 v)
     (accepted (record {
       columns = raised (v .columns) (e .columnend);
@@ -109,13 +109,13 @@ numberOutside (negsuc k) = ltb 32767 k
 abbrev pub endOutside : PlacementEnd → Bool
 endOutside e = cond (ltb 4 (e .kind)) true (numberOutside (e .number))
 
--- 256 placements; a name has at most 32 bytes
+-- a name above 32 bytes is 2, a kind or number outside its range 4, a 257th placement 8
 unfoldable pub placeStep : PanelView → Axis → End → End → PanelOutcome
 placeStep v axis start end =
-    cond (endOutside (start .end)) (refused 4 v)
-    (cond (endOutside (end .end)) (refused 4 v)
-    (cond (ltb 32 (length (start .name))) (refused 8 v)
-    (cond (ltb 32 (length (end .name))) (refused 8 v)
+    cond (endOutside (start .end)) (refused (namedFault (length (start .name)) (namedFault (length (end .name)) 4)) v)
+    (cond (endOutside (end .end)) (refused (namedFault (length (start .name)) (namedFault (length (end .name)) 4)) v)
+    (cond (ltb 32 (length (start .name))) (refused 2 v)
+    (cond (ltb 32 (length (end .name))) (refused 2 v)
     (cond (leb 256 (length (v .placements))) (refused 8 v)
     (accepted (record {
       columns = v .columns;

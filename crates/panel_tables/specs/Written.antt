@@ -13,7 +13,8 @@ use Rattle.panel_tables.specs.declared.Panel.{Panel}
 use Rattle.panel_tables.specs.declared.Reading.{Reading}
 use Rattle.panel_tables.specs.View.{Area, End, Placement, PanelView, PanelOutcome}
 use Rattle.panel_tables.specs.Areas.{edgesWord, InAreas, put}
-use Rattle.panel_tables.specs.Placements.{axisNumber, endWord}
+use Rattle.coordinates.specs.Axes.{axisNumber}
+use Rattle.panel_tables.specs.Placements.{endWord}
 use Rattle.panel_tables.specs.Regions.{axisWordsIn, areaWordsIn, placementWordsIn, marksIn, areaBytesIn, placementBytesIn}
 
 abbrev pub zeroPanel : Panel

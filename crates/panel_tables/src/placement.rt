@@ -2,27 +2,17 @@
 ghost use mathlib.Core.Path.{_≡_};
 ghost use mathlib.Core.Bool.{cond};
 ghost use mathlib.Core.List.{[]};
-ghost use Rattle.panel_tables.specs.Placements.{axisOf, endOf, startWord, finishWord, placementAt, usesName};
+ghost use Rattle.panel_tables.specs.Placements.{endOf, startWord, finishWord, placementAt, usesName};
 use crate::EndPlace;
 use crate::PlacementEnd;
 use crate::PlacementPlace;
 use crate::number::number_of;
 use axis_tables::layout::word_at;
-use coordinates::Axis;
+use coordinates::axis::axis_of;
 
 pub const PLACEMENT_WORDS: usize = 512;
 
 pub const PLACEMENT_BYTES: usize = 16384;
-
-// The axis of a number.
-fn axis_of(number: u64) -> Axis
-    ensures { λ r. ⌜ r ≡ axisOf number ⌝ }
-{
-    match number {
-        0 => Axis::Column,
-        _ => Axis::Row,
-    }
-}
 
 // An end from its word. Any word gives one.
 pub fn end_of(word: u64) -> EndPlace
@@ -76,7 +66,7 @@ pub fn placement_at(words: &[u64], index: u32) -> PlacementPlace
     ensures { λ r. ⌜ r ≡ placementAt (now (words .entry)) index ⌝ }
 {
     let first = start_word(words, index);
-    let axis = axis_of(first / 0x100_0000_0000_0000);
+    let axis = axis_of((first / 0x100_0000_0000_0000) as u32);
     let start = end_of(first);
     let end = end_of(finish_word(words, index));
     PlacementPlace { axis, start, end }

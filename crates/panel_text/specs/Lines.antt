@@ -4,16 +4,15 @@ use mathlib.Core.List.{List, [], _∷_, _++_}
 use mathlib.Core.Bool.{Bool, true, false}
 use lib.ListN.{getD}
 use Rattle.coordinates.specs.declared.axis.Axis.{Axis}
-use Rattle.coordinates.specs.declared.axis.Axis.the-variants.{Column, Row}
+use Rattle.coordinates.specs.Axes.{axisNumber}
 use Rattle.coordinates.specs.declared.refusal.Refusal.{Refusal}
 use Rattle.sizing.specs.declared.Sizing.{Sizing}
 use Rattle.sizing.specs.Words.{kindOf, bitsOf}
 use Rattle.sheet_forms.specs.Words.{axisWords, sizeWords, endWords}
 use Rattle.track_rules.specs.declared.GridTrack.{GridTrack}
 use Rattle.track_rules.specs.declared.GridTrackKind.{GridTrackKind}
-use Rattle.track_rules.specs.declared.GridTrackKind.the-variants.{Track, Gutter}
 use Rattle.track_rules.specs.declared.TrackSource.{TrackSource}
-use Rattle.track_rules.specs.declared.TrackSource.the-variants as Source
+use Rattle.track_rules.specs.Numbers.{kindNumber, sourceNumber}
 use Rattle.name_resolver.specs.declared.NonNamedGridPlacement.{NonNamedGridPlacement}
 use Rattle.name_resolver.specs.declared.ResolvedLine.{ResolvedLine}
 use Rattle.name_resolver.specs.Placements.{resolvedKindOf, resolvedNumberOf}
@@ -27,8 +26,7 @@ lineOf (f ∷ g ∷ fs) = f ++ (9 ∷ lineOf (g ∷ fs))
 
 -- "axis is `c` or `r`"
 abbrev pub axisWord : Axis → List ℕ
-axisWord Column = getD axisWords 0 []
-axisWord Row = getD axisWords 1 []
+axisWord a = getD axisWords (axisNumber a) []
 
 -- `size`, axis, repetitions, explicit count
 unfoldable pub sizeLine : Axis → ℕ → ℕ → List ℕ
@@ -36,8 +34,7 @@ sizeLine axis repetitions count = lineOf ((115 ∷ 105 ∷ 122 ∷ 101 ∷ []) �
 
 -- `track` or `gutter`
 abbrev pub trackWord : GridTrackKind → List ℕ
-trackWord Track = 116 ∷ 114 ∷ 97 ∷ 99 ∷ 107 ∷ []
-trackWord Gutter = 103 ∷ 117 ∷ 116 ∷ 116 ∷ 101 ∷ 114 ∷ []
+trackWord k = getD ((116 ∷ 114 ∷ 97 ∷ 99 ∷ 107 ∷ []) ∷ (103 ∷ 117 ∷ 116 ∷ 116 ∷ 101 ∷ 114 ∷ []) ∷ []) (kindNumber k) []
 
 -- `y` or `n`
 abbrev pub collapsedWord : Bool → List ℕ
@@ -54,12 +51,7 @@ sizeFields s = sizeWord s ∷ hexadecimal (bitsOf s) ∷ []
 
 -- "one more field, `n t a g p -` in that order" (document 02, Req 08)
 abbrev pub sourceLetter : TrackSource → ℕ
-sourceLetter Source.Negative = 110
-sourceLetter Source.Template = 116
-sourceLetter Source.Automatic = 97
-sourceLetter Source.Area = 103
-sourceLetter Source.Positive = 112
-sourceLetter Source.Gutter = 45
+sourceLetter s = getD (110 ∷ 116 ∷ 97 ∷ 103 ∷ 112 ∷ 45 ∷ []) (sourceNumber s) 0
 
 -- a record: index, kind, collapsed, then the sizes: minimum kind, value, maximum kind, value; last its source
 unfoldable pub recordLine : ℕ → GridTrack → List ℕ

@@ -5,6 +5,7 @@ ghost use Rattle.panel_tables.specs.View.{edgeOutside, edgesOutside};
 ghost use Rattle.panel_tables.specs.Areas.{edgesWord, InAreas, raised, raisedTo, putArea};
 use axis_tables::AxisRoom;
 use axis_tables::layout::name_word;
+use axis_tables::name::named_fault;
 use axis_tables::name::no_room;
 use axis_tables::name::put_bytes;
 use axis_tables::write::set_word;
@@ -93,7 +94,7 @@ fn raised(room: Room, edges: AreaEdges) -> Room
     after
 }
 
-// An area. 4: an edge outside 1 to 10,001; 8: a 65th area, or its name has no room.
+// An area. 2: a name of more than 32 bytes; 4: an edge outside 1 to 10,001; 8: a 65th area, or its name has no room.
 pub fn put_area(
     panel: Panel,
     words: &mut [u64],
@@ -107,10 +108,10 @@ pub fn put_area(
     let areas = panel.grid.areas;
     let used = panel.room.areabytes;
     if edges_outside(edges) {
-        return put(4, panel);
+        return put(named_fault(length, 4), panel);
     }
     if no_room(64, 2048, areas, used, length) {
-        return put(8, panel);
+        return put(named_fault(length, 8), panel);
     }
     let edgesword = edges_word(edges);
     let nameword = name_word(0, 0, used, length as u64);

@@ -2,11 +2,13 @@
 ghost use mathlib.Core.Path.{_≡_};
 ghost use Rattle.panel_tables.specs.View.{endOutside};
 ghost use Rattle.panel_tables.specs.Areas.{InAreas};
-ghost use Rattle.panel_tables.specs.Placements.{axisNumber, endWord, placementFault, putPlacement};
+ghost use Rattle.panel_tables.specs.Placements.{endWord, placementFault, putPlacement};
+use axis_tables::name::named_fault;
 use axis_tables::name::no_room;
 use axis_tables::name::put_bytes;
 use axis_tables::write::set_word;
 use coordinates::Axis;
+use coordinates::axis::axis_number;
 use panel_tables::Panel;
 use panel_tables::PanelPut;
 use panel_tables::PlacementEnd;
@@ -22,16 +24,6 @@ fn end_outside(end: PlacementEnd) -> bool
         return true;
     }
     number_outside(end.number)
-}
-
-// `c` is 0, `r` is 1.
-fn axis_number(axis: Axis) -> u64
-    ensures { λ r. ⌜ r ≡ axisNumber axis ⌝ }
-{
-    match axis {
-        Axis::Column => 0,
-        Axis::Row => 1,
-    }
 }
 
 // The word of an end.
@@ -63,21 +55,21 @@ fn placement_fault(
     let placements = panel.grid.placements;
     let used = panel.room.placementbytes;
     if end_outside(start) {
-        return 4;
+        return named_fault(first, named_fault(last, 4));
     }
     if end_outside(end) {
-        return 4;
+        return named_fault(first, named_fault(last, 4));
     }
     if no_room(256, 16384, placements, used, first) {
-        return 8;
+        return named_fault(first, named_fault(last, 8));
     }
     if no_room(256, 16384, placements, used + first as u32, last) {
-        return 8;
+        return named_fault(last, 8);
     }
     0
 }
 
-// A placement. 4: a kind or a number outside its range; 8: a 257th placement, or its names have no room.
+// A placement. 2: a name of more than 32 bytes; 4: a kind or a number outside its range; 8: a 257th placement, or its names have no room.
 pub fn put_placement(
     panel: Panel,
     words: &mut [u64],
@@ -98,7 +90,7 @@ pub fn put_placement(
     let at = placements as usize;
     let used = panel.room.placementbytes;
     let then = used + first.len() as u32;
-    let startword = end_word(axis_number(axis), start, used, first.len() as u64);
+    let startword = end_word(axis_number(axis) as u64, start, used, first.len() as u64);
     let endword = end_word(0, end, then, last.len() as u64);
     set_word(words, at + at, startword);
     set_word(words, at + at + 1, endword);

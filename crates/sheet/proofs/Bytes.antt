@@ -19,7 +19,7 @@ use Rattle.sheet_forms.specs.Records.{recordOf}
 use Rattle.sheet_forms.proofs.Bounds.{Bounded}
 use Rattle.sheet_forms.proofs.Theorem.{record-bounded}
 use Rattle.axis_tables.specs.Runs.{bytesOf}
-use Rattle.axis_tables.specs.View.{AxisView, NameRecord, emptyAxis, nameOf, axisNames, axisBytes, nameStep}
+use Rattle.axis_tables.specs.View.{AxisView, NameRecord, emptyAxis, nameOf, axisNames, axisBytes, nameStep, namedFault}
 use Rattle.panel_tables.specs.declared.AreaEdges.{AreaEdges}
 use Rattle.panel_tables.specs.View.{End, PanelView, PanelOutcome, emptyView, refused as refusedPanel, accepted as acceptedPanel, raised, areaStep, placeStep, edgesOutside, endOutside}
 use Rattle.panel_tables.specs.Axes.{viewIn, withView}
@@ -81,8 +81,8 @@ module _ (v : PanelView) (n k : ℕ) (p : BothWithin n v) where
   area-within : (m : List ℕ) (e : AreaEdges) → BothWithin (n + k) (areaStep v m e .panel)
   unfolding areaStep
   area-within m e =
-      cond-within (edgesOutside e) (refusedPanel 4 v) _ stays
-      (cond-within (ltb 32 (length m)) (refusedPanel 8 v) _ stays (cond-within (leb 64 (length (v .areas))) (refusedPanel 8 v) _ stays drawn))
+      cond-within (edgesOutside e) (refusedPanel (namedFault (length m) 4) v) _ stays
+      (cond-within (ltb 32 (length m)) (refusedPanel 2 v) _ stays (cond-within (leb 64 (length (v .areas))) (refusedPanel 8 v) _ stays drawn))
     where
       drawn : (a : Axis) → Within (n + k) (axisNames (viewIn (record {
         columns = raised (v .columns) (e .columnend);
@@ -97,10 +97,10 @@ module _ (v : PanelView) (n k : ℕ) (p : BothWithin n v) where
   place-within : (b : Axis) (s e : End) → BothWithin (n + k) (placeStep v b s e .panel)
   unfolding placeStep
   place-within b s e =
-      cond-within (endOutside (s .end)) (refusedPanel 4 v) _ stays
-      (cond-within (endOutside (e .end)) (refusedPanel 4 v) _ stays
-      (cond-within (ltb 32 (length (s .name))) (refusedPanel 8 v) _ stays
-      (cond-within (ltb 32 (length (e .name))) (refusedPanel 8 v) _ stays (cond-within (leb 256 (length (v .placements))) (refusedPanel 8 v) _ stays placed))))
+      cond-within (endOutside (s .end)) (refusedPanel (namedFault (length (s .name)) (namedFault (length (e .name)) 4)) v) _ stays
+      (cond-within (endOutside (e .end)) (refusedPanel (namedFault (length (s .name)) (namedFault (length (e .name)) 4)) v) _ stays
+      (cond-within (ltb 32 (length (s .name))) (refusedPanel 2 v) _ stays
+      (cond-within (ltb 32 (length (e .name))) (refusedPanel 2 v) _ stays (cond-within (leb 256 (length (v .placements))) (refusedPanel 8 v) _ stays placed))))
     where
       placed : (a : Axis) → Within (n + k) (axisNames (viewIn (record {
         columns = v .columns;

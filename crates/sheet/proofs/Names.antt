@@ -7,7 +7,7 @@ use native.Mathlib.Omega.{arith}
 use lib.Dec.{ltb}
 use lib.ListN.{length, length-append}
 use Rattle.axis_tables.specs.Runs.{bytesOf}
-use Rattle.axis_tables.specs.View.{Item as TemplateItem, Unended, none, inside, AxisView, AxisOutcome, NameRecord, nameOf, axisNames, axisBytes, accepted, refused, withTemplate, withName, noRoom, componentsOf, tracksIn, trackStep, repeatStep, endStep, nameStep, spareStep, itemStep, extraStep, axisStep, repeatKind, Repeat as TemplateRepeat}
+use Rattle.axis_tables.specs.View.{Item as TemplateItem, Unended, none, inside, AxisView, AxisOutcome, NameRecord, nameOf, axisNames, axisBytes, accepted, refused, withTemplate, withName, noRoom, namedFault, componentsOf, tracksIn, trackStep, repeatStep, endStep, nameStep, spareStep, itemStep, extraStep, axisStep, repeatKind, Repeat as TemplateRepeat}
 use Rattle.axis_tables.specs.Written.{recordWord}
 use Rattle.axis_tables.proofs.More as More
 use Rattle.axis_tables.proofs.Runs.{bytes-more}
@@ -89,11 +89,11 @@ pub name-within : (v : AxisView) (is : List TemplateItem) (u : Unended) (m : Lis
 unfolding nameStep
 name-within v is none m n k h l p =
     let w : AxisView = withTemplate v is none in
-    within-cond (n + k) (noRoom 4096 32768 (length (axisNames w)) (length (axisBytes w)) (length m)) (refused 8 w) (accepted (withName w none m))
+    within-cond (n + k) (noRoom 4096 32768 (length (axisNames w)) (length (axisBytes w)) (length m)) (refused (namedFault (length m) 8) w) (accepted (withName w none m))
     (within-more n (n + k) (axisNames w) (omega arith) p)
     (rw (More.name-names is m) (within-name n k (axisNames w) (record { component = length (componentsOf is); place = 0; name = m }) h l p))
 name-within v is (inside r) m n k h l p =
     let w : AxisView = withTemplate v is (inside r) in
-    within-cond (n + k) (noRoom 4096 32768 (length (axisNames w)) (length (axisBytes w)) (length m)) (refused 8 w) (accepted (withName w (inside r) m))
+    within-cond (n + k) (noRoom 4096 32768 (length (axisNames w)) (length (axisBytes w)) (length m)) (refused (namedFault (length m) 8) w) (accepted (withName w (inside r) m))
     (within-more n (n + k) (axisNames w) (omega arith) p)
     (rw (More.inner-name-names is r m) (within-name n k (axisNames w) (record { component = length (componentsOf is); place = length (tracksIn (r .pieces)) + 1; name = m }) h l p))

@@ -42,7 +42,7 @@ module _ (names components d after : List ℕ) (repetitions : ℕ) (r : WrittenN
   unfolding namesWritten
   table-length =
       let w = writtenEntries names components repetitions in
-      ap (λ (t : TableAfter). length (t .entries)) e ∙ go (ltb 4096 (length w) || ltb (length d) (length w)) _ _ refl (length-sets d 0 (map entryWord w))
+      ap (λ (t : TableAfter). length (t .entries)) e ∙ go (ltb 4096 (length w)) _ _ refl (length-sets d 0 (map entryWord w))
     where
       go : (b : Bool) (x y : TableAfter) → length (x .entries) ≡ length d → length (y .entries) ≡ length d → length (cond b x y .entries) ≡ length d
       go true x y h g = h
@@ -55,7 +55,7 @@ module _ (names components d after : List ℕ) (repetitions : ℕ) (r : WrittenN
       let w = writtenEntries names components repetitions in
       let l : length (map entryWord w) ≡ n = length-map w entryWord ∙ sym q in
       let s : after ≡ sets d 0 (map entryWord w) =
-      ap (λ (t : TableAfter). t .entries) e ∙ rw (le-ltb 4096 (length w) (omega arith), le-ltb (length d) (length w) (omega arith)) in
+      ap (λ (t : TableAfter). t .entries) e ∙ rw (le-ltb 4096 (length w) (omega arith)) in
       rw (s, sets-eq (map entryWord w) d 0 (omega arith)) (take-at (map entryWord w) (drop (0 + length (map entryWord w)) d) n l)
 
 -- the end of an axis keeps the length of its words

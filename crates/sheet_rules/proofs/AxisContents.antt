@@ -12,8 +12,9 @@ use Rattle.coordinates.specs.declared.axis.Axis.{Axis}
 use Rattle.text.specs.Split.{same}
 use Rattle.sheet_forms.specs.Words.{at, kindWords}
 use Rattle.sheet_forms.specs.Forms.{Kind, axis, area, name, track, repeat, end, spare, extra, item, kindNumber}
-use Rattle.axis_tables.specs.View.{Sizes, Piece, name as aName, track as aTrack, Repeat as ARepeat, Item as AnItem, single, repeat as aRepeat, Unended, none, inside, AxisView, AxisOutcome, noLine, tracksIn, componentsOf, refused, accepted, withTemplate, withName, withItem, withPiece, morePieces, noRoom, axisNames, axisBytes, trackBy, trackStep, repeatKind, repeatBy, repeatStep, endBy, endStep, nameStep, spareStep, itemStep, extraStep, axisStep}
+use Rattle.axis_tables.specs.View.{Sizes, Piece, name as aName, track as aTrack, Repeat as ARepeat, Item as AnItem, single, repeat as aRepeat, Unended, none, inside, AxisView, AxisOutcome, noLine, tracksIn, componentsOf, refused, accepted, withTemplate, withName, withItem, withPiece, morePieces, noRoom, axisNames, axisBytes, trackBy, trackStep, repeatKind, repeatBy, repeatStep, endBy, endStep, nameStep, spareStep, itemStep, extraStep, axisStep, namedFault}
 use Rattle.panel_tables.specs.View.{raised}
+use Rattle.panel_tables.proofs.Rooms.{fault-stays}
 use Rattle.sheet_rules.specs.Contents.{Line, those, isOf, isOn, linesWith, linesIn, isTemplate, templateIn, countIn, sizesIn, axisLineIn, spanIn, TemplateLine, piece, opening, closing, templateLineIn, itemLines, templateLines, lastOf, largest, isAmong}
 use Rattle.sheet_rules.proofs.LineFields.{not-zero}
 
@@ -166,10 +167,10 @@ module _ (x : AxisView) where
       named (inside r) = record { items = x .template; unended = inside (morePieces r (aName n)); kept = refl; lines = piece-more x r (aName n) }
 
       by : Bool → AxisOutcome
-      by t = cond t (refused 8 x) (accepted (withName x (x .unended) n))
+      by t = cond t (refused (namedFault (length n) 8) x) (accepted (withName x (x .unended) n))
 
       go : (t : Bool) → by t .fault ≡ 0 → Written x (allLines x) (piece (aName n)) (by t .axis)
-      go true = λ z. absurd (not-zero 7 z)
+      go true = λ z. absurd (fault-stays (length n) 8 (λ q. not-zero 7 q) z)
       go false = λ z. named (x .unended)
 
   pub track-written : (low high : ℕ) → trackStep x low high .fault ≡ 0 → Written x (allLines x) (piece (aTrack (record { min = low; max = high }))) (trackStep x low high .axis)

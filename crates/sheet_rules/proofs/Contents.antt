@@ -20,10 +20,11 @@ use Rattle.sheet_forms.specs.Ends.{usesName}
 use Rattle.sheet_forms.specs.Records.{recordOf, faultOf}
 use Rattle.sheet_forms.specs.Forms.{Kind, axis, area, name, track, repeat, end, spare, extra, item, place}
 use Rattle.sheet_forms.proofs.Firsts.{first-zero}
-use Rattle.axis_tables.specs.View.{name as aName, track as aTrack, Unended, none, inside, AxisView, written, namesOf, nameOf, emptyAxis, repeatKind}
+use Rattle.axis_tables.specs.View.{name as aName, track as aTrack, Unended, none, inside, AxisView, written, namesOf, nameOf, emptyAxis, repeatKind, namedFault}
 use Rattle.panel_tables.specs.declared.AreaEdges.{AreaEdges}
 use Rattle.panel_tables.specs.View.{Area as AnArea, End as PlacedEnd, Placement, PanelView, PanelOutcome, emptyView, refused as refusedPanel, accepted as acceptedPanel, raised, edgesOutside, endOutside, areaStep, placeStep}
 use Rattle.panel_tables.specs.Axes.{viewIn, withView}
+use Rattle.panel_tables.proofs.Rooms.{fault-stays}
 use Rattle.sheet_rules.specs.Lines.{bit, edgesOf, placedEnd, recordStep, twiceFault, stageOf, lateFault, recordFault, atStage, lineStep}
 use Rattle.sheet_rules.specs.Sheet.{openFault, countFault, entriesFault, axisFault, endFault, outcome, ended, run, sheetOf}
 use Rattle.sheet_rules.specs.Rows.{OnAxis}
@@ -106,7 +107,7 @@ module _ (ls : List Line) (v : PanelView) (agrees : Agrees ls v) (l : Line) wher
           }
 
       by : Bool → Bool → Bool → PanelOutcome
-      by t u b = cond t (refusedPanel 4 v) (cond u (refusedPanel 8 v) (cond b (refusedPanel 8 v) (acceptedPanel drawn)))
+      by t u b = cond t (refusedPanel (namedFault (length (at l 1)) 4) v) (cond u (refusedPanel 2 v) (cond b (refusedPanel 8 v) (acceptedPanel drawn)))
 
       span : (a : Axis) → AxisAgrees a (chosen a (ls ++ (l ∷ []))) (viewIn drawn a)
       span Column =
@@ -117,8 +118,8 @@ module _ (ls : List Line) (v : PanelView) (agrees : Agrees ls v) (l : Line) wher
           (area-agrees Row (chosen Row ls) (v .rows) (agrees .axes Row) l (isOn Row l) (e .rowend) (ap (λ (x : AreaEdges). x .rowend - 1) q))
 
       go : (t u b : Bool) → by t u b .fault ≡ 0 → Agrees (ls ++ (l ∷ [])) (by t u b .panel)
-      go true u b = λ z. absurd (not-zero 3 z)
-      go false true b = λ z. absurd (not-zero 7 z)
+      go true u b = λ z. absurd (fault-stays (length (at l 1)) 4 (λ q. not-zero 3 q) z)
+      go false true b = λ z. absurd (not-zero 1 z)
       go false false true = λ z. absurd (not-zero 7 z)
       go false false false = λ z. record {
         axes = span;
@@ -137,7 +138,10 @@ module _ (ls : List Line) (v : PanelView) (agrees : Agrees ls v) (l : Line) wher
       placed = record { columns = v .columns; rows = v .rows; areas = v .areas; placements = v .placements ++ (record { axis = a; start = s; end = e } ∷ []); stage = v .stage }
 
       by : Bool → Bool → Bool → Bool → Bool → PanelOutcome
-      by c d f g i = cond c (refusedPanel 4 v) (cond d (refusedPanel 4 v) (cond f (refusedPanel 8 v) (cond g (refusedPanel 8 v) (cond i (refusedPanel 8 v) (acceptedPanel placed)))))
+      by c d f g i = cond c (refusedPanel (namedFault (length (s .name)) (namedFault (length (e .name)) 4)) v) (cond d (refusedPanel (namedFault (length (s .name)) (namedFault (length (e .name)) 4)) v) (cond f (refusedPanel 2 v) (cond g (refusedPanel 2 v) (cond i (refusedPanel 8 v) (acceptedPanel placed)))))
+
+      outside : namedFault (length (s .name)) (namedFault (length (e .name)) 4) ≡ 0 → ⊥
+      outside = fault-stays (length (s .name)) (namedFault (length (e .name)) 4) (fault-stays (length (e .name)) 4 (λ q. not-zero 3 q))
 
       kept : (b : Axis) → AxisAgrees b (chosen b (ls ++ (l ∷ []))) (viewIn v b)
       kept b = subst (λ (c : Chosen). AxisAgrees b c (viewIn v b)) (sym (chosen-more place (isOn b l) b ls l w refl)) (agrees .axes b)
@@ -147,10 +151,10 @@ module _ (ls : List Line) (v : PanelView) (agrees : Agrees ls v) (l : Line) wher
       axes Row = kept Row
 
       go : (c d f g i : Bool) → by c d f g i .fault ≡ 0 → Agrees (ls ++ (l ∷ [])) (by c d f g i .panel)
-      go true d f g i = λ z. absurd (not-zero 3 z)
-      go false true f g i = λ z. absurd (not-zero 3 z)
-      go false false true g i = λ z. absurd (not-zero 7 z)
-      go false false false true i = λ z. absurd (not-zero 7 z)
+      go true d f g i = λ z. absurd (outside z)
+      go false true f g i = λ z. absurd (outside z)
+      go false false true g i = λ z. absurd (not-zero 1 z)
+      go false false false true i = λ z. absurd (not-zero 1 z)
       go false false false false true = λ z. absurd (not-zero 7 z)
       go false false false false false = λ z. record {
         axes = axes;

@@ -24,7 +24,7 @@ use Rattle.sheet_forms.proofs.Firsts.{firsts-by, first-left, first-one}
 use Rattle.sheet_forms.proofs.LineRows.{same-kind}
 use Rattle.sheet_forms.proofs.FieldBounds.{EndBounded}
 use Rattle.sheet_forms.proofs.Bounds.{Bounded}
-use Rattle.axis_tables.specs.View.{Unended, none, inside, AxisView, AxisOutcome, refused as refusedAxis, accepted as acceptedAxis, withName, trackBy, trackStep, repeatBy, repeatStep, endBy, endStep, nameStep, spareStep, itemStep, extraStep, axisStep, tracksIn, componentsOf, axisNames, axisBytes, noRoom}
+use Rattle.axis_tables.specs.View.{Unended, none, inside, AxisView, AxisOutcome, refused as refusedAxis, accepted as acceptedAxis, withName, trackBy, trackStep, repeatBy, repeatStep, endBy, endStep, nameStep, spareStep, itemStep, extraStep, axisStep, tracksIn, componentsOf, axisNames, axisBytes, noRoom, namedFault}
 use Rattle.panel_tables.specs.declared.AreaEdges.{AreaEdges}
 use Rattle.panel_tables.specs.View.{Area, PanelView, PanelOutcome, hasArea, refused, accepted, edgeOutside, edgesOutside, numberOutside, endOutside, areaStep, placeStep}
 use Rattle.panel_tables.specs.Axes.{viewIn}
@@ -171,6 +171,11 @@ module _ (v : PanelView) (fs : List (List ℕ)) where
   crowded-on k o h true x y p q = nested k o h (only-yes crowded refl (k, o, p refl))
   crowded-on k o h false x y p q = neither k o h (q refl)
 
+  -- the same by a number that is 8
+  crowded-as : (f : ℕ) → f ≡ 8 → (k : Kind) → Of fs k → (MisnestedBy k v fs → ⊥) → (t : Bool) (x y : AxisView) → (t ≡ true → CrowdedBy k v fs) → (t ≡ false → CrowdedBy k v fs → ⊥)
+      → First StepRow (cond t (refusedAxis f x) (acceptedAxis y) .fault)
+  crowded-as f e k o h t x y p q = subst (λ (m : ℕ). First StepRow (cond t (refusedAxis m x) (acceptedAxis y) .fault)) (sym e) (crowded-on k o h t x y p q)
+
   -- a name has at most 32 bytes
   no-room : (x : AxisView) (n : List ℕ) → length n ≤ 32 → noRoom 4096 32768 (length (axisNames x)) (length (axisBytes x)) (length n) ≡ true → NoRoomFor n x
   no-room x n h = rw (le-ltb 32 (length n) h) (go (leb 4096 (length (axisNames x))) refl)
@@ -247,7 +252,7 @@ module _ (v : PanelView) (fs : List (List ℕ)) where
       (crowded-if area o (λ y. y) (leb 64 (length (v .areas))) _ _ (leb-true 64 (length (v .areas))) (λ t y. omega (arith, leb-false 64 (length (v .areas)) t, y)))
   step-first (Name a) i (o, x) b =
       let n = at fs 2 in
-      crowded-on name o (λ y. y) (noRoom 4096 32768 (length (axisNames (viewIn v a))) (length (axisBytes (viewIn v a))) (length n)) _ _
+      crowded-as (namedFault (length n) 8) (rw (le-ltb 32 (length n) (b .few))) name o (λ y. y) (noRoom 4096 32768 (length (axisNames (viewIn v a))) (length (axisBytes (viewIn v a))) (length n)) _ _
       (λ t. (a, x, no-room (viewIn v a) n (b .few) t)) (λ t y. room (viewIn v a) n t (of-axis (NoRoomFor n) a x y))
   step-first (Track a min max) i (o, x) b = track-first a o x min max
   step-first (Repeat a n) i (o, x) b = repeat-first a o x (n .kind) (n .number) (b .most)

@@ -1,12 +1,13 @@
 -- A range is one comparison of bits, by one law over its largest number. Assumes nothing.
 use Prim.Native.Nat.{ℕ}
-use mathlib.Core.Path.{_≡_, refl}
+use mathlib.Core.Path.{_≡_, refl, sym, ap, _∙_}
 use mathlib.Core.Bool.{Bool, true, false, cond}
-use lib.Dec.{leb, lit<}
-use lib.Ieee.{binary32, ofBits}
+use lib.Dec.{T, leb, lit<}
+use lib.Ieee.{Float, nan, inf, fin, binary32, ofBits, toBits, isNan, fits}
+use lib.Ieee.Bits.{ofBits-toBits}
 use Rattle.sizing.specs.Words.{largestBits, largestPercentBits}
 use Rattle.sizing.specs.Ranges.{upTo, largestLength, largestPercentage, largestOf, isPercentage, isKeyword}
-use Rattle.sizing.specs.Steps.{largestBitsOf}
+use Rattle.sizing.specs.Steps.{largestBitsOf, bitsUpTo}
 use Rattle.sizing.proofs.Patterns.{up-to-bits}
 
 pub length-bits : (bits : ℕ) → upTo largestLength (ofBits binary32 bits) ≡ leb bits largestBits
@@ -26,3 +27,10 @@ kind-bits kind bits = go (isPercentage kind) (isKeyword kind)
     go true k = percentage-bits bits
     go false true = zero-bits bits
     go false false = length-bits bits
+
+-- the same of any f32 by its own bits: one that is no NaN has bits that give it back, and a NaN is in no range
+pub value-bits : (n most : ℕ) → ((b : ℕ) → upTo n (ofBits binary32 b) ≡ leb b most) → (x : Float) → T (fits binary32 x) → upTo n x ≡ bitsUpTo most x
+unfolding upTo bitsUpTo isNan
+value-bits n most law nan h = refl
+value-bits n most law (inf s) h = sym (ap (upTo n) (ofBits-toBits binary32 (inf s) h)) ∙ law (toBits binary32 (inf s))
+value-bits n most law (fin s m e) h = sym (ap (upTo n) (ofBits-toBits binary32 (fin s m e) h)) ∙ law (toBits binary32 (fin s m e))

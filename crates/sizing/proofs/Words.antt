@@ -40,6 +40,9 @@ kind-in-range kind bits =
     (either (eqb kind 6) _ _ l
     (either (eqb kind 7) _ _ p tt))))))
 
+pub length-in-range : (bits : ℕ) → T (upTo largestLength (floatUpTo largestBits bits))
+length-in-range bits = up-to-self largestLength largestBits bits length-bits
+
 pub sizing-in-range : (word : ℕ) → T (sizingInRange (sizingOf word))
 unfolding sizingOf
 sizing-in-range word = kind-in-range (word / 4294967296) (word % 4294967296)

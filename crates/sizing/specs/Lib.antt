@@ -1,6 +1,5 @@
 -- What the contracts of layer 2 cite.
 pub mod Words
-pub mod Constants
 pub mod Definite
 pub mod Ranges
 pub mod Sums

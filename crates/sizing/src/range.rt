@@ -1,7 +1,8 @@
 // Kinds of sizes as numbers, in the order of a sheet's words (len pct fr auto min max fitl fitp), and their ranges.
 ghost use mathlib.Core.Path.{_≡_};
-ghost use Rattle.sizing.specs.Ranges.{minimumKind, valueInRange, lengthInRange};
-ghost use Rattle.sizing.specs.Steps.{largestBitsOf};
+ghost use Rattle.sizing.specs.Ranges.{minimumKind, valueInRange, lengthInRange, upTo, largestLength, largestPercentage, sizingInRange};
+ghost use Rattle.sizing.specs.Steps.{largestBitsOf, bitsUpTo};
+use crate::Sizing;
 
 // Whether a minimum may be of this kind: fr, fitl and fitp are for the maximum only, 8 and above are no kinds.
 pub fn is_kind_of_minimum(kind: u32) -> bool
@@ -45,4 +46,44 @@ pub fn length_in_range(bits: u32) -> bool
     ensures { λ r. ⌜ r ≡ lengthInRange bits ⌝ }
 {
     bits <= 0x477f_ff00
+}
+
+// Whether the bits of an f32 are at most those of the largest number allowed. A NaN is no number.
+fn bits_up_to(most: u32, x: f32) -> bool
+    ensures { λ r. ⌜ r ≡ bitsUpTo most x ⌝ }
+{
+    if x == x {
+        return f32::to_bits(x) <= most;
+    }
+    false
+}
+
+// Whether an f32 is a length, a fraction or an inner size in range.
+pub fn number_in_range(x: f32) -> bool
+    ensures { λ r. ⌜ r ≡ upTo largestLength x ⌝ }
+{
+    bits_up_to(0x477f_ff00, x)
+}
+
+// Whether an f32 is a percentage in range.
+fn percentage_in_range(x: f32) -> bool
+    ensures { λ r. ⌜ r ≡ upTo largestPercentage x ⌝ }
+{
+    bits_up_to(0x4120_0000, x)
+}
+
+// Whether the number of a size is in the range of its kind; a keyword has none.
+pub fn sizing_in_range(size: Sizing) -> bool
+    ensures { λ r. ⌜ r ≡ sizingInRange size ⌝ }
+{
+    match size {
+        Sizing::Length(v) => number_in_range(v),
+        Sizing::Percent(p) => percentage_in_range(p),
+        Sizing::Fraction(v) => number_in_range(v),
+        Sizing::Auto => true,
+        Sizing::MinContent => true,
+        Sizing::MaxContent => true,
+        Sizing::FitContentLength(v) => number_in_range(v),
+        Sizing::FitContentPercent(p) => percentage_in_range(p),
+    }
 }

@@ -4,16 +4,17 @@ use Prim.Native.Nat.{ℕ, _+_, _≤_, _<_, max}
 use native.Mathlib.Omega.{arith}
 use mathlib.Core.Bool.{Bool, true, false, cond}
 use mathlib.Core.List.{List, [], _∷_}
-use lib.Dec.{leb}
+use lib.Dec.{T, leb}
+use lib.Ieee.Bits.{is-true}
 use borrow.Author.Tests.{leb-true, eq-eqb, ne-eqb}
 use lib.ListN.{length}
-use Rattle.coordinates.specs.Refusals.{noRefusal, count, crowded}
+use Rattle.coordinates.specs.Refusals.{noRefusal, count}
 use Rattle.sizing.specs.declared.Sizing.{Sizing}
 use Rattle.template_rules.specs.Template.{Component}
 use Rattle.template_rules.specs.Counts.{isAutomatic, isEmpty, outsideCount, automaticCount, automaticTracks, anyEmpty}
 use Rattle.template_rules.specs.Summary.{meaningOf}
 use Rattle.template_rules.specs.Repetitions.{repetitionsOf}
-use Rattle.template_rules.specs.Explicit.{innerValue, validOf, sizeOf, repeatedSize, templateSizeOf, refusedSize, withAreas, explicitSizeOf}
+use Rattle.template_rules.specs.Explicit.{innerValue, validOf, sizeOf, repeatedSize, templateSizeOf, refusedSize, withAreas, crowdedBy, explicitSizeOf, spaceInRange, explicitAnswerOf}
 use Rattle.template_rules.specs.Css.{Valid, Repetitions}
 use Rattle.template_rules.specs.declared.InnerSize.{InnerSize}
 use Rattle.template_rules.specs.declared.AutoRepeatStrategy.{AutoRepeatStrategy}
@@ -52,22 +53,27 @@ valid-repetitions-css inner strategy gap cs v e = repetitions-css inner strategy
     some : (n : ℕ) → n ≡ 1 → 0 < n
     some n e = omega arith
 
+-- too many components are refused, whatever the areas
+crowded-refused : (areas : ℕ) → _≡_ {A = ℕ} 0 (crowdedBy areas) → ⊥
+crowded-refused areas = go (leb areas 10000)
+  where
+    go : (t : Bool) → _≡_ {A = ℕ} 0 (cond t 8 4) → ⊥
+    go true h = omega arith
+    go false h = omega arith
+
 -- an answer that is not refused is that of the template and the areas
 chosen : (t : TemplateSize) (areas : ℕ) (a b : Bool) (r : ExplicitSize)
-    → r ≡ cond a (cond b (record { refusal = noRefusal; repetitions = t .repetitions; template = t .tracks; explicit = max (t .tracks) areas }) (refusedSize count)) (refusedSize crowded)
+    → r ≡ cond a (cond b (record { refusal = noRefusal; repetitions = t .repetitions; template = t .tracks; explicit = max (t .tracks) areas }) (refusedSize count)) (refusedSize (crowdedBy areas))
     → r .refusal .number ≡ 0 → (r .repetitions ≡ t .repetitions) × (r .template ≡ t .tracks) × (r .explicit ≡ max (t .tracks) areas)
 chosen t areas true true r e z = (ap (λ (x : ExplicitSize). x .repetitions) e, ap (λ (x : ExplicitSize). x .template) e, ap (λ (x : ExplicitSize). x .explicit) e)
 chosen t areas true false r e z = absurd (never (sym z ∙ ap (λ (x : ExplicitSize). x .refusal .number) e))
   where
     never : _≡_ {A = ℕ} 0 4 → ⊥
     never h = omega arith
-chosen t areas false b r e z = absurd (never (sym z ∙ ap (λ (x : ExplicitSize). x .refusal .number) e))
-  where
-    never : _≡_ {A = ℕ} 0 8 → ⊥
-    never h = omega arith
+chosen t areas false b r e z = absurd (crowded-refused areas (sym z ∙ ap (λ (x : ExplicitSize). x .refusal .number) e))
 
 -- and it has at most 10,000 tracks
-few-tracks : (size : ExplicitSize) (n areas : ℕ) (a b : Bool) (r : ExplicitSize) → leb (max n areas) 10000 ≡ b → r ≡ cond a (cond b size (refusedSize count)) (refusedSize crowded) → r .refusal .number ≡ 0 → n ≤ 10000
+few-tracks : (size : ExplicitSize) (n areas : ℕ) (a b : Bool) (r : ExplicitSize) → leb (max n areas) 10000 ≡ b → r ≡ cond a (cond b size (refusedSize count)) (refusedSize (crowdedBy areas)) → r .refusal .number ≡ 0 → n ≤ 10000
 few-tracks size n areas true true r t e z = both n areas (leb-true (max n areas) 10000 t)
   where
     both : (n m : ℕ) → max n m ≤ 10000 → n ≤ 10000
@@ -76,10 +82,7 @@ few-tracks size n areas true false r t e z = absurd (never (sym z ∙ ap (λ (x 
   where
     never : _≡_ {A = ℕ} 0 4 → ⊥
     never h = omega arith
-few-tracks size n areas false b r t e z = absurd (never (sym z ∙ ap (λ (x : ExplicitSize). x .refusal .number) e))
-  where
-    never : _≡_ {A = ℕ} 0 8 → ⊥
-    never h = omega arith
+few-tracks size n areas false b r t e z = absurd (crowded-refused areas (sym z ∙ ap (λ (x : ExplicitSize). x .refusal .number) e))
 
 module _ (inner : InnerSize) (strategy : AutoRepeatStrategy) (gap : Sizing) (areas : ℕ) (cs : List Component) where
   abbrev pub size : TemplateSize
@@ -87,6 +90,11 @@ module _ (inner : InnerSize) (strategy : AutoRepeatStrategy) (gap : Sizing) (are
 
   abbrev pub answer : ExplicitSize
   answer = explicitSizeOf inner strategy gap areas cs
+
+  -- a caller whose inner size and gap are in range has this answer
+  pub answer-in-range : T (spaceInRange inner gap) → explicitAnswerOf inner strategy gap areas cs ≡ answer
+  unfolding explicitAnswerOf
+  answer-in-range h = rw (is-true (spaceInRange inner gap) h)
 
   pub accepted : answer .refusal .number ≡ 0 → (answer .repetitions ≡ size .repetitions) × (answer .template ≡ size .tracks) × (answer .explicit ≡ max (size .tracks) areas)
   unfolding explicitSizeOf withAreas

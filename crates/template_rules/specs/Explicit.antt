@@ -1,12 +1,13 @@
 -- The explicit size of an axis (document 01, layer 3), over the list of its components.
 use Prim.Native.Nat.{ℕ, _+_, _*_, max}
-use mathlib.Core.Bool.{Bool, cond, not, _&&_, _||_}
+use mathlib.Core.Bool.{Bool, true, cond, not, _&&_, _||_}
 use mathlib.Core.List.{List}
 use lib.Dec.{eqb, leb}
 use lib.ListN.{length}
 use lib.Ieee.{Float}
-use Rattle.coordinates.specs.Refusals.{noRefusal, refusalOf, count, crowded}
+use Rattle.coordinates.specs.Refusals.{noRefusal, refusalOf, value, count, crowded}
 use Rattle.sizing.specs.Words.{zero32}
+use Rattle.sizing.specs.Ranges.{upTo, largestLength, sizingInRange}
 use Rattle.sizing.specs.declared.Sizing.{Sizing}
 use Rattle.template_rules.specs.Template.{Component}
 use Rattle.template_rules.specs.Counts.{outsideCount, automaticCount, beforeCount, automaticTracks, anyEmpty, everyFixed}
@@ -53,11 +54,29 @@ abbrev pub innerValue : InnerSize → Float
 innerValue (Definite inner) = inner
 innerValue Indefinite = zero32
 
--- the explicit size from so many components and what is gathered of them; "at most 64 components"
+-- "at most 64 components"; "lowest number first": areas that alone pass 10,000 tracks are 4, whatever the template
+abbrev pub crowdedBy : ℕ → ℕ
+crowdedBy areas = cond (leb areas 10000) crowded count
+
+-- the explicit size from so many components and what is gathered of them
 abbrev pub sizeFrom : InnerSize → AutoRepeatStrategy → Sizing → ℕ → ℕ → TemplateSummary → ExplicitSize
-sizeFrom inner strategy gap areas components s = cond (leb components 64) (withAreas areas (templateSizeOf inner strategy gap s)) (refusedSize crowded)
+sizeFrom inner strategy gap areas components s = cond (leb components 64) (withAreas areas (templateSizeOf inner strategy gap s)) (refusedSize (crowdedBy areas))
 
 -- the explicit size of an axis
 unfoldable pub explicitSizeOf : InnerSize → AutoRepeatStrategy → Sizing → ℕ → List Component → ExplicitSize
 unfolding templateSizeOf withAreas outsideCount automaticCount beforeCount automaticTracks anyEmpty everyFixed outsideSpace repetitionSpace
 explicitSizeOf inner strategy gap areas cs = sizeFrom inner strategy gap areas (length cs) (meaningOf (innerValue inner) cs)
+
+-- "inner sizes: f32, 0 to 65,535, no minus zero"; none is in range too
+abbrev pub innerInRange : InnerSize → Bool
+innerInRange (Definite inner) = upTo largestLength inner
+innerInRange Indefinite = true
+
+-- both that a caller gives in sizes
+abbrev pub spaceInRange : InnerSize → Sizing → Bool
+spaceInRange inner gap = innerInRange inner && sizingInRange gap
+
+-- the answer to a caller: 3 before all for "a size outside its range"
+unfoldable pub explicitAnswerOf : InnerSize → AutoRepeatStrategy → Sizing → ℕ → List Component → ExplicitSize
+unfolding explicitSizeOf
+explicitAnswerOf inner strategy gap areas cs = cond (spaceInRange inner gap) (explicitSizeOf inner strategy gap areas cs) (refusedSize value)

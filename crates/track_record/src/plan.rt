@@ -3,7 +3,7 @@ ghost use mathlib.Core.Path.{_≡_};
 ghost use mathlib.Core.Bool.{not, _&&_};
 ghost use Prim.Native.Nat.{_+_, _≤_, _<_};
 ghost use Rattle.template_rules.specs.Template.{templateOf};
-ghost use Rattle.track_rules.specs.Records.{itemAt, tracksIn, openTo};
+ghost use Rattle.track_rules.specs.Records.{itemAt, tracksIn, openTo, countsInRange, axisRefusal};
 ghost use Rattle.track_rules.specs.Steps.{wordTotals, sumOf, writtenCount, planOf};
 ghost use Rattle.track_record.specs.Plans.{openIn, closedFrom};
 use crate::component::has_fit;
@@ -19,6 +19,29 @@ pub fn track_count(axis: AxisTracks) -> u32
 {
     let counts = axis.counts;
     counts.negative_implicit as u32 + counts.explicit as u32 + counts.positive_implicit as u32
+}
+
+// Whether each count of an axis is at most 10,000.
+fn counts_in_range(axis: AxisTracks) -> bool
+    ensures { λ r. ⌜ r ≡ countsInRange axis ⌝ }
+{
+    let counts = axis.counts;
+    (counts.negative_implicit <= 10000)
+        & ((counts.explicit <= 10000) & (counts.positive_implicit <= 10000))
+}
+
+// The number that an axis is refused by: 3 for a gap and 4 for a count out of range, 0 where it is not.
+pub fn axis_refusal(axis: AxisTracks) -> u32
+    ensures { λ r. ⌜ r ≡ axisRefusal axis ⌝ }
+{
+    let gap = axis.gap;
+    if sizing::range::sizing_in_range(gap) {
+        if counts_in_range(axis) {
+            return 0;
+        }
+        return coordinates::refusal::COUNT;
+    }
+    coordinates::refusal::VALUE
 }
 
 // Whether a track holds an item.

@@ -130,7 +130,8 @@ pub fn cursor_at(components: &[u64], axis: AxisTracks, index: u64) -> Cursor
     )
 }
 
-// Record `index` of an axis. Refuses an index of 2N + 1 or more by 4, and fewer than N item bytes by 10.
+// Record `index` of an axis. Refuses a gap out of range by 3, a count out of range and an index of 2N + 1 or more by 4, and fewer than N item
+// bytes by 10.
 pub fn track_record(
     components: &[u64],
     minimums: &[u64],
@@ -143,6 +144,10 @@ pub fn track_record(
 ) -> RecordAnswer
     ensures { λ r. ⌜ r ≡ recordAnswerOf axis (templateOf (now (components .entry)) (now (minimums .entry)) (now (maximums .entry))) (sparesOf (now («spare_minimums» .entry)) (now («spare_maximums» .entry))) (now (items .entry)) index ⌝ }
 {
+    let number = crate::plan::axis_refusal(axis);
+    if number != 0 {
+        return track_rules::grid_track::refused_record(number);
+    }
     let tracks = crate::plan::track_count(axis);
     if 2 * tracks + 1 <= index {
         return track_rules::grid_track::refused_record(coordinates::refusal::COUNT);

@@ -21,7 +21,7 @@ use Rattle.track_rules.specs.declared.TrackSource.the-variants.{Negative
 use Rattle.track_rules.specs.declared.AxisTracks.{AxisTracks}
 use Rattle.track_rules.specs.Tracks.{gutterOf, trackOf, zeroGridTrack}
 use Rattle.track_rules.specs.Written.{repeatsOf, sourceOf, copies, written, onceOf, writtenOut}
-use Rattle.track_rules.specs.Records.{negativeOf, explicitOf, tracksIn, recordsIn, implicit, spareAt, negativeAt, allTracks, noTrack, itemAt, closedIn, fitEndsIn, shutGutter, recordIn, recordsOf, recordAnswerOf}
+use Rattle.track_rules.specs.Records.{negativeOf, explicitOf, tracksIn, recordsIn, implicit, spareAt, negativeAt, allTracks, noTrack, itemAt, closedIn, fitEndsIn, shutGutter, recordIn, recordsOf, axisRefusal, recordAnswerOf}
 use Rattle.track_rules.specs.Steps.{totalsOf, cursorOf, writtenAt, trackAt}
 use Rattle.track_rules.specs.Sources.{writers, templateTracks, writer, CssSource, RecordSource}
 use Rattle.track_rules.proofs.Lists.{lt-or-ge, map-copies, get-map}
@@ -184,9 +184,9 @@ module _ (a : AxisTracks) (cs : List Component) (sp : List MinMax) where
         }
 
   -- so it is in the answer of the call for one record
-  pub answer-source : (items : List ℕ) (k : ℕ) → k < recordsIn a → tracksIn a ≤ length items → RecordSource a cs k ((recordAnswerOf a cs sp items k) .track .source)
+  pub answer-source : axisRefusal a ≡ 0 → (items : List ℕ) (k : ℕ) → k < recordsIn a → tracksIn a ≤ length items → RecordSource a cs k ((recordAnswerOf a cs sp items k) .track .source)
   unfolding recordAnswerOf
-  answer-source items k h long = rw (lt-leb (recordsIn a) k h, le-ltb (length items) (tracksIn a) long) (source-css items k zeroGridTrack h)
+  answer-source z items k h long = rw (eq-eqb (axisRefusal a) 0 z, lt-leb (recordsIn a) k h, le-ltb (length items) (tracksIn a) long) (source-css items k zeroGridTrack h)
 
   -- whatever holds an item, and so whatever collapses, each record keeps its source
   pub collapse-keeps-source : (items others : List ℕ) (k : ℕ) (d : GridTrack) → k < recordsIn a → made items k d ≡ made others k d

@@ -1,4 +1,5 @@
 -- What the contracts of layer 5 cite.
+pub mod Numbers
 pub mod Tracks
 pub mod Written
 pub mod Records

@@ -4,7 +4,8 @@ use mathlib.Core.Bool.{Bool, true, false, cond, not, _&&_, _||_}
 use mathlib.Core.List.{List, [], _∷_, _++_}
 use lib.Dec.{ltb, leb, eqb}
 use lib.ListN.{length, getD, take}
-use Rattle.coordinates.specs.Refusals.{noRefusal, count, short}
+use Rattle.coordinates.specs.Refusals.{noRefusal, value, count, short}
+use Rattle.sizing.specs.Ranges.{upTo, sizingInRange}
 use Rattle.sizing.specs.declared.MinMax.{MinMax}
 use Rattle.sizing.specs.declared.Sizing.{Sizing}
 use Rattle.template_rules.specs.Template.{Component}
@@ -112,10 +113,21 @@ unfoldable pub recordsOf : AxisTracks → List Component → List MinMax → Lis
 unfolding allTracks openTo
 recordsOf a template spares items = listed (recordIn (allTracks a template spares) (itemAt items) (a .gap)) (recordsIn a)
 
--- what the call for one record answers: 4 for an index of 2N + 1 or more, then 10 for fewer than N item bytes
+-- "explicit and each implicit count 0..10,000"
+abbrev pub countsInRange : AxisTracks → Bool
+countsInRange a = leb (negativeOf a) 10000 && (leb (explicitOf a) 10000 && leb (positiveOf a) 10000)
+
+-- what an axis is refused by, whatever is asked of it: 3 for a gap, then 4 for a count outside its range; 0 where it is not
+unfoldable pub axisRefusal : AxisTracks → ℕ
+unfolding upTo
+axisRefusal a = cond (sizingInRange (a .gap)) (cond (countsInRange a) 0 count) value
+
+-- what the call for one record answers: the refusal of its axis, 4 for an index of 2N + 1 or more, then 10 for fewer than N item bytes
 unfoldable pub recordAnswerOf : AxisTracks → List Component → List MinMax → List ℕ → ℕ → RecordAnswer
-unfolding recordsOf
+unfolding recordsOf axisRefusal
 recordAnswerOf a template spares items index =
-    cond (leb (recordsIn a) index) (refusedRecord count)
+    cond (eqb (axisRefusal a) 0)
+    (cond (leb (recordsIn a) index) (refusedRecord count)
     (cond (ltb (length items) (tracksIn a)) (refusedRecord short)
-    (record { refusal = noRefusal; track = getD (recordsOf a template spares items) index zeroGridTrack }))
+    (record { refusal = noRefusal; track = getD (recordsOf a template spares items) index zeroGridTrack })))
+    (refusedRecord (axisRefusal a))

@@ -6,7 +6,7 @@ use mathlib.Core.Path.{_≡_, refl, sym, ap, _∙_}
 use mathlib.Core.Logic.{⊎-elim}
 use mathlib.Core.Bool.{Bool, true, false, cond}
 use mathlib.Core.List.{List, [], _∷_, _++_, append-assoc}
-use lib.Dec.{ltb}
+use lib.Dec.{eqb, ltb}
 use lib.ListN.{length, getD, set, drop, replicate, length-append, length-drop, List·getD-append}
 use lib.Seq.{drop-cons, set-at}
 use borrow.Author.Tests.{ltb-false, lt-ltb, le-ltb, eq-eqb, ne-eqb}
@@ -18,7 +18,7 @@ use Rattle.track_rules.specs.declared.Cursor.{Cursor}
 use Rattle.track_rules.specs.declared.Plan.{Plan}
 use Rattle.track_rules.specs.Tracks.{zeroGridTrack}
 use Rattle.track_rules.specs.Written.{writtenOut}
-use Rattle.track_rules.specs.Records.{listed, negativeOf, explicitOf, tracksIn, recordsIn, allTracks, noTrack, itemAt, recordIn, recordsOf}
+use Rattle.track_rules.specs.Records.{listed, negativeOf, explicitOf, tracksIn, recordsIn, allTracks, noTrack, itemAt, recordIn, recordsOf, axisRefusal}
 use Rattle.track_rules.specs.Steps.{totalsOf, wordTotals, cursorOf, nextOf, cursorAt, planOf, recordOf}
 use Rattle.track_rules.specs.Lines.{Stands}
 use Rattle.track_rules.proofs.Lists.{lt-or-ge, length-listed, listed-same}
@@ -95,12 +95,13 @@ module _ (a : AxisTracks) (cs : List Component) (sp : List MinMax) (item : ℕ �
 -- a count is within the run that is lent
 pub count-within : (a : AxisTracks) (lent items : ℕ) → fillCount a lent items ≤ lent
 unfolding fillCount
-count-within a lent items = within-if (ltb lent (recordsIn a)) (ltb items (tracksIn a)) (λ e. ltb-false lent (recordsIn a) e)
+count-within a lent items = within-if (eqb (axisRefusal a) 0) (ltb lent (recordsIn a)) (ltb items (tracksIn a)) (λ e. ltb-false lent (recordsIn a) e)
   where
-    within-if : (x y : Bool) → (x ≡ false → recordsIn a ≤ lent) → cond x 0 (cond y 0 (recordsIn a)) ≤ lent
-    within-if true y h = omega arith
-    within-if false true h = omega arith
-    within-if false false h = h refl
+    within-if : (w x y : Bool) → (x ≡ false → recordsIn a ≤ lent) → cond w (cond x 0 (cond y 0 (recordsIn a))) 0 ≤ lent
+    within-if false x y h = omega arith
+    within-if true true y h = omega arith
+    within-if true false true h = omega arith
+    within-if true false false h = h refl
 
 module _ (a : AxisTracks) (cs : List Component) (sp : List MinMax) (items : List ℕ) where
   listed-records : listed (recordOf a cs sp (itemAt items)) (recordsIn a) ≡ recordsOf a cs sp items
@@ -110,28 +111,29 @@ module _ (a : AxisTracks) (cs : List Component) (sp : List MinMax) (items : List
   -- the loop leaves the run that the call promises
   pub filled-run : (run : List GridTrack) → filledTo a cs sp (itemAt items) (fillCount a (length run) (length items)) run ≡ runAfter a cs sp items run
   unfolding fillCount runAfter
-  filled-run run = go (ltb (length run) (recordsIn a)) (ltb (length items) (tracksIn a))
+  filled-run run = go (eqb (axisRefusal a) 0) (ltb (length run) (recordsIn a)) (ltb (length items) (tracksIn a))
     where
-      go : (x y : Bool) → listed (recordOf a cs sp (itemAt items)) (cond x 0 (cond y 0 (recordsIn a))) ++ drop (cond x 0 (cond y 0 (recordsIn a))) run
-          ≡ cond x run (cond y run (recordsOf a cs sp items ++ drop (recordsIn a) run))
-      go true y = refl
-      go false true = refl
-      go false false = ap (λ (l : List GridTrack). l ++ drop (recordsIn a) run) listed-records
+      go : (w x y : Bool) → listed (recordOf a cs sp (itemAt items)) (cond w (cond x 0 (cond y 0 (recordsIn a))) 0) ++ drop (cond w (cond x 0 (cond y 0 (recordsIn a))) 0) run
+          ≡ cond w (cond x run (cond y run (recordsOf a cs sp items ++ drop (recordsIn a) run))) run
+      go false x y = refl
+      go true true y = refl
+      go true false true = refl
+      go true false false = ap (λ (l : List GridTrack). l ++ drop (recordsIn a) run) listed-records
 
   -- where it is accepted, the records of the axis and then the rest of the run
-  pub run-accepted : (run : List GridTrack) → recordsIn a ≤ length run → tracksIn a ≤ length items → runAfter a cs sp items run ≡ recordsOf a cs sp items ++ drop (recordsIn a) run
+  pub run-accepted : (run : List GridTrack) → axisRefusal a ≡ 0 → recordsIn a ≤ length run → tracksIn a ≤ length items → runAfter a cs sp items run ≡ recordsOf a cs sp items ++ drop (recordsIn a) run
   unfolding runAfter
-  run-accepted run h k = rw (le-ltb (length run) (recordsIn a) h, le-ltb (length items) (tracksIn a) k)
+  run-accepted run z h k = rw (eq-eqb (axisRefusal a) 0 z, le-ltb (length run) (recordsIn a) h, le-ltb (length items) (tracksIn a) k)
 
   -- the third demand's track claim, of the lent run after the call
-  pub run-line-record : (run : List GridTrack) → recordsIn a ≤ length run → tracksIn a ≤ length items → (j : ℕ) (d : GridTrack) →
+  pub run-line-record : (run : List GridTrack) → axisRefusal a ≡ 0 → recordsIn a ≤ length run → tracksIn a ≤ length items → (j : ℕ) (d : GridTrack) →
       1 ≤ j → j ≤ length (writtenOut cs (a .repetitions)) → length (writtenOut cs (a .repetitions)) ≤ explicitOf a →
       Stands (getD (writtenOut cs (a .repetitions)) (j - 1) noTrack) (getD items (negativeOf a + j - 1) 0) (getD (runAfter a cs sp items run) (2 * (negativeOf a + j) - 1) d)
-  run-line-record run h k j d one low fits =
+  run-line-record run z h k j d one low fits =
       let i = 2 * (negativeOf a + j) - 1 in
       let in-list : i < length (recordsOf a cs sp items) = omega (arith, records-length a cs sp items) in
       let e : getD (runAfter a cs sp items run) i d ≡ getD (recordsOf a cs sp items) i d =
-      ap (λ (l : List GridTrack). getD l i d) (run-accepted run h k) ∙ List·getD-append (recordsOf a cs sp items) (drop (recordsIn a) run) d i in-list in
+      ap (λ (l : List GridTrack). getD l i d) (run-accepted run z h k) ∙ List·getD-append (recordsOf a cs sp items) (drop (recordsIn a) run) d i in-list in
       rw e (line-record a cs sp items j d one low fits)
 
 -- an array of zero records

@@ -9,13 +9,14 @@ use Rattle.template_rules.specs.Template.{Component}
 use Rattle.track_rules.specs.declared.GridTrack.{GridTrack}
 use Rattle.track_rules.specs.declared.AxisTracks.{AxisTracks}
 use Rattle.track_rules.specs.declared.Cursor.{Cursor}
-use Rattle.track_rules.specs.Records.{listed, negativeOf, tracksIn, recordsIn}
+use Rattle.track_rules.specs.Records.{listed, negativeOf, tracksIn, recordsIn, axisRefusal}
 use Rattle.track_rules.specs.Steps.{totalsOf, cursorOf, nextOf, cursorAt, planOf, recordWith, recordOf}
 use Rattle.track_rules.specs.declared.TrackWalk.{TrackWalk}
 
 -- how many records are written
 unfoldable pub fillCount : AxisTracks → ℕ → ℕ → ℕ
-fillCount a lent items = cond (ltb lent (recordsIn a)) 0 (cond (ltb items (tracksIn a)) 0 (recordsIn a))
+unfolding axisRefusal
+fillCount a lent items = cond (eqb (axisRefusal a) 0) (cond (ltb lent (recordsIn a)) 0 (cond (ltb items (tracksIn a)) 0 (recordsIn a))) 0
 
 -- the first n records, and the rest of the run as before
 abbrev pub filledTo : AxisTracks → List Component → List MinMax → (ℕ → Bool) → ℕ → List GridTrack → List GridTrack

@@ -19,7 +19,8 @@ pub struct FillAnswer {
     pub count: u32,
 }
 
-// Writes the records of an axis into a lent run, 2N + 1 of them. Refuses fewer records, and fewer than N item bytes, by 10, and writes nothing then.
+// Writes the records of an axis into a lent run, 2N + 1 of them. Refuses a gap out of range by 3, a count out of range by 4, fewer records and
+// fewer than N item bytes by 10, and writes nothing then.
 pub fn initialize_grid_tracks(
     records: &mut [GridTrack],
     components: &[u64],

@@ -11,10 +11,13 @@ use track_rules::AxisTracks;
 use track_rules::GridTrack;
 use track_rules::TrackWalk;
 
-// How many records are written: none where the run or the items are too short.
+// How many records are written: none where the axis is refused, or the run or the items are too short.
 pub fn fill_count(lent: usize, items: usize, axis: AxisTracks) -> usize
     ensures { λ r. ⌜ r ≡ fillCount axis lent items ⌝ }
 {
+    if track_record::plan::axis_refusal(axis) != 0 {
+        return 0;
+    }
     let tracks = track_record::plan::track_count(axis) as usize;
     if lent < 2 * tracks + 1 {
         return 0;
@@ -26,10 +29,10 @@ pub fn fill_count(lent: usize, items: usize, axis: AxisTracks) -> usize
 }
 
 // The refused answer.
-fn refused() -> FillAnswer
-    ensures { λ r. ⌜ r ≡ refusedFill ⌝ }
+fn refused(number: u32) -> FillAnswer
+    ensures { λ r. ⌜ r ≡ refusedFill number ⌝ }
 {
-    let refusal = coordinates::refusal::refusal_of(coordinates::refusal::SHORT);
+    let refusal = coordinates::refusal::refusal_of(number);
     FillAnswer { refusal, count: 0 }
 }
 
@@ -37,12 +40,16 @@ fn refused() -> FillAnswer
 pub fn fill_answer(lent: usize, items: usize, axis: AxisTracks) -> FillAnswer
     ensures { λ r. ⌜ r ≡ fillAnswerOf axis lent items ⌝ }
 {
+    let number = track_record::plan::axis_refusal(axis);
+    if number != 0 {
+        return refused(number);
+    }
     let tracks = track_record::plan::track_count(axis);
     if lent < (2 * tracks + 1) as usize {
-        return refused();
+        return refused(coordinates::refusal::SHORT);
     }
     if items < tracks as usize {
-        return refused();
+        return refused(coordinates::refusal::SHORT);
     }
     let refusal = coordinates::refusal::no_refusal();
     let count = 2 * tracks + 1;

@@ -1,6 +1,6 @@
 use mathlib.Core.Path.{_≡_, _∙_}
 use native.Mathlib.Omega.{arith}
-use Rattle.panel_tables.specs.Placements.{axisOf}
+use Rattle.coordinates.specs.Axes.{axisOf}
 use Rattle.panel_rules.specs.Calls.{NameTables, nameTablesIn}
 use Rattle.palgwern.proofs.Parts.{axis-length, shows-none, shows-short, shows-name}
 use borrow.Author.Needs.{needs}

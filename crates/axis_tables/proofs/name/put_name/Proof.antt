@@ -10,12 +10,15 @@ use Rattle.axis_tables.proofs.name.put_name.Tie as tie
 no-room-requires : tie.Need-no-room-requires
 no-room-requires c κs = search needs
 
+named-fault-requires : tie.Need-named-fault-requires
+named-fault-requires c κs = search needs
+
 put-requires : tie.Need-put-requires
 put-requires c κs = search needs
 
 returns : tie.Need-returns
 unfolding putName
-returns c = rw (c .put .ensures, sym (c .before .before .no-room .ensures) ∙ c .before .if1 .taken)
+returns c = rw (c .put .ensures, c .before .named-fault .ensures, sym (c .before .before .before .no-room .ensures) ∙ c .before .before .if1 .taken)
 
 place-in-requires : tie.Need-place-in-requires
 place-in-requires c κs = search needs
@@ -65,6 +68,7 @@ put-name-spec =
     tie.close
     (tie.spec
     no-room-requires
+    named-fault-requires
     put-requires
     returns
     place-in-requires

@@ -37,11 +37,7 @@ returns-6 c = rw (sym (c .before .before .before .before .before .before .is-nam
 
 returns-7 : tie.Need-returns-7
 unfolding entryRefusal
-returns-7 c = rw (sym (c .before .before .before .before .before .before .before .is-name .ensures) ∙ not-false _ (c .before .before .before .before .before .before .if1 .left), le-leb _ _ (c .before .before .before .before .before .if2 .left), le-leb _ _ (c .before .before .before .before .if3 .left), lt-leb _ _ (c .before .before .before .if4 .left), le-ltb _ _ (c .before .before .if5 .left), le-ltb _ _ (c .before .if6 .left), lt-ltb _ _ (c .if7 .taken))
-
-returns-8 : tie.Need-returns-8
-unfolding entryRefusal
-returns-8 c = rw (sym (c .before .before .before .before .before .before .before .is-name .ensures) ∙ not-false _ (c .before .before .before .before .before .before .if1 .left), le-leb _ _ (c .before .before .before .before .before .if2 .left), le-leb _ _ (c .before .before .before .before .if3 .left), lt-leb _ _ (c .before .before .before .if4 .left), le-ltb _ _ (c .before .before .if5 .left), le-ltb _ _ (c .before .if6 .left), le-ltb _ _ (c .if7 .left))
+returns-7 c = rw (sym (c .before .before .before .before .before .before .is-name .ensures) ∙ not-false _ (c .before .before .before .before .before .if1 .left), le-leb _ _ (c .before .before .before .before .if2 .left), le-leb _ _ (c .before .before .before .if3 .left), lt-leb _ _ (c .before .before .if4 .left), le-ltb _ _ (c .before .if5 .left), le-ltb _ _ (c .if6 .left))
 
 pub entry-refusal-spec : {M : Type 1} → statement M
 entry-refusal-spec =
@@ -55,5 +51,4 @@ entry-refusal-spec =
     add-if5
     returns-5
     returns-6
-    returns-7
-    returns-8)
+    returns-7)

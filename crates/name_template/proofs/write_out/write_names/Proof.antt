@@ -13,40 +13,19 @@ count-written-names-requires c κs = search needs
 
 returns : tie.Need-returns
 unfolding namesWritten
-returns c = let a = c .before .before .before .before .before .args in let e = c .before .count-written-names .ensures in
+returns c = let a = c .before .before .before .before .args in let e = c .before .count-written-names .ensures in
     let n : ℕ = length (writtenEntries (a .names .now) (a .components .now) (a .repetitions)) in
     rw (lt-ltb 4096 n (omega arith))
-
-cast-if2 : tie.Need-cast-if2
-cast-if2 c = search needs
-
-returns-2 : tie.Need-returns-2
-unfolding namesWritten
-returns-2 c = let a = c .before .before .before .before .before .before .args in let e = c .before .before .count-written-names .ensures in
-    let n : ℕ = length (writtenEntries (a .names .now) (a .components .now) (a .repetitions)) in
-    rw (le-ltb 4096 n (omega arith), lt-ltb (length (a .entries .now)) n (omega arith))
 
 write-all-requires : tie.Need-write-all-requires
 write-all-requires c κs = search needs
 
-same-length : tie.Need-same-length
-same-length c = search needs
-
-returns-3 : tie.Need-returns-3
+returns-2 : tie.Need-returns-2
 unfolding namesWritten
-returns-3 c = let a = c .before .before .before .before .before .before .before .before .before .before .args in let e = c .before .before .before .before .before .before .count-written-names .ensures in
+returns-2 c = let a = c .before .before .before .before .before .before .args in let e = c .before .before .before .count-written-names .ensures in
     let n : ℕ = length (writtenEntries (a .names .now) (a .components .now) (a .repetitions)) in
-    let k : c .before .before .before .before .before .before .count-written-names .result ≡ n = omega arith in
-    rw (le-ltb 4096 n (omega arith), le-ltb (length (a .entries .now)) n (omega arith), k, c .before .before .write-all .ensures)
+    let k : c .before .before .before .count-written-names .result ≡ n = omega arith in
+    rw (le-ltb 4096 n (omega arith), k, c .write-all .ensures)
 
 pub write-names-spec : {M : Type 1} → statement M
-write-names-spec =
-    tie.close
-    (tie.spec
-    count-written-names-requires
-    returns
-    cast-if2
-    returns-2
-    write-all-requires
-    same-length
-    returns-3)
+write-names-spec = tie.close (tie.spec count-written-names-requires returns write-all-requires returns-2)

@@ -1,7 +1,7 @@
 use mathlib.Core.Path.{refl}
 use borrow.Author.Tests.{eq-eqb}
 use Rattle.coordinates.specs.declared.axis.Axis.the-variants.{Column, Row}
-use Rattle.panel_tables.specs.Placements.{axisNumber}
+use Rattle.coordinates.specs.Axes.{axisNumber}
 use Rattle.panel_tables.specs.Regions.{areaBytesIn, areaWordsIn, axisWordsIn, placementBytesIn}
 use Rattle.panel_rules.specs.Calls.{areaTableIn, entryWordsIn, nameTablesIn}
 use Rattle.panel_rules.specs.Placing.{linePlacement}

@@ -6,6 +6,9 @@ use Rattle.panel_tables.proofs.placement.placement_at.Tie as tie
 start-word-requires : tie.Need-start-word-requires
 start-word-requires c κs = search needs
 
+cast-axis-of : tie.Need-cast-axis-of
+cast-axis-of c = search needs
+
 axis-of-requires : tie.Need-axis-of-requires
 axis-of-requires c κs = search needs
 
@@ -27,6 +30,7 @@ placement-at-spec =
     tie.close
     (tie.spec
     start-word-requires
+    cast-axis-of
     axis-of-requires
     end-of-requires
     finish-word-requires

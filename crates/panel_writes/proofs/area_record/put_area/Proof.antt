@@ -10,22 +10,28 @@ use Rattle.panel_writes.proofs.area_record.put_area.Tie as tie
 edges-outside-requires : tie.Need-edges-outside-requires
 edges-outside-requires c κs = search needs
 
+named-fault-requires : tie.Need-named-fault-requires
+named-fault-requires c κs = search needs
+
 put-requires : tie.Need-put-requires
 put-requires c κs = search needs
 
 returns : tie.Need-returns
 unfolding putArea
-returns c = rw (c .put .ensures, sym (c .before .before .edges-outside .ensures) ∙ c .before .if1 .taken)
+returns c = let m = c .before in rw (c .put .ensures, m .named-fault .ensures, sym (m .before .before .edges-outside .ensures) ∙ m .before .if1 .taken)
 
 no-room-requires : tie.Need-no-room-requires
 no-room-requires c κs = search needs
+
+named-fault-requires-2 : tie.Need-named-fault-requires-2
+named-fault-requires-2 c κs = search needs
 
 put-requires-2 : tie.Need-put-requires-2
 put-requires-2 c κs = search needs
 
 returns-2 : tie.Need-returns-2
 unfolding putArea
-returns-2 c = rw (c .put2 .ensures, sym (c .before .before .before .before .edges-outside .ensures) ∙ c .before .before .before .if1 .left, sym (c .before .before .no-room .ensures) ∙ c .before .if2 .taken)
+returns-2 c = let m = c .before in rw (c .put2 .ensures, m .named-fault2 .ensures, sym (m .before .before .before .before .edges-outside .ensures) ∙ m .before .before .before .if1 .left, sym (m .before .before .no-room .ensures) ∙ m .before .if2 .taken)
 
 edges-word-requires : tie.Need-edges-word-requires
 edges-word-requires c κs = search needs
@@ -84,9 +90,11 @@ put-area-spec =
     tie.close
     (tie.spec
     edges-outside-requires
+    named-fault-requires
     put-requires
     returns
     no-room-requires
+    named-fault-requires-2
     put-requires-2
     returns-2
     edges-word-requires

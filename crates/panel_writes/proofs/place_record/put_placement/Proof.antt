@@ -30,6 +30,9 @@ add-then c = let a = c .before .before .before .before .before .before .args in 
 axis-number-requires : tie.Need-axis-number-requires
 axis-number-requires c κs = search needs
 
+cast-end-word : tie.Need-cast-end-word
+cast-end-word c = search needs
+
 end-word-requires : tie.Need-end-word-requires
 end-word-requires c κs = search needs
 
@@ -96,6 +99,7 @@ put-placement-spec =
     cast-then
     add-then
     axis-number-requires
+    cast-end-word
     end-word-requires
     end-word-requires-2
     add-set-word

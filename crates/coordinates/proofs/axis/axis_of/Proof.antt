@@ -1,6 +1,6 @@
 use borrow.Author.Tests.{eq-eqb, ne-eqb}
-use Rattle.library_numbers.proofs.axis.axis_of.Statement.{statement}
-use Rattle.library_numbers.proofs.axis.axis_of.Tie as tie
+use Rattle.coordinates.proofs.axis.axis_of.Statement.{statement}
+use Rattle.coordinates.proofs.axis.axis_of.Tie as tie
 
 returns : tie.Need-returns
 returns c = rw (eq-eqb _ 0 (c .if1 .taken))
