@@ -33,7 +33,7 @@ static void print_axis(palgwern_grid grid, uint32_t axis) {
 }
 
 int main(void) {
-    palgwern_panel_answer read = palgwern_tables_read(&tables, sheet, strlen(sheet));
+    palgwern_sheet_answer read = palgwern_tables_read(&tables, sheet, strlen(sheet));
     if (read.number != 0) {
         printf("refused\t%" PRIu32 "\t%" PRIu32 "\n", read.number, read.line);
         return 0;

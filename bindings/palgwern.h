@@ -1,9 +1,9 @@
 /* Palgwern's calls for C: a panel sheet read, names entered, placements, line names and track records answered.
  *
  * Link target/staticlib/libpalgwern.a (x86-64 Linux), which `rt staticlib palgwern` writes. Every call is proved to end and to
- * answer as its contract in crates/palgwern/src/lib.rt says, whatever the panel and what is lent hold. What C must ensure:
+ * answer as its contract in crates/palgwern/src says, whatever the panel and what is lent hold. What C must ensure:
  *
- * - stack: 512 KiB of room for palgwern_read_sheet, 192 KiB for palgwern_line_names, 64 KiB for each
+ * - stack: 512 KiB of room for palgwern_read_sheet and palgwern_display_sheet, 192 KiB for palgwern_line_names, 64 KiB for each
  *   other call (`bindings/test` measures them);
  * - memory: everything that is lent is initialized, whatever it holds, and not null; an array has the length that is stated here,
  *   a pointer with a length has so many elements, and one of length 0 still points somewhere;
@@ -22,7 +22,7 @@
 extern "C" {
 #endif
 
-/* Refusals, by document 01's numbers and words; 0 is none. */
+/* Refusals, by their numbers and words in the table of refusals; 0 is none. */
 enum palgwern_refusal {
     PALGWERN_UNREAD = 1,    /* unread: sheet too long, or a line of no form */
     PALGWERN_NAME = 2,      /* name: outside the name range */
@@ -33,7 +33,8 @@ enum palgwern_refusal {
     PALGWERN_LATE = 7,      /* late: record earlier in kind than one before it */
     PALGWERN_CROWDED = 8,   /* crowded: one more would pass a panel limit */
     PALGWERN_ZERO_LINE = 9, /* zero line: conversion of line 0 (no call here makes one) */
-    PALGWERN_SHORT = 10     /* short: lent records, item bytes or a line-name store too short */
+    PALGWERN_SHORT = 10,    /* short: lent records, item bytes or a line-name store too short */
+    PALGWERN_OVERLAP = 12   /* overlap: an area that shares a cell with an earlier one */
 };
 
 /* Limits, by document 01. */
@@ -182,6 +183,22 @@ typedef struct palgwern_panel {
 /* Answers: `number` is the refusal's, 0 where there is none; the rest is 0 where there is one, but for the panel of
  * palgwern_enter_name, which comes back as it came. */
 typedef struct palgwern_panel_answer { uint32_t number; uint32_t line; palgwern_panel panel; } palgwern_panel_answer;
+/* `earlier` and `later`: the first two areas that share a cell (smallest later, then smallest earlier), numbered from 1 in sheet order;
+ * of a sheet they come with refusal 12 alone, of a display wherever it is accepted and there are any. */
+typedef struct palgwern_sheet_answer {
+    uint32_t number;
+    uint32_t line;
+    uint32_t earlier;
+    uint32_t later;
+    palgwern_panel panel;
+} palgwern_sheet_answer;
+typedef struct palgwern_display_answer {
+    uint32_t number;
+    uint32_t line;
+    uint32_t earlier;
+    uint32_t later;
+    palgwern_grid grid;
+} palgwern_display_answer;
 typedef struct palgwern_size_answer { uint32_t number; uint32_t repetitions; uint32_t explicit_count; } palgwern_size_answer;
 typedef struct palgwern_count_answer { uint32_t number; uint64_t count; } palgwern_count_answer;
 typedef struct palgwern_name_answer { uint32_t number; uint32_t offset; uint32_t length; } palgwern_name_answer;
@@ -198,9 +215,15 @@ typedef struct palgwern_placement_answer {
     uint32_t endheld;
 } palgwern_placement_answer;
 
-/* The panel that a sheet describes. Refuses by 1 to 8 with the line (0: too long; the line after the last: what the whole sheet
- * says), then by 10 for a short store. */
-palgwern_panel_answer palgwern_read_sheet(
+/* The panel that a sheet describes. Refuses by 1 to 8 and 12 with the line (0: too long; the line after the last: what the whole
+ * sheet says), then by 10 for a short store. */
+palgwern_sheet_answer palgwern_read_sheet(
+    const uint8_t *sheet, size_t sheet_bytes, uint64_t words[PALGWERN_PANEL_WORDS], uint8_t bytes[PALGWERN_PANEL_BYTES],
+    uint8_t *columnstore, size_t columnstore_bytes, uint8_t *rowstore, size_t rowstore_bytes);
+
+/* A sheet for display, as palgwern_read_sheet, but areas may share cells: it refuses by everything but 12. Its answer is a grid for
+ * every answering call; nothing edits it. */
+palgwern_display_answer palgwern_display_sheet(
     const uint8_t *sheet, size_t sheet_bytes, uint64_t words[PALGWERN_PANEL_WORDS], uint8_t bytes[PALGWERN_PANEL_BYTES],
     uint8_t *columnstore, size_t columnstore_bytes, uint8_t *rowstore, size_t rowstore_bytes);
 
@@ -272,8 +295,13 @@ typedef struct palgwern_tables {
     uint8_t rowstore[PALGWERN_STORE_BYTES];
 } palgwern_tables;
 
-static inline palgwern_panel_answer palgwern_tables_read(palgwern_tables *t, const void *sheet, size_t bytes) {
+static inline palgwern_sheet_answer palgwern_tables_read(palgwern_tables *t, const void *sheet, size_t bytes) {
     return palgwern_read_sheet((const uint8_t *)sheet, bytes, t->words, t->bytes, t->columnstore, sizeof t->columnstore, t->rowstore,
+        sizeof t->rowstore);
+}
+
+static inline palgwern_display_answer palgwern_tables_display(palgwern_tables *t, const void *sheet, size_t bytes) {
+    return palgwern_display_sheet((const uint8_t *)sheet, bytes, t->words, t->bytes, t->columnstore, sizeof t->columnstore, t->rowstore,
         sizeof t->rowstore);
 }
 

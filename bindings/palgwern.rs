@@ -2,7 +2,7 @@
 //!
 //! `mod palgwern;` and `-l static=palgwern` are all that is needed. A `Panel` owns the buffers that the library reads and writes and
 //! hands them over together, so what the calls ask of a caller holds: initialized arrays of the right lengths that do not overlap.
-//! One thing is left to the program: 512 KiB of stack for `Panel::read`, which every Rust thread has unless it was asked for less.
+//! One thing is left to the program: 512 KiB of stack for `Panel::read` and `Display::read`, which every Rust thread has unless it was asked for less.
 #![allow(dead_code)]
 use std::fmt;
 use std::ops::Deref;
@@ -127,6 +127,26 @@ pub mod raw {
 
     #[repr(C)]
     #[derive(Clone, Copy, Debug, PartialEq, Eq)]
+    pub struct SheetAnswer {
+        pub number: u32,
+        pub line: u32,
+        pub earlier: u32,
+        pub later: u32,
+        pub panel: State,
+    }
+
+    #[repr(C)]
+    #[derive(Clone, Copy, Debug, PartialEq, Eq)]
+    pub struct DisplayAnswer {
+        pub number: u32,
+        pub line: u32,
+        pub earlier: u32,
+        pub later: u32,
+        pub grid: Grid,
+    }
+
+    #[repr(C)]
+    #[derive(Clone, Copy, Debug, PartialEq, Eq)]
     pub struct PanelAnswer {
         pub number: u32,
         pub line: u32,
@@ -173,7 +193,11 @@ pub mod raw {
         pub fn palgwern_read_sheet(
             sheet: *const u8, sheet_bytes: usize, words: *mut [u64; PANEL_WORDS], bytes: *mut [u8; PANEL_BYTES],
             columnstore: *mut u8, columnstore_bytes: usize, rowstore: *mut u8, rowstore_bytes: usize,
-        ) -> PanelAnswer;
+        ) -> SheetAnswer;
+        pub fn palgwern_display_sheet(
+            sheet: *const u8, sheet_bytes: usize, words: *mut [u64; PANEL_WORDS], bytes: *mut [u8; PANEL_BYTES],
+            columnstore: *mut u8, columnstore_bytes: usize, rowstore: *mut u8, rowstore_bytes: usize,
+        ) -> DisplayAnswer;
         pub fn palgwern_enter_name(
             panel: State, words: *mut [u64; PANEL_WORDS], columnstore: *mut u8, columnstore_bytes: usize, rowstore: *mut u8,
             rowstore_bytes: usize, axis: u32, line: u32, name: *const u8, name_bytes: usize,
@@ -207,9 +231,10 @@ pub mod raw {
 const _: () = assert!(size_of::<AxisGrid>() == 56 && size_of::<AxisRoom>() == 20);
 const _: () = assert!(size_of::<Grid>() == 120 && size_of::<Room>() == 48 && size_of::<State>() == 168);
 const _: () = assert!(size_of::<raw::PanelAnswer>() == 176 && size_of::<raw::CountAnswer>() == 16);
+const _: () = assert!(size_of::<raw::SheetAnswer>() == 184 && size_of::<raw::DisplayAnswer>() == 136);
 const _: () = assert!(size_of::<raw::SizeAnswer>() == 12 && size_of::<raw::NameAnswer>() == 12 && size_of::<raw::PlacementAnswer>() == 32);
 
-/// A refusal by document 01's word.
+/// A refusal by its word in the table of refusals.
 #[derive(Clone, Copy, Debug, PartialEq, Eq)]
 pub enum Word {
     Unread = 1,
@@ -222,32 +247,67 @@ pub enum Word {
     Crowded = 8,
     ZeroLine = 9,
     Short = 10,
+    Overlap = 12,
 }
 
-/// A refusal: its word and the sheet's line, 0 for a call without a sheet, for a sheet too long and for `Short`.
+/// Two areas that share a cell, numbered from 1 in sheet order.
+#[derive(Clone, Copy, Debug, PartialEq, Eq)]
+pub struct Pair {
+    pub earlier: u32,
+    pub later: u32,
+}
+
+impl Pair {
+    /// A pair, or none where the numbers are 0.
+    fn of(earlier: u32, later: u32) -> Option<Pair> {
+        if later == 0 { None } else { Some(Pair { earlier, later }) }
+    }
+}
+
+/// A refusal: its word and the sheet's line, 0 for a call without a sheet, for a sheet too long and for `Short`. `Overlap` comes with the
+/// first two areas that share a cell.
 #[derive(Clone, Copy, Debug, PartialEq, Eq)]
 pub struct Refusal {
     pub word: Word,
     pub line: u32,
+    pub pair: Option<Pair>,
 }
 
 impl Refusal {
-    /// Document 01's number.
+    /// Its number in the table of refusals.
     pub fn number(self) -> u32 {
         self.word as u32
     }
 
     fn of(number: u32, line: u32) -> Refusal {
-        use Word::*;
-        let words = [Unread, Name, Value, Count, Area, Twice, Late, Crowded, ZeroLine, Short];
-        Refusal { word: words[number as usize - 1], line }
+        let (word, _) = WORDS[WORDS.iter().position(|&(word, _)| word as u32 == number).unwrap()];
+        Refusal { word, line, pair: None }
     }
 }
 
+/// The refusals with their words as they are written.
+const WORDS: [(Word, &str); 11] = [
+    (Word::Unread, "unread"),
+    (Word::Name, "name"),
+    (Word::Value, "value"),
+    (Word::Count, "count"),
+    (Word::Area, "area"),
+    (Word::Twice, "twice"),
+    (Word::Late, "late"),
+    (Word::Crowded, "crowded"),
+    (Word::ZeroLine, "zero line"),
+    (Word::Short, "short"),
+    (Word::Overlap, "overlap"),
+];
+
 impl fmt::Display for Refusal {
     fn fmt(&self, f: &mut fmt::Formatter) -> fmt::Result {
-        let words = ["unread", "name", "value", "count", "area", "twice", "late", "crowded", "zero line", "short"];
-        write!(f, "refused by {} ({}) at line {}", self.number(), words[self.number() as usize - 1], self.line)
+        let word = WORDS.iter().find(|(word, _)| *word == self.word).map_or("", |(_, text)| text);
+        write!(f, "refused by {} ({word}) at line {}", self.number(), self.line)?;
+        match self.pair {
+            Some(Pair { earlier, later }) => write!(f, ": areas {earlier} and {later}"),
+            None => Ok(()),
+        }
     }
 }
 
@@ -373,6 +433,45 @@ pub struct Panel {
     room: Room,
 }
 
+/// A panel for display, whose areas may share cells: what answers, and nothing to edit.
+#[derive(Clone, PartialEq, Eq)]
+pub struct Display {
+    answers: Answers,
+    pair: Option<Pair>,
+}
+
+impl Deref for Display {
+    type Target = Answers;
+
+    fn deref(&self) -> &Answers {
+        &self.answers
+    }
+}
+
+impl Display {
+    /// The panel that a sheet describes, under the rule by which areas may share cells.
+    pub fn read(sheet: &[u8]) -> Result<Display, Refusal> {
+        let mut held = Answers::empty();
+        // SAFETY: as in `Panel::read_again`.
+        let answer = unsafe {
+            raw::palgwern_display_sheet(
+                sheet.as_ptr(), sheet.len(), &mut *held.words, &mut *held.bytes, held.columnstore.as_mut_ptr(), STORE_BYTES,
+                held.rowstore.as_mut_ptr(), STORE_BYTES,
+            )
+        };
+        if answer.number != 0 {
+            return Err(Refusal::of(answer.number, answer.line));
+        }
+        held.grid = answer.grid;
+        Ok(Display { answers: held, pair: Pair::of(answer.earlier, answer.later) })
+    }
+
+    /// The first two areas that share a cell.
+    pub fn overlap(&self) -> Option<Pair> {
+        self.pair
+    }
+}
+
 impl Deref for Panel {
     type Target = Answers;
 
@@ -436,7 +535,8 @@ impl Panel {
                 held.rowstore.as_mut_ptr(), STORE_BYTES,
             )
         };
-        self.after(answer)
+        let pair = Pair::of(answer.earlier, answer.later);
+        self.after(answer.number, answer.line, answer.panel).map_err(|refusal| Refusal { pair, ..refusal })
     }
 
     /// Enters a line and a name in an axis. On a refusal the panel stays.
@@ -450,14 +550,14 @@ impl Panel {
                 axis as u32, line, name.as_ptr(), name.len(),
             )
         };
-        self.after(answer)
+        self.after(answer.number, answer.line, answer.panel)
     }
 
-    fn after(&mut self, answer: raw::PanelAnswer) -> Result<(), Refusal> {
-        if answer.number != 0 {
-            return Err(Refusal::of(answer.number, answer.line));
+    fn after(&mut self, number: u32, line: u32, state: State) -> Result<(), Refusal> {
+        if number != 0 {
+            return Err(Refusal::of(number, line));
         }
-        (self.answers.grid, self.room) = (answer.panel.grid, answer.panel.room);
+        (self.answers.grid, self.room) = (state.grid, state.room);
         Ok(())
     }
 

@@ -12,6 +12,8 @@ _Static_assert(offsetof(palgwern_axis_space, gap) == 16 && offsetof(palgwern_axi
 _Static_assert(offsetof(palgwern_axis_grid, entries) == 44 && offsetof(palgwern_axis_grid, size) == 48, "size");
 _Static_assert(offsetof(palgwern_grid, areas) == 112 && offsetof(palgwern_room, areabytes) == 40, "areas");
 _Static_assert(sizeof(palgwern_panel_answer) == 176 && offsetof(palgwern_panel_answer, panel) == 8, "panel answer");
+_Static_assert(sizeof(palgwern_sheet_answer) == 184 && offsetof(palgwern_sheet_answer, panel) == 16, "sheet answer");
+_Static_assert(sizeof(palgwern_display_answer) == 136 && offsetof(palgwern_display_answer, grid) == 16, "display answer");
 _Static_assert(sizeof(palgwern_size_answer) == 12 && sizeof(palgwern_name_answer) == 12, "answers of three numbers");
 _Static_assert(sizeof(palgwern_count_answer) == 16 && offsetof(palgwern_count_answer, count) == 8, "count answer");
 _Static_assert(sizeof(palgwern_placement_answer) == 32, "placement answer");
@@ -48,9 +50,12 @@ static int same_room(palgwern_axis_room a, palgwern_axis_room b) {
     return same_template(a.template_counts, b.template_counts) && a.names == b.names && a.used == b.used && a.areas == b.areas;
 }
 
+static int same_grids(palgwern_grid a, palgwern_grid b) {
+    return same_grid(a.columns, b.columns) && same_grid(a.rows, b.rows) && a.areas == b.areas && a.placements == b.placements;
+}
+
 static int same(palgwern_panel a, palgwern_panel b) {
-    return same_grid(a.grid.columns, b.grid.columns) && same_grid(a.grid.rows, b.grid.rows) && a.grid.areas == b.grid.areas &&
-        a.grid.placements == b.grid.placements && same_room(a.room.columns, b.room.columns) && same_room(a.room.rows, b.room.rows) &&
+    return same_grids(a.grid, b.grid) && same_room(a.room.columns, b.room.columns) && same_room(a.room.rows, b.room.rows) &&
         a.room.areabytes == b.room.areabytes && a.room.placementbytes == b.room.placementbytes;
 }
 
@@ -73,8 +78,8 @@ static size_t words_held(size_t start, size_t length) {
 /* Every field of the panel, on a sheet that gives them different values: no field of an axis has the values of another, in both
  * axes (tests.rs tests that), nor the same value in both. */
 static void layout(void) {
-    palgwern_panel_answer read = palgwern_tables_read(&tables, sheet, sheet_bytes);
-    CHECK(read.number == 0 && read.line == 0);
+    palgwern_sheet_answer read = palgwern_tables_read(&tables, sheet, sheet_bytes);
+    CHECK(read.number == 0 && read.line == 0 && read.earlier == 0 && read.later == 0);
     panel = read.panel;
     const uint64_t columns[15] = {1, 0x44070000, 0, 0x13c23d70aull, 3, 4, 7, 8, 5, 22, 9, 20, 6, 13, 10};
     const uint64_t rows[15] = {0, 0, 1, 0x40000000, 2, 3, 6, 10, 4, 11, 0, 9, 5, 14, 8};
@@ -229,8 +234,12 @@ static int untouched(void) {
     return !memcmp(&before, &tables, sizeof tables) && filled_from(0, 0, 0);
 }
 
-static int sheet_refused(palgwern_panel_answer a, uint32_t number, uint32_t line) {
-    return a.number == number && a.line == line && same(a.panel, no_panel) && untouched();
+static int sheet_refused(palgwern_sheet_answer a, uint32_t number, uint32_t line) {
+    return a.number == number && a.line == line && a.earlier == 0 && a.later == 0 && same(a.panel, no_panel) && untouched();
+}
+
+static int display_refused(palgwern_display_answer a, uint32_t number, uint32_t line) {
+    return a.number == number && a.line == line && a.earlier == 0 && a.later == 0 && same_grids(a.grid, no_panel.grid) && untouched();
 }
 
 static int entry_refused(palgwern_panel_answer a, uint32_t number) {
@@ -274,10 +283,23 @@ static const struct { const char *text; uint32_t number, line; } refused_sheets[
 static void refused_by_sheet(void) {
     for (size_t i = 0; i < sizeof refused_sheets / sizeof *refused_sheets; i++) {
         const char *text = refused_sheets[i].text;
-        palgwern_panel_answer read = palgwern_tables_read(&tables, text, strlen(text));
+        palgwern_sheet_answer read = palgwern_tables_read(&tables, text, strlen(text));
         CHECK(sheet_refused(read, refused_sheets[i].number, refused_sheets[i].line));
+        CHECK(display_refused(palgwern_tables_display(&tables, text, strlen(text)), refused_sheets[i].number, refused_sheets[i].line));
     }
     CHECK(sheet_refused(palgwern_tables_read(&tables, sheet, sizeof sheet), PALGWERN_UNREAD, 0));
+    CHECK(display_refused(palgwern_tables_display(&tables, sheet, sizeof sheet), PALGWERN_UNREAD, 0));
+}
+
+#define APART_LINE "area\ta\t1\t2\t1\t2\n"
+#define SHARING_LINES "area\tb\t3\t5\t3\t5\narea\tc\t4\t6\t4\t7\n"
+
+/* Areas that share a cell: 12 at line 4 with areas 2 and 3, before a later fault; that fault is the display call's. */
+static void refused_by_overlap(void) {
+    palgwern_sheet_answer read = palgwern_tables_read(&tables, TEXT(AXIS_LINE APART_LINE SHARING_LINES "none\n"));
+    CHECK(read.number == PALGWERN_OVERLAP && read.line == 4 && read.earlier == 2 && read.later == 3 && same(read.panel, no_panel) && untouched());
+    CHECK(display_refused(palgwern_tables_display(&tables, TEXT(AXIS_LINE APART_LINE SHARING_LINES "none\n")), PALGWERN_UNREAD, 5));
+    CHECK(sheet_refused(palgwern_tables_read(&tables, TEXT("area\ta\t1\t3\t1\t3\narea\ta\t1\t3\t1\t3\n")), PALGWERN_TWICE, 2));
 }
 
 /* Refused for a name, or for a number that is no axis, line, placement or record. */
@@ -317,6 +339,8 @@ static void refused_by_stores(size_t column_bytes, size_t row_bytes) {
         PALGWERN_SHORT, 0));
     CHECK(sheet_refused(palgwern_read_sheet((const uint8_t *)"none\n", 5, tables.words, tables.bytes, c, column_bytes, r, row_bytes),
         PALGWERN_UNREAD, 1));
+    CHECK(display_refused(palgwern_display_sheet((const uint8_t *)sheet, sheet_bytes, tables.words, tables.bytes, c, column_bytes, r, row_bytes),
+        PALGWERN_SHORT, 0));
     for (uint32_t axis = 0; axis < 3; axis++) {
         uint32_t number = axis < 2 ? PALGWERN_SHORT : PALGWERN_COUNT;
         const uint8_t *name = (const uint8_t *)"a";
@@ -346,12 +370,29 @@ static void refusals(void) {
     before = tables;
     fill_runs();
     refused_by_sheet();
+    refused_by_overlap();
     refused_by_numbers();
     refused_by_count();
     refused_by_stores(PALGWERN_STORE_BYTES - 1, PALGWERN_STORE_BYTES);
     refused_by_stores(PALGWERN_STORE_BYTES, PALGWERN_STORE_BYTES - 1);
     refused_by_stores(0, 0);
     refused_by_records();
+}
+
+/* ---- display: what answers is that of the sheet call where that accepts, and areas may share cells */
+
+static void display(void) {
+    static palgwern_tables shown;
+    memset(&shown, 0x5a, sizeof shown);
+    memcpy(shown.columnstore, tables.columnstore, sizeof shown.columnstore);
+    memcpy(shown.rowstore, tables.rowstore, sizeof shown.rowstore);
+    palgwern_display_answer a = palgwern_tables_display(&shown, sheet, sheet_bytes);
+    CHECK(a.number == 0 && a.line == 0 && a.earlier == 0 && a.later == 0 && same_grids(a.grid, panel.grid));
+    CHECK(!memcmp(&shown, &tables, sizeof tables));
+    a = palgwern_tables_display(&shown, TEXT(AXIS_LINE APART_LINE SHARING_LINES "area\td\t1\t6\t1\t6\nplace\tr\tnamed\tc\t0\tauto\t-\t0\n"));
+    CHECK(a.number == 0 && a.line == 0 && a.earlier == 2 && a.later == 3 && a.grid.areas == 4 && a.grid.placements == 1);
+    CHECK(a.grid.columns.size.explicit_count == 6 && a.grid.rows.size.explicit_count == 5);
+    CHECK(palgwern_tables_placement(&shown, a.grid, 0).startnumber == 4);
 }
 
 /* ---- entries */
@@ -410,6 +451,7 @@ static void *call(void *number) {
     case 8: palgwern_tables_records(&tables, panel.grid, 0, 0, all, sizeof all / sizeof *all); break;
     case 9: palgwern_tables_placements(&tables, panel.grid, 0, numbers); break;
     case 10: palgwern_tables_names(&tables, panel.grid, 1, names); break;
+    case 11: palgwern_tables_display(&tables, sheet, sheet_bytes); break;
     }
     return NULL;
 }
@@ -431,11 +473,11 @@ static size_t stack_of(int number) {
 
 static void stacks(void) {
     static const char *const names[] = {"", "read_sheet", "enter_name", "explicit_size", "line_count", "record_count",
-        "resolve_placement", "line_name", "records", "resolve_placements", "line_names"};
-    static const size_t kibibytes[] = {0, 448, 48, 48, 48, 48, 48, 48, 48, 160, 160};
+        "resolve_placement", "line_name", "records", "resolve_placements", "line_names", "display_sheet"};
+    static const size_t kibibytes[] = {0, 448, 48, 48, 48, 48, 48, 48, 48, 160, 160, 448};
     size_t none = stack_of(0);
     printf("stack in bytes:");
-    for (int i = 1; i < 11; i++) {
+    for (int i = 1; i < 12; i++) {
         size_t used = stack_of(i) - none;
         printf(" %s %zu", names[i], used);
         CHECK(used <= kibibytes[i] * 1024);
@@ -456,6 +498,7 @@ int main(int count, char **words) {
     marks();
     line_names(PALGWERN_COLUMNS);
     refusals();
+    display();
     entries();
     placements();
     line_names(PALGWERN_ROWS);

@@ -5,7 +5,7 @@ use palgwern::*;
 const LAYOUT: &[u8] = include_bytes!("layout.sheet");
 
 fn refusal(word: Word, line: u32) -> Option<Refusal> {
-    Some(Refusal { word, line })
+    Some(Refusal { word, line, pair: None })
 }
 
 /// The values of each field of an axis; the template as it is written is the one that counts.
@@ -41,6 +41,7 @@ fn every_field() {
     assert_eq!((std::mem::offset_of!(AxisSpace, gap), std::mem::offset_of!(AxisGrid, size)), (16, 48));
     assert_eq!((std::mem::offset_of!(Grid, areas), std::mem::offset_of!(State, room)), (112, 120));
     assert_eq!(std::mem::offset_of!(raw::PanelAnswer, panel), 8);
+    assert_eq!((std::mem::offset_of!(raw::SheetAnswer, panel), std::mem::offset_of!(raw::DisplayAnswer, grid)), (16, 16));
     assert_eq!(std::mem::offset_of!(raw::CountAnswer, count), 8);
 }
 
@@ -129,6 +130,40 @@ fn refusals() {
     assert_eq!(panel.state(), before.state());
     assert!(panel == before);
     assert_eq!(format!("{}", refusal(Word::ZeroLine, 0).unwrap()), "refused by 9 (zero line) at line 0");
+}
+
+const AXIS: &str = "axis\tc\t-\tmax\tlen\t00000000\n";
+const APART: &str = "area\ta\t1\t2\t1\t2\n";
+const SHARING: &str = "area\tb\t3\t5\t3\t5\narea\tc\t4\t6\t4\t7\n";
+
+/// Areas 2 and 3 share a cell: refused at line 4, before the fault of line 5.
+#[test]
+fn overlap() {
+    let sheet = [AXIS, APART, SHARING, "none\n"].concat();
+    let pair = Some(Pair { earlier: 2, later: 3 });
+    let mut panel = Panel::read(LAYOUT).unwrap();
+    let before = panel.clone();
+    let refused = panel.read_again(sheet.as_bytes()).unwrap_err();
+    assert_eq!(refused, Refusal { word: Word::Overlap, line: 4, pair });
+    assert_eq!(format!("{refused}"), "refused by 12 (overlap) at line 4: areas 2 and 3");
+    assert!(panel == before);
+    assert_eq!(Display::read(sheet.as_bytes()).err(), refusal(Word::Unread, 5));
+    let touching = "area\ta\t1\t2\t1\t2\narea\tb\t1\t2\t2\t3\narea\tc\t2\t3\t1\t3\n";
+    assert!(Panel::read(touching.as_bytes()).is_ok());
+}
+
+/// What the sheet call accepts is displayed alike; areas that share cells are displayed with the first pair.
+#[test]
+fn display() {
+    let (panel, shown) = (Panel::read(LAYOUT).unwrap(), Display::read(LAYOUT).unwrap());
+    let answers: &Answers = &panel;
+    assert!(*answers == *shown);
+    assert_eq!((shown.overlap(), shown.grid()), (None, panel.grid()));
+    let sheet = [AXIS, APART, SHARING, "area\td\t1\t6\t1\t6\nplace\tr\tnamed\tc\t0\tauto\t-\t0\n"].concat();
+    let shown = Display::read(sheet.as_bytes()).unwrap();
+    assert_eq!(shown.overlap(), Some(Pair { earlier: 2, later: 3 }));
+    assert_eq!((shown.grid().areas, shown.size(Axis::Columns).explicit, shown.size(Axis::Rows).explicit), (4, 6, 5));
+    assert_eq!(shown.placement(0).unwrap().start, End::Line(4));
 }
 
 /// A name of a line by the call itself, of stores of such lengths.

@@ -1,4 +1,4 @@
-"""The model's answer to one sheet on standard input: `answer [--names] [--enter FILE]`."""
+"""The model's answer to one sheet on standard input: `answer [--names] [--display] [--enter FILE]`."""
 import argparse
 import sys
 
@@ -16,9 +16,10 @@ def calls_of(path):
 def main():
     parser = argparse.ArgumentParser(prog="compare/answer", description="The model's answer to a sheet.")
     parser.add_argument("--names", action="store_true", help="with the line names")
+    parser.add_argument("--display", action="store_true", help="the display call's answer")
     parser.add_argument("--enter", help="file of entry calls, made before the answer; their answers come first")
     options = parser.parse_args()
-    answer = model.Answer(sys.stdin.buffer.read(), calls_of(options.enter))
+    answer = model.Answer(sys.stdin.buffer.read(), calls_of(options.enter), options.display)
     sys.stdout.write(model.text_of(answer.full_answer(options.names)))
 
 

@@ -48,7 +48,7 @@ class Answers:
 
     def lines(self, sheet, calls):
         """The lines of the answer, and the difference between the two where both are asked."""
-        answers = [one.ask(sheet, calls) for one in self.judged]
+        answers = [one.sheet_answer(sheet, calls) for one in self.judged]
         return answers[-1], (program_difference(*answers, calls) if len(answers) == 2 else None)
 
     def made(self, made):

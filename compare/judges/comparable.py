@@ -109,7 +109,7 @@ class Comparable(maker.Maker):
 
     def edges(self):
         start = self.random.randint(1, 5)
-        return f"{start}\t{start + self.random.randint(1, 4)}"
+        return start, start + self.random.randint(1, 4)
 
     def far_number(self):
         return self.random.randint(FAR - NEAR_FAR, FAR + 1)

@@ -91,8 +91,40 @@ def over_count_difference(panel, lines):
     return first_difference("cut count", expected, [line for line in lines if line.startswith("size")])
 
 
+def drawn_up_to(sheet, line):
+    """The areas of the lines up to this one, from the sheet's text."""
+    lines = [text.split(b"\t") for text in sheet.split(b"\n")[:line]]
+    return [tuple(map(int, fields[2:])) for fields in lines if fields[0] == b"area"]
+
+
+def css_overlap(sheet, refused):
+    """The pairs that a refusal by 12 may carry against CSS's cells; the areas before its line share none."""
+    drawn = drawn_up_to(sheet, refused.line)
+    pairs = css.sharing_pairs(drawn)
+    if pairs and set(refused.pairs) == pairs and all(later == len(drawn) for _, later in pairs):
+        return None
+    return f"CSS: cells in common of {sorted(pairs)}, model {refused.pairs}"
+
+
+def css_apart(panel):
+    """No two areas of a panel share a cell; those of one that is only displayed may."""
+    drawn = [(area.row_start, area.row_end, area.column_start, area.column_end) for area in panel.areas.values()]
+    pairs = set() if panel.display else css.sharing_pairs(drawn)
+    return f"CSS: cells in common of {sorted(pairs)}, accepted" if pairs else None
+
+
+def compare_overlap(refused, rust, sheet):
+    """Areas that share a cell: the Rust takes them, and is compared with what the display call answers."""
+    displayed = model.Answer(sheet, display=True)
+    result = compare_refused(displayed.refused, rust, sheet) if displayed.refused else compare_accepted(displayed, rust, sheet)
+    difference = css_overlap(sheet, refused)
+    return Comparison(f"refused 12, displayed: {result.kind}", result.differences + [difference])
+
+
 def compare_refused(refused, rust, sheet):
-    """Where the model refuses, the Rust speaks only of what is found after the last line."""
+    """Where the model refuses, the Rust speaks only of areas that share a cell and of what is found after the last line."""
+    if refused.number == reader.OVERLAP:
+        return compare_overlap(refused, rust, sheet)
     panel = getattr(refused, "panel", None)
     if panel is None:
         return Comparison(f"refused {refused.number}", [])
@@ -202,6 +234,7 @@ def css_differences(state):
     differences += [None if css.gutters_fall_into_one(state.records[letter]) else f"CSS: gutters of {letter}"
                     for letter in model.LETTERS]
     differences += [css_sources(state, letter, state.records[letter]) for letter in model.LETTERS]
+    differences.append(css_apart(state.panel))
     demand = demand_lines(state)
     if demand is None:
         return differences, False
@@ -227,7 +260,8 @@ def compare(sheet, calls, rust, judged=(), expected=None):
         if found != expected:
             result.differences.append(f"damage: model {found}, made for {expected}")
     for one in judged:
-        difference = first_difference(one.name, one.expected(sheet, answer), one.ask(sheet, calls))
+        lines = one.ask(sheet, calls)
+        difference = first_difference(one.name, one.expected(sheet, answer, lines), lines)
         result.differences += [difference] if difference else []
     return result
 

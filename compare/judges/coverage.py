@@ -170,9 +170,9 @@ def chosen_lines(lines, bounds):
     return wanted
 
 
-def asked_by(sheet, calls):
+def asked_by(sheet, calls, display):
     """The sheet as the Rust is asked on it, with the accepted entries; None where it isn't."""
-    answer = model.Answer(sheet, calls)
+    answer = model.Answer(sheet, calls, display)
     if not answer.refused:
         return asked_of_the_rust(sheet, answer.state.panel), answer.state.accepted
     panel = getattr(answer.refused, "panel", None)
@@ -184,9 +184,9 @@ def asked_by(sheet, calls):
 def first_cases(rust):
     """For each branch reached, the recorded case that reaches it first."""
     found = {}
-    for file in ("cases", "limits", "entries", "accepted", "large", "refused"):
+    for file in ("cases", "limits", "areas", "entries", "accepted", "large", "refused"):
         for block in blocks(read_list(file)):
-            asked = asked_by(block.sheet, [call_of(row) for row in block.rows])
+            asked = asked_by(block.sheet, [call_of(row) for row in block.rows], block.display)
             if asked is not None:
                 take_new(found, rust.ask(*asked)[-1], f"{file}/{block.name}")
     take_new(found, rust.lines(3)[-1], "lines")

@@ -1,4 +1,5 @@
 """Damages good sheets, each damage with the refusal that it is made for."""
+import areas
 
 BAD_NAMES = [b"", b"x" * 33, b"a b", b"a\x7f", b"\x80", b"a\r", b"\x00", b"\xc3\xa9", b" "]
 UNREAD_NUMBERS = ["", "-", "+1", "01", "-0", "00", "1 ", "0x1", "1.0", "-01", "--1", "a", "1e3", "1\r", "1\0", "\xb2"]
@@ -160,6 +161,46 @@ def damage_area(random, lines):
     return with_line(lines, place, "\t".join(["area", name, *map(str, edges)])), (5, place + 1)
 
 
+def damage_overlap(random, lines):
+    """An area that shares a cell with an earlier one."""
+    drawn = [place for place, line in enumerate(lines) if line.startswith("area")]
+    if not drawn:
+        first = sum(line.startswith("axis") for line in lines)
+        lines = lines[:first] + ["area\tfirst\t2\t4\t2\t4"] + lines[first:]
+        drawn = [first]
+    under = random.choice(drawn)
+    place = random.randint(under + 1, drawn[-1] + 1)
+    return with_line(lines, place, areas.line(random.choice(["q", "zz", "q-start"]), areas.over(random, areas.of_line(lines[under])))), (12, place + 1)
+
+
+def beside_overlap(random, lines, drawn, later):
+    """A sheet with areas of which the one at a place is the first that shares a cell with an earlier one: as it is, or with another
+    fault at its line, before it or after it; no calls, and the refusal."""
+    first = lines.index(drawn[0])
+    place = first + later
+    name, *edges = lines[place].split("\t")[1:]
+    way = random.randrange(10)
+    if way == 0:
+        lines[place] = "\t".join(["area", drawn[random.randrange(later)].split("\t")[1], *edges])
+        return lines, [], (6, place + 1)
+    if way == 1:
+        edges[1] = edges[0]
+        lines[place] = "\t".join(["area", name, *edges])
+        return lines, [], (5, place + 1)
+    if way == 2:
+        lines[place] = "\t".join(["area", "", *edges])
+        return lines, [], (2, place + 1)
+    if way == 3:
+        # The rest comes before it, so it is late too.
+        late = lines[:place] + ["item\tc\t0", lines[place]] + lines[place + 1:]
+        return late, [], (7, place + 2)
+    if way == 4:
+        return lines[:place] + [""] + lines[place:], [], (1, place + 1)
+    if way == 5:
+        return lines[:place + 1] + [random.choice(["", "item\tc\t30000", drawn[0]])] + lines[place + 1:], [], (12, place + 1)
+    return lines, [], (12, place + 1)
+
+
 def damage_twice(random, lines):
     """An axis record or an area name again, at once or late."""
     records = [line for line in lines if line.startswith(("axis", "area"))]
@@ -195,9 +236,9 @@ def damage_crowded(random, lines):
     size = "len\t3f800000\tauto\t00000000"
     way = random.choice(["component", "repeat", "track", "spare", "area", "place"])
     if way == "area":
-        full = [f"area\t{number}\t1\t2\t1\t2" for number in range(64)]
-        last, number = random.choice([("area\tx\t1\t2\t1\t2", 8), ("area\t0\t1\t2\t1\t2", 6), ("area\tx\t1\t1\t1\t2", 5),
-                                      ("area\tx\t0\t1\t1\t2", 4)])
+        full = [f"area\t{number}\t{number + 1}\t{number + 2}\t1\t2" for number in range(64)]
+        last, number = random.choice([("area\tx\t65\t66\t1\t2", 8), ("area\tx\t1\t2\t1\t2", 12), ("area\t0\t1\t2\t1\t2", 6),
+                                      ("area\tx\t1\t1\t1\t2", 5), ("area\tx\t0\t1\t1\t2", 4)])
     elif way == "place":
         full = ["place\tr\tauto\t-\t0\tspan\t-\t2"] * 256
         last, number = f"place\t{letter}\tauto\t-\t0\tauto\t-\t0", 8
@@ -221,7 +262,7 @@ def damage_length(random, lines):
 
 
 DAMAGES = [damage_one_line] * 14 + [damage_form] * 3 + [damage_end] * 2 + \
-          [damage_area, damage_twice, damage_twice, damage_late, damage_late, damage_crowded, damage_length]
+          [damage_area, damage_overlap, damage_overlap, damage_twice, damage_twice, damage_late, damage_late, damage_crowded, damage_length]
 
 
 def damaged(random, lines):

@@ -19,6 +19,7 @@ def rust_sheets():
     yield "counted above 10,000", repeat(10001, TRACK), ["refused\t4\t4"]
     yield "filled above 10,000", [axis_line("477fff00")] + repeat("fill", ZERO, ZERO, ZERO), ["refused\t4\t7"]
     yield "filled by length 0", [axis_line("3f800000")] + repeat("fill", ZERO), ["size\tc\t1\t1"]
+    yield "areas that overlap", ["area\ta\t1\t2\t1\t3", "area\tb\t1\t2\t2\t4", place_line("named\ta\t0", "named\tb\t0")], ["refused\t12\t2"]
     yield "4,097 entries", ["repeat\tc\t4097", "name\tc\tx", f"track\tc\t{TRACK}", "end\tc"], ["refused\t8\t5"]
 
 
@@ -51,8 +52,6 @@ def worded_sheets():
     yield "quotient rounded up", [axis_line("4168d42b")] + repeat("fill", "len\t403a4356\tlen\t403a4356"), ["size\tc\t5\t5"]
     yield "span of 0", [place_line("nspan\tx\t0", "line\t-\t1")], placed("line -2 line 1")
     yield "plain span of 0", [place_line("span\t-\t0", "line\t-\t3")], placed("span 0 line 3")
-    yield "areas that overlap", ["area\ta\t1\t2\t1\t3", "area\tb\t1\t2\t2\t4", place_line("named\ta\t0", "named\tb\t0")], \
-        ["size\tc\t0\t3"] + placed("line 1 line 4")
     yield "words of CSS as names", ["name\tc\tspan", f"track\tc\t{TRACK}", "name\tc\tauto", place_line("named\tspan\t1", "named\tauto\t1")], \
         placed("line 1 line 2")
     yield "minimum beside fit-content", ["track\tc\tlen\t3f800000\tfitl\t3f800000"], ["1\ttrack\tn\tlen\t3f800000\tfitl\t3f800000\tt"]

@@ -1,15 +1,4 @@
-"""Which panels CSS can write, so that a browser's answer is one to the same question."""
-
-
-def overlap(one, other):
-    """Whether two areas share a cell."""
-    return all(one.edges(letter)[0] < other.edges(letter)[1] and other.edges(letter)[0] < one.edges(letter)[1] for letter in "cr")
-
-
-def is_picture(areas):
-    """Areas as a picture of cells, which bear one name each."""
-    drawn = list(areas.values())
-    return not any(overlap(one, other) for place, one in enumerate(drawn) for other in drawn[:place])
+"""Which panels CSS can write, so that a browser's answer is one to the same question. No two areas of a panel share a cell."""
 
 
 def is_track(axis, track):
@@ -32,5 +21,5 @@ def is_end(end):
 
 
 def drawable(panel):
-    return is_picture(panel.areas) and all(map(is_axis, panel.axes.values())) \
+    return all(map(is_axis, panel.axes.values())) \
         and all(is_end(end) for placement in panel.placements for end in (placement.start, placement.end))

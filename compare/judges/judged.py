@@ -13,6 +13,8 @@ LIBRARY_SOURCES = os.path.join(build.COMPARE, "library")
 # The variable of the environment that names each, and where it is found in the repository.
 PANEL = ("PANEL", "target", "bin", "panel")
 LIBRARY = ("LIBRARY", "target", "staticlib", "libpalgwern.a")
+# The line between the answer of a sheet and that of its display.
+DISPLAYED = "displayed"
 BINDINGS = os.path.join(build.REPOSITORY, "bindings", "palgwern.rs")
 
 
@@ -25,12 +27,15 @@ class Program:
             raise CannotCompare(f"no comparison: the panel program {path} can't be run")
         self.path = path
 
-    def expected(self, sheet, answer):
+    def expected(self, sheet, answer, lines):
         """The model's output before any entry call, cut at line feeds."""
         plain = model.Answer(sheet) if answer.calls and not answer.refused else answer
         return plain.output + [""]
 
     def ask(self, sheet, calls):
+        return self.sheet_answer(sheet, calls)
+
+    def sheet_answer(self, sheet, calls):
         """What it prints, cut at line feeds, and how it ended where that is not well."""
         done = subprocess.run([self.path], input=sheet, stdout=subprocess.PIPE)
         ended = [f"(ended with status {done.returncode})"] if done.returncode else []
@@ -40,18 +45,29 @@ class Program:
         pass
 
 
+def whole_answer(answer, lines):
+    pairs = model.pair_lines(answer)
+    pair = [line for line in lines if line in pairs] or pairs
+    return answer.full_answer() + pair[:1] + ([] if answer.refused else model.count_lines(answer.state))
+
+
 class Library(Batch):
     """The static library: a running process that makes its calls."""
     name = "library"
 
-    def expected(self, sheet, answer):
-        """The model's whole answer: entry calls, output, names and the number of entries."""
-        return answer.full_answer() + ([] if answer.refused else model.count_lines(answer.state))
+    def expected(self, sheet, answer, lines):
+        """The model's whole answer: entry calls, output, names, the pair of areas that share a cell and the number of entries; then that
+        of the display call. Of several such pairs it is the one that was answered."""
+        return whole_answer(answer, lines) + [DISPLAYED] + whole_answer(model.displayed(sheet, answer), lines)
 
     def ask(self, sheet, calls):
-        """Its whole answer; where it ended, how, and it is started again."""
+        """Its whole answer, and that of its display call."""
+        return self.sheet_answer(sheet, calls) + [DISPLAYED] + self.sheet_answer(sheet, [], b"display")
+
+    def sheet_answer(self, sheet, calls, word=b"sheet"):
+        """The answer of one call on a sheet; where it ended, how, and it is started again."""
         try:
-            self.send(sheet, calls)
+            self.send(sheet, calls, word)
             return self.read_answer()
         except (Ended, BrokenPipeError):
             status = self.process.wait()

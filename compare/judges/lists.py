@@ -8,7 +8,7 @@ import re
 import browser_sheets
 import build
 
-REPLAYED = ("cases", "limits", "short", "entries", "accepted", "refused", "large", "differences", "lines")
+REPLAYED = ("cases", "limits", "areas", "short", "entries", "accepted", "refused", "large", "differences", "lines")
 WRONG = "wrong"  # replayed after them: what is wrong on purpose
 DIFFERENCES = os.path.join(build.REPOSITORY, "docs", "DIFFERENCES.md")
 VECTORS = os.path.join(build.REPOSITORY, "crates", "vectors")
@@ -46,7 +46,8 @@ class Block:
         start = reading.at
         word, size = reading.head()
         if word == b"stores":
-            size = reading.head()[1]
+            word, size = reading.head()
+        self.display = word == b"display"
         self.sheet = reading.part(size)
         self.rows = [reading.line() for _ in range(int(reading.head()[1]))]
         self.asked = reading.data[start:reading.at]

@@ -1,6 +1,7 @@
 """Makes sheets and lists of entry calls, the same ones for the same seed and number."""
 import random
 
+import areas
 import binary32
 import damage
 import ties
@@ -202,10 +203,15 @@ class Maker:
         end = start + self.random.randint(1, 4)
         if self.chance(0.004):
             end = self.pick([10001, 10000, 9999, 3000])
-        return f"{start}\t{end}"
+        return start, end
+
+    def area(self):
+        return (*self.edges(), *self.edges())
 
     def area_lines(self):
-        return [f"area\t{name}\t{self.edges()}\t{self.edges()}" for name in self.area_names()]
+        """Areas of which no two share a cell."""
+        names = self.area_names()
+        return [areas.line(name, area) for name, area in zip(names, areas.all_apart(self.area, len(names)))]
 
     def index(self):
         if self.extreme and self.chance(0.4):
@@ -263,12 +269,12 @@ class Maker:
             runs = [run for run in runs if run]
         return lines
 
-    def sheet_lines(self):
+    def sheet_lines(self, drawn=None):
         records = [line for letter in self.pick(["cr", "rc"]) for line in self.axis_record(letter)]
         both = self.chance(0.5)
         runs = [self.template("c"), self.template("r") if both else [], self.loose_lines("c"),
                 self.loose_lines("r") if self.chance(0.3) else [], self.placement_lines()]
-        return records + self.area_lines() + self.mixed(*runs)
+        return records + (self.area_lines() if drawn is None else drawn) + self.mixed(*runs)
 
     def general(self):
         return self.sheet_lines(), self.calls(), None
@@ -280,6 +286,41 @@ class Maker:
         templates = [self.invalid_template(letter) if letter in letters else self.template(letter) for letter in "cr"]
         runs = [*templates, self.loose_lines("c"), self.loose_lines("r") if self.chance(0.5) else [], self.placement_lines()]
         return records + self.area_lines() + self.mixed(*runs), self.calls(), None
+
+    def distinct_names(self, count):
+        """So many names for areas, the sheet's own ones first."""
+        names = list(dict.fromkeys(self.names)) + [f"d{number}" for number in range(count)]
+        return names[:count]
+
+    def touching(self):
+        """Areas cut from one, which meet at edges and corners and share no cell; some of them are left out."""
+        parts = areas.cut(self.random, (*self.edges(), *self.edges()), self.random.randint(1, 9))
+        parts = self.random.sample(parts, self.random.randint(min(2, len(parts)), len(parts)))
+        drawn = [areas.line(name, area) for name, area in zip(self.distinct_names(len(parts)), parts)]
+        return self.sheet_lines(drawn), self.calls(), None
+
+    def small_area(self):
+        """Rows and columns of a few tracks, apart from others now and then."""
+        row, column = self.random.randint(1, 6), self.random.randint(1, 6)
+        return row, row + self.random.randint(1, 3), column, column + self.random.randint(1, 3)
+
+    def overlap(self):
+        """Areas of which some share cells, now and then with another fault at the line of the first that does, before it or after it."""
+        if self.chance(0.1):
+            return self.crowded_overlap()
+        drawn = [self.small_area() for _ in range(self.random.randint(2, 7))]
+        later = areas.first_later(drawn)
+        lines = [areas.line(name, area) for name, area in zip(self.distinct_names(len(drawn)), drawn)]
+        if later is None:
+            return self.sheet_lines(lines), self.calls(), None
+        return damage.beside_overlap(self.random, self.sheet_lines(lines), lines, later)
+
+    def crowded_overlap(self):
+        """64 areas, and a 65th that shares a cell with one of them, or with none."""
+        drawn = areas.tiled(self.random, 64)
+        more, number = self.pick([(areas.over(self.random, self.pick(drawn)), 12), ((30, 31, 1, 2), 8)])
+        lines = [areas.line(str(number), area) for number, area in enumerate(drawn)] + [areas.line("more", more)]
+        return lines + self.placement_lines(), [], (number, 65)
 
     def tie(self):
         """A template whose repetitions depend on each rounding, found by search."""
@@ -430,7 +471,11 @@ class Maker:
         elif way == 2:
             lines = [f"spare\t{letter}\t{track()}" for _ in range(64)] + [f"extra\t{letter}\t{self.below(200)}\t{self.below(200)}"]
         elif way == 3:
-            lines = [f"area\t{number}\t{self.edges()}\t{self.edges()}" for number in range(64)]
+            drawn = areas.tiled(self.random, 64)
+            if self.chance(0.2):
+                # Past every square, to the furthest line.
+                drawn[self.random.randrange(64)] = (28, self.pick([10001, 10000, 9999, 3000]), *self.edges())
+            lines = [areas.line(str(number), area) for number, area in enumerate(drawn)]
         elif way == 4:
             lines = self.template(letter) + [f"place\t{letter}\t{self.end()}\t{self.end()}" for _ in range(256)]
         else:
@@ -501,7 +546,7 @@ class Maker:
         return damage.spoiled(self.random, self.sheet_lines()), self.calls(), None
 
 
-WEIGHTS = {"general": 600, "invalid": 60, "tie": 100, "thin": 100, "large": 8, "over": 5, "far": 5, "writing_out": 12, "full": 12, "store": 2, "long": 3,
+WEIGHTS = {"general": 600, "touching": 30, "overlap": 50, "invalid": 60, "tie": 100, "thin": 100, "large": 8, "over": 5, "far": 5, "writing_out": 12, "full": 12, "store": 2, "long": 3,
            "damaged": 220, "spoiled": 60, "grouped": 0}  # asked for by name alone: the sheets of a seed stay
 
 

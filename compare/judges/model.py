@@ -38,9 +38,9 @@ def late_refusal(panel):
     return 0
 
 
-def read_sheet(sheet, stores=FULL_STORES):
-    """The state of an accepted sheet; raises `Refused`."""
-    panel, line_after = reader.read_lines(sheet)
+def read_sheet(sheet, stores=FULL_STORES, display=False):
+    """The state of an accepted sheet, of the display call where it is asked for; raises `Refused`."""
+    panel, line_after = reader.read_lines(sheet, display)
     number = late_refusal(panel)
     if number:
         refused = reader.Refused(number, line_after)
@@ -118,16 +118,28 @@ def count_lines(state):
     return [f"entries\t{letter}\t{len(state.entries[letter])}" for letter in LETTERS]
 
 
-class Answer:
-    """What the model says of a sheet and entry calls, each (axis, line, name as bytes)."""
+def pair_lines(answer):
+    """The lines of the pairs that a refusal may carry, in the form that README.md gives; none where no areas share a cell."""
+    return [f"pair\t{earlier}\t{later}" for earlier, later in answer.refused.pairs] if answer.refused else []
 
-    def __init__(self, sheet, calls=()):
+
+def displayed(sheet, answer):
+    """What the display call answers, beside the sheet call's answer: it refuses no areas that share a cell and takes no entries,
+    and is else the same."""
+    overlap = answer.refused and answer.refused.number == reader.OVERLAP
+    return Answer(sheet, display=True) if overlap or answer.calls else answer
+
+
+class Answer:
+    """What the model says of a sheet and entry calls, each (axis, line, name as bytes), or of a sheet that is only displayed."""
+
+    def __init__(self, sheet, calls=(), display=False):
         self.refused = None
         self.state = None
         self.numbers = []
         self.calls = calls
         try:
-            self.state = read_sheet(sheet)
+            self.state = read_sheet(sheet, display=display)
         except reader.Refused as refused:
             self.refused = refused
             return

@@ -1,4 +1,4 @@
-"""The panel sheet, read by the words of document 01, with every refusal."""
+"""The panel sheet, read by the words of document 01 as document 02 changes them, with every refusal."""
 import re
 from dataclasses import dataclass, field
 
@@ -17,6 +17,9 @@ ITEMS = (0, 29999)
 REPEAT_COUNTS = (0, 65535)
 
 UNREAD, NAME, VALUE, COUNT, AREA, TWICE, LATE, CROWDED, ZERO_LINE, SHORT = range(1, 11)
+OVERLAP = 12
+# Which of the faults of a line is given: document 02 puts 12 after 6 and 7 and before 8.
+FAULT_ORDER = (UNREAD, NAME, VALUE, COUNT, AREA, TWICE, LATE, OVERLAP, CROWDED)
 
 LARGEST_OF_KIND = {"len": LARGEST_LENGTH, "pct": LARGEST_PERCENTAGE, "fr": LARGEST_LENGTH,
                    "fitl": LARGEST_LENGTH, "fitp": LARGEST_PERCENTAGE, "auto": 0.0, "min": 0.0, "max": 0.0}
@@ -26,10 +29,13 @@ THE_REST = 2
 
 
 class Refused(Exception):
-    def __init__(self, number, line):
+    """A refusal: number, line and, where areas share a cell, the pairs (earlier, later) that it may carry."""
+
+    def __init__(self, number, line, pairs=()):
         super().__init__(number, line)
         self.number = number
         self.line = line
+        self.pairs = list(pairs)
 
 
 @dataclass
@@ -108,6 +114,10 @@ class Panel:
     areas: dict = field(default_factory=dict)
     placements: list = field(default_factory=list)
     order: int = 0
+    # Whether it is read for display alone: there areas may share a cell.
+    display: bool = False
+    # The pairs of the area that was refused for sharing a cell.
+    pairs: list = field(default_factory=list)
 
 
 class Fields:
@@ -189,6 +199,16 @@ class Fields:
         return End(kind, name, 0)
 
 
+def share_a_cell(one, other):
+    """Whether some row and some column lie in both areas; a start is in, an end is not."""
+    return all(one.edges(letter)[0] < other.edges(letter)[1] and other.edges(letter)[0] < one.edges(letter)[1] for letter in "cr")
+
+
+def pairs_with(areas, area):
+    """The pairs (earlier, later), numbered from 1 in sheet order, of an area that comes after others and shares a cell with them."""
+    return [(number, len(areas) + 1) for number, earlier in enumerate(areas.values(), start=1) if share_a_cell(earlier, area)]
+
+
 def good_name(text):
     return 1 <= len(text) <= LONGEST_NAME and all(33 <= code <= 126 for code in text)
 
@@ -222,9 +242,14 @@ def read_area(panel, fields):
         fields.faults.add(TWICE)
     if len(panel.areas) >= MOST["area"]:
         fields.faults.add(CROWDED)
+    area = Area(row_start, row_end, column_start, column_end)
+    pairs = [] if panel.display else pairs_with(panel.areas, area)
+    if pairs:
+        fields.faults.add(OVERLAP)
+        panel.pairs = pairs
 
     def do():
-        panel.areas[name] = Area(row_start, row_end, column_start, column_end)
+        panel.areas[name] = area
     return do
 
 
@@ -326,8 +351,12 @@ RECORDS = {
 }
 
 
+def first_fault(faults):
+    return min(faults, key=FAULT_ORDER.index)
+
+
 def read_line(panel, text):
-    """Do what the line says and answer 0, or do nothing and answer the lowest number of its faults."""
+    """Do what the line says and answer 0, or do nothing and answer the first of its faults."""
     fields = Fields(text.split(b"\t"))
     word = fields.fields[0].decode("latin-1")
     if word not in RECORDS:
@@ -340,22 +369,22 @@ def read_line(panel, text):
     if order < panel.order:
         fields.faults.add(LATE)
     if fields.faults:
-        return min(fields.faults)
+        return first_fault(fields.faults)
     panel.order = order
     do()
     return 0
 
 
-def read_lines(sheet):
+def read_lines(sheet, display=False):
     """The panel that the lines say, and the number of the line after the last."""
     if len(sheet) > LONGEST_SHEET:
         raise Refused(UNREAD, 0)
-    panel = Panel()
+    panel = Panel(display=display)
     lines = sheet.split(b"\n")
     for number, text in enumerate(lines[:-1], start=1):
         fault = read_line(panel, text)
         if fault:
-            raise Refused(fault, number)
+            raise Refused(fault, number, panel.pairs if fault == OVERLAP else ())
     if lines[-1]:
         raise Refused(UNREAD, len(lines))
     if any(axis.open for axis in panel.axes.values()):

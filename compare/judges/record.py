@@ -28,6 +28,8 @@ LONGEST_WRITTEN_OUT = 12000
 # Sheets of the family `grouped` in `large`, and the longest block that is kept.
 GROUPED = 40
 LONGEST_GROUPED = 15000
+# Sheets of each family in `areas`, each once more for the display call.
+DISPLAYED = {"touching": 20, "overlap": 60, "general": 20, "damaged": 20}
 CUT = {"large": 60, "far": 40, "over": 12, "writing_out": 20, "full": 4}
 # Refused sheets for each number, record and kind of field.
 REFUSED_FOR_EACH = {1: 9, 3: 4, 4: 6}
@@ -40,14 +42,15 @@ INVALID_LISTS = 40
 class Case:
     """A sheet and calls that the judges agree on, with the answer."""
 
-    def __init__(self, name, sheet, calls, rust, expected=None):
+    def __init__(self, name, sheet, calls, rust, expected=None, display=False):
         result = compare(sheet, calls, rust, (), expected)
         if result.differences:
             raise build.CannotCompare(f"not recorded: the judges differ on {name}: {result.differences[0]}")
         self.name = name
         self.sheet = sheet
         self.calls = calls
-        self.answer = model.Answer(sheet, calls)
+        self.display = display
+        self.answer = model.Answer(sheet, calls, display)
         self.refused = self.answer.refused
         if self.refused:
             self.calls = []
@@ -67,7 +70,8 @@ class Case:
         lines = cut_lines(self.lines) if cut else self.lines
         expected = model.text_of(lines).encode()
         calls = b"".join(call_line(call) for call in self.calls)
-        return (f"case {self.name}\nsheet {len(self.sheet)}\n".encode() + self.sheet
+        word = "display" if self.display else "sheet"
+        return (f"case {self.name}\n{word} {len(self.sheet)}\n".encode() + self.sheet
                 + f"enter {len(self.calls)}\n".encode() + calls
                 + f"{'cut' if cut else 'expect'} {len(expected)}\n".encode() + expected)
 
@@ -168,6 +172,24 @@ def write_limits(rust):
     keep("limits", [case.block(cut=len(case.lines) > 3000) for case in cases])
 
 
+def shared_case(name, lines, refusal, pairs, rust):
+    """A sheet with areas that touch or share a cell, held to its refusal and to the pairs that it may carry."""
+    case = limit_case(name, lines, refusal, rust)
+    if case.refused and case.refused.pairs != pairs:
+        raise build.CannotCompare(f"not recorded: {name} is answered with the pairs {case.refused.pairs}")
+    return case
+
+
+def write_areas(rust):
+    """Areas that touch or share a cell, and what the display call answers to the same sheets and to others."""
+    cases = [shared_case(*sheet, rust) for sheet in edges.shared_sheets()]
+    small = lambda case: len(case.block()) <= LONGEST_BLOCK
+    for family, count in DISPLAYED.items():
+        cases += taken(made_cases(family, rust, SEED + 6), count, small)
+    displayed = [Case(case.name + ", displayed", case.sheet, [], rust, display=True) for case in cases]
+    keep("areas", [case.block(cut=len(case.lines) > 3000) for case in cases + displayed])
+
+
 def write_accepted(rust):
     small = lambda case: not case.refused and len(case.block()) <= LONGEST_BLOCK
     cases = [case for family, count in ACCEPTED.items() for case in taken(made_cases(family, rust), count, small)]
@@ -234,13 +256,14 @@ def write_entries(rust):
     keep("entries", [case.block() for case in cases])
 
 
-def short_block(name, sheet, stores, calls):
-    """A sheet call and entry calls, each with the lengths of the two stores that are lent."""
-    head = f"case {name}\nstores {stores[0]} {stores[1]}\nsheet {len(sheet)}\n".encode() + sheet
+def short_block(name, sheet, stores, calls, display=False):
+    """A sheet call or a display call, and entry calls, each with the lengths of the two stores that are lent."""
+    word = "display" if display else "sheet"
+    head = f"case {name}\nstores {stores[0]} {stores[1]}\n{word} {len(sheet)}\n".encode() + sheet
     rows = b"".join(f"{lent[0]}\t{lent[1]}\t".encode() + call_line(call) for lent, call in calls)
     lines = []
     try:
-        state = model.read_sheet(sheet, stores)
+        state = model.read_sheet(sheet, stores, display)
         numbers = [model.enter(state, *call, lent) for lent, call in calls]
         lines = [model.entry_line(number) for number in numbers] + model.sheet_lines(state) + model.name_lines(state) + model.mark_lines(state)
     except reader.Refused as refused:
@@ -255,8 +278,10 @@ def write_short():
     good = b"name\tc\tx\ntrack" + b"\tc" + b"\tauto\t00000000" * 2 + b"\nplace\tc\tnamed\tx\t1\tauto\t-\t0\n"
     blocks = []
     for number, stores in enumerate([(full, full), (less, full), (full, less), (0, 0), (full + 1, full + 9)]):
-        for what, sheet in (("good", good), ("bad", good + b"\n"), ("over", b"repeat\tc\t10001\ntrack" + b"\tc" + b"\tauto\t00000000" * 2 + b"\nend\tc\n")):
+        for what, sheet in (("good", good), ("bad", good + b"\n"), ("over", b"repeat\tc\t10001\ntrack" + b"\tc" + b"\tauto\t00000000" * 2 + b"\nend\tc\n"),
+                            ("shared", b"area\ta\t1\t2\t1\t2\narea\tb\t1\t2\t1\t2\n")):
             blocks.append(short_block(f"short {what} {number}", sheet, stores, []))
+            blocks.append(short_block(f"short {what} {number}, displayed", sheet, stores, [], True))
     lent = [(full, full), (less, full), (full, less), (1, 1)]
     calls = [(letter, line, name) for letter in "cr" for line, name in ((1, b"x"), (0, b"x"), (1, b""), (20000, b"y"))]
     blocks.append(short_block("short calls", good, (full, full), [(stores, call) for call in calls for stores in lent]))
@@ -334,6 +359,7 @@ def main():
     rust = Rust(build.build(options.rust))
     write_cases(options.cases, rust)
     write_limits(rust)
+    write_areas(rust)
     write_lines(rust)
     write_short()
     write_entries(rust)

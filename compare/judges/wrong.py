@@ -233,6 +233,17 @@ def span_zero_is_zero(self, name, number, line, which):
     return right_span_from(self, name, number, line, which)
 
 
+def later_areas_dropped(sheet, display=False):
+    """Areas that share a cell with an earlier one left out of what is displayed."""
+    panel, line_after = right_read_lines(sheet, display)
+    kept = {}
+    for name, area in panel.areas.items():
+        if not reader.pairs_with(kept, area):
+            kept[name] = area
+    panel.areas = kept
+    return panel, line_after
+
+
 # What the wrong functions lean on, before any is put in place.
 right_repeated_measure = rules.repeated_measure
 right_first_used = rules.first_used
@@ -289,6 +300,7 @@ FOUND_BY_THE_RUST = {
     "areas dropped with an invalid template": (rules, "area_count", areas_dropped_with_the_template),
     "the explicit count from tracks that don't count": (rules, "template_count", counted_before_validity),
     "8 by entries that don't count": (rules, "entry_count", crowded_before_validity),
+    "an area that shares a cell not displayed": (reader, "read_lines", later_areas_dropped),
     "names kept from the first entry only": (Names, "__init__", first_entry_only),
     "names kept from the columns only": (Names, "__init__", columns_only),
     "a name listed twice on a line": (rules, "line_names", repeated_names_kept),
@@ -323,12 +335,40 @@ def sources_by(is_automatic):
 
 right_sources = rules.sources
 
+
+# Wrong readings of areas that share a cell: found by CSS's cells.
+
+def touching_shares(one, other):
+    return all(one.edges(letter)[0] <= other.edges(letter)[1] and other.edges(letter)[0] <= one.edges(letter)[1] for letter in "cr")
+
+
+def shares_on(letter):
+    """Areas compared on one axis only."""
+    return lambda one, other: one.edges(letter)[0] < other.edges(letter)[1] and other.edges(letter)[0] < one.edges(letter)[1]
+
+
+def starts_inside(one, other):
+    """Only the corner of the later area looked at."""
+    return all(one.edges(letter)[0] <= other.edges(letter)[0] < one.edges(letter)[1] for letter in "cr")
+
+
+def the_area_before(areas, area):
+    return [pair for pair in right_pairs_with(areas, area) if pair[0] == len(areas)]
+
+
+right_pairs_with = reader.pairs_with
+
 FOUND_BY_CSS = {
     "a track that only an area makes positive": (rules, "sources", areas_are_positive),
     "the first positive track an area's": (rules, "sources", one_area_more),
     "a counted repeat automatic": (rules, "written_sources", sources_by(lambda component: component.count is not None)),
     "only `fit` an automatic repeat": (rules, "written_sources", sources_by(lambda component: component.count == "fit")),
     "only `fill` an automatic repeat": (rules, "written_sources", sources_by(lambda component: component.count == "fill")),
+    "areas that touch share a cell": (reader, "share_a_cell", touching_shares),
+    "only rows compared": (reader, "share_a_cell", shares_on("r")),
+    "only columns compared": (reader, "share_a_cell", shares_on("c")),
+    "only the later area's first cell looked at": (reader, "share_a_cell", starts_inside),
+    "only the area before compared": (reader, "pairs_with", the_area_before),
 }
 
 
@@ -345,13 +385,29 @@ def without_fault(number):
     return made
 
 
-def highest_first(panel, text):
-    with mock.patch("builtins.min", max):
-        return right_read_line(panel, text)
+def end_without_feed(sheet, display=False):
+    return right_read_lines(sheet if sheet.endswith(b"\n") or not sheet else sheet + b"\n", display)
 
 
-def end_without_feed(sheet):
-    return right_read_lines(sheet if sheet.endswith(b"\n") or not sheet else sheet + b"\n")
+def fault_order(*order):
+    """The first of a line's faults in another order."""
+    return lambda faults: min(faults, key=order.index)
+
+
+def the_earlier_line(sheet, display=False):
+    """A refusal by 12 at the earlier area's line."""
+    try:
+        return right_read_lines(sheet, display)
+    except reader.Refused as refused:
+        if refused.number == reader.OVERLAP:
+            earlier, later = refused.pairs[0]
+            raise reader.Refused(reader.OVERLAP, refused.line - later + earlier, refused.pairs)
+        raise
+
+
+def held_before_it_is_compared(areas, area):
+    """A 65th area, which is never held, not compared."""
+    return [] if len(areas) >= reader.MOST["area"] else right_pairs_with(areas, area)
 
 
 def line_before_name(state, letter, line, name, stores=model.FULL_STORES):
@@ -375,15 +431,19 @@ def store_by_entries(self, panel):
 right_enter = model.enter
 right_state = model.State.__init__
 right_fields = reader.Fields.__init__
-right_read_line = reader.read_line
 right_read_lines = reader.read_lines
 
 # Readings of the sheet, of which the Rust says nothing: found by what a damage was made for.
 FOUND_BY_DAMAGE = {
-    "the highest number of a line first": (reader, "read_line", highest_first),
+    "the highest number of a line first": (reader, "first_fault", max),
     "a last line without a line feed read": (reader, "read_lines", end_without_feed),
     **{f"refusal {number} never given at a line": (reader.Fields, "__init__", without_fault(number))
-       for number in range(1, 9)},
+       for number in (1, 2, 3, 4, 5, 6, 7, 8, 12)},
+    "12 after 8": (reader, "first_fault", min),
+    "12 before 7": (reader, "first_fault", fault_order(1, 2, 3, 4, 5, 6, 12, 7, 8)),
+    "12 before 6": (reader, "first_fault", fault_order(1, 2, 3, 4, 5, 12, 6, 7, 8)),
+    "12 at the earlier area's line": (reader, "read_lines", the_earlier_line),
+    "a 65th area not compared": (reader, "pairs_with", held_before_it_is_compared),
 }
 
 

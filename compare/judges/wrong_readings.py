@@ -58,8 +58,9 @@ class ByTheLibrary:
         self.remembered = Remembered(process)
 
     def found(self, sheet, calls, expected):
-        own = self.process.expected(sheet, model.Answer(sheet, calls))
-        difference = first_difference(Library.name, own, self.remembered.ask(sheet, calls))
+        lines = self.remembered.ask(sheet, calls)
+        own = self.process.expected(sheet, model.Answer(sheet, calls), lines)
+        difference = first_difference(Library.name, own, lines)
         return [difference] if difference else []
 
 

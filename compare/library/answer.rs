@@ -1,5 +1,5 @@
 //! A panel's answers in the output form of document 01, its line names, and the number of its name entries.
-use crate::palgwern::{Axis, End, Panel, Placement, Record, Refusal, Size, Source};
+use crate::palgwern::{Answers, Axis, End, Pair, Placement, Record, Refusal, Size, Source};
 use std::io::Write;
 
 const AXES: [Axis; 2] = [Axis::Columns, Axis::Rows];
@@ -44,7 +44,7 @@ fn print_record(out: &mut Vec<u8>, index: usize, record: &Record) {
     writeln!(out, "{index}\t{kind}\t{collapsed}\t{low}\t{:08x}\t{high}\t{:08x}\t{source}", least.to_bits(), most.to_bits()).unwrap();
 }
 
-fn print_axis(out: &mut Vec<u8>, panel: &Panel, axis: Axis) {
+fn print_axis(out: &mut Vec<u8>, panel: &Answers, axis: Axis) {
     let size = panel.size(axis);
     writeln!(out, "size\t{}\t{}\t{}", letter(axis), size.repetitions, size.explicit).unwrap();
     for (index, record) in panel.records(axis).iter().enumerate() {
@@ -61,7 +61,7 @@ fn end(end: End) -> String {
 }
 
 /// A placement of the run of all; a line `alone` where it differs from the one that is asked for alone.
-fn print_placement(out: &mut Vec<u8>, panel: &Panel, index: usize, found: Placement) {
+fn print_placement(out: &mut Vec<u8>, panel: &Answers, index: usize, found: Placement) {
     writeln!(out, "place\t{}\t{}\t{}", letter(found.axis), end(found.start), end(found.end)).unwrap();
     if panel.placement(index as u32) != Ok(found) {
         writeln!(out, "alone\t{index}").unwrap();
@@ -69,7 +69,7 @@ fn print_placement(out: &mut Vec<u8>, panel: &Panel, index: usize, found: Placem
 }
 
 /// The lists of the run of all, and of every eighth line a line `alone` where its names differ from those that are asked for alone.
-fn print_names(out: &mut Vec<u8>, panel: &Panel, axis: Axis) {
+fn print_names(out: &mut Vec<u8>, panel: &Answers, axis: Axis) {
     for (names, line) in panel.line_names(axis).into_iter().zip(1..) {
         write!(out, "names\t{}\t{line}", letter(axis)).unwrap();
         for name in &names {
@@ -93,8 +93,15 @@ pub fn print_refusal(out: &mut Vec<u8>, refusal: Refusal) {
     writeln!(out, "refused\t{}\t{}", refusal.number(), refusal.line).unwrap();
 }
 
-/// The whole answer of a panel.
-pub fn print_panel(out: &mut Vec<u8>, panel: &Panel) {
+/// The pair of areas that share a cell, where there is one.
+pub fn print_pair(out: &mut Vec<u8>, pair: Option<Pair>) {
+    if let Some(Pair { earlier, later }) = pair {
+        writeln!(out, "pair\t{earlier}\t{later}").unwrap();
+    }
+}
+
+/// The whole answer of a panel, edited or only displayed.
+pub fn print_answers(out: &mut Vec<u8>, panel: &Answers) {
     AXES.into_iter().for_each(|axis| print_axis(out, panel, axis));
     let resolved = panel.resolved();
     resolved.iter().enumerate().for_each(|(index, found)| print_placement(out, panel, index, *found));

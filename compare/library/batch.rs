@@ -1,17 +1,21 @@
-//! The batch: for each sheet with its entry calls the library's whole answer.
-use crate::answer::{print_panel, print_refusal};
-use crate::blocks::{bytes, calls, number, Call};
-use crate::calls::read_sheet;
+//! The batch: for each sheet with its entry calls, or only displayed, the library's whole answer.
+use crate::answer::{print_answers, print_pair, print_refusal};
+use crate::blocks::{bytes, calls, head, Call};
+use crate::calls::{display_sheet, read_sheet};
 use crate::lent::{Lent, TEXT};
-use crate::palgwern::Panel;
+use crate::palgwern::{Display, Panel};
 use std::io::{BufRead, Write};
 
-/// Whether a refused sheet leaves everything lent as it was.
-fn leaves_all(lent: &mut Lent, sheet: &[u8]) -> bool {
+/// Asks once more on buffers of a known content: the answer, after a line `changed` where a refused sheet doesn't leave everything
+/// lent as it was.
+fn asked_again<A>(out: &mut Vec<u8>, lent: &mut Lent, sheet: &[u8], call: impl Fn(&mut Lent) -> A) -> A {
     lent.bytes[TEXT].fill_with(sheet);
     let before = lent.clone();
-    read_sheet(lent);
-    *lent == before
+    let answer = call(lent);
+    if *lent != before {
+        out.extend_from_slice(b"changed\n");
+    }
+    answer
 }
 
 fn print_call(out: &mut Vec<u8>, panel: &mut Panel, (axis, line, name): &Call) {
@@ -26,24 +30,40 @@ fn answer(panel: &mut Panel, lent: &mut Lent, sheet: &[u8], calls: &[Call]) -> V
     let mut out = Vec::new();
     if let Err(refusal) = panel.read_again(sheet) {
         print_refusal(&mut out, refusal);
-        if !leaves_all(lent, sheet) {
-            out.extend_from_slice(b"changed\n");
-        }
+        asked_again(&mut out, lent, sheet, read_sheet);
+        print_pair(&mut out, refusal.pair);
         return out;
     }
     calls.iter().for_each(|call| print_call(&mut out, panel, call));
-    print_panel(&mut out, panel);
+    print_answers(&mut out, panel);
     out
 }
 
-/// For each block `sheet ..` an `answer BYTES` and the answer. What is in them is for others to judge: 0 faults.
+/// A sheet that is only displayed.
+fn displayed(lent: &mut Lent, sheet: &[u8]) -> Vec<u8> {
+    let mut out = Vec::new();
+    match Display::read(sheet) {
+        Err(refusal) => {
+            print_refusal(&mut out, refusal);
+            asked_again(&mut out, lent, sheet, display_sheet);
+        }
+        Ok(display) => print_answers(&mut out, &display),
+    }
+    out
+}
+
+/// For each block `sheet ..` or `display ..` an `answer BYTES` and the answer. What is in them is for others to judge: 0 faults.
 pub fn run(mut input: impl BufRead, mut output: impl Write) -> u64 {
     let mut panel = Panel::empty();
     let mut lent = Lent::filled(0xa5);
-    while let Some(count) = number(&mut input, "sheet") {
-        let sheet = bytes(&mut input, count);
+    while let Some((word, count)) = head(&mut input) {
+        let sheet = bytes(&mut input, count.parse().expect("a number"));
         let calls = calls(&mut input);
-        let text = answer(&mut panel, &mut lent, &sheet, &calls);
+        let text = match word.as_str() {
+            "sheet" => answer(&mut panel, &mut lent, &sheet, &calls),
+            "display" => displayed(&mut lent, &sheet),
+            _ => panic!("another head is due"),
+        };
         writeln!(output, "answer {}", text.len()).unwrap();
         output.write_all(&text).unwrap();
         output.flush().unwrap();

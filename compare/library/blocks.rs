@@ -16,7 +16,7 @@ fn line(input: &mut impl BufRead) -> Option<Vec<u8>> {
 }
 
 /// The word of a line and what follows it, `None` at the end of input.
-fn head(input: &mut impl BufRead) -> Option<(String, String)> {
+pub fn head(input: &mut impl BufRead) -> Option<(String, String)> {
     let line = String::from_utf8(line(input)?).expect("a head is text");
     let (word, rest) = line.split_once(' ').expect("a head has two words");
     Some((word.to_string(), rest.to_string()))

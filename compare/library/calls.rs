@@ -13,7 +13,7 @@ pub struct Numbers {
     pub place: u32,
 }
 
-pub fn read_sheet(lent: &mut Lent) -> raw::PanelAnswer {
+pub fn read_sheet(lent: &mut Lent) -> raw::SheetAnswer {
     let held = lent.words[PANEL].content()[0];
     let (sheet, length) = (lent.bytes[TEXT].content().as_ptr(), lent.bytes[TEXT].content().len());
     let [bytes, columnstore, rowstore, ..] = &mut lent.bytes;
@@ -26,6 +26,21 @@ pub fn read_sheet(lent: &mut Lent) -> raw::PanelAnswer {
         )
     };
     planted::in_sheet(lent, held, &mut answer);
+    answer
+}
+
+pub fn display_sheet(lent: &mut Lent) -> raw::DisplayAnswer {
+    let (sheet, length) = (lent.bytes[TEXT].content().as_ptr(), lent.bytes[TEXT].content().len());
+    let [bytes, columnstore, rowstore, ..] = &mut lent.bytes;
+    let (columnstore, rowstore) = (columnstore.content_mut(), rowstore.content_mut());
+    // SAFETY: as above.
+    let mut answer = unsafe {
+        raw::palgwern_display_sheet(
+            sheet, length, lent.words[PANEL].array_mut(), bytes.array_mut(), columnstore.as_mut_ptr(), columnstore.len(),
+            rowstore.as_mut_ptr(), rowstore.len(),
+        )
+    };
+    planted::in_display(lent, &mut answer);
     answer
 }
 

@@ -18,8 +18,8 @@ const SHOWN: u64 = 20;
 /// Seconds after which a call is said not to end.
 const PATIENCE: u64 = 120;
 /// Calls of each panel, by name; those that look at the tables are made more often.
-const CALLS: [&str; 18] = [
-    "read_sheet", "enter_name", "enter_name", "explicit_size", "line_count", "record_count", "resolve_placement", "resolve_placement",
+const CALLS: [&str; 19] = [
+    "read_sheet", "display_sheet", "enter_name", "enter_name", "explicit_size", "line_count", "record_count", "resolve_placement", "resolve_placement",
     "resolve_placement", "resolve_placement", "line_name", "line_name", "line_name", "line_name", "records", "records",
     "resolve_placements", "line_names",
 ];
@@ -98,7 +98,7 @@ fn lend_records(chance: &mut Chance, forged: &mut Forged, numbers: Numbers) {
 
 fn lend(call: &str, chance: &mut Chance, sheets: &Sheets, forged: &mut Forged, numbers: Numbers) {
     match call {
-        "read_sheet" => forged.lent.bytes[TEXT].fill_with(&a_sheet(chance, sheets)),
+        "read_sheet" | "display_sheet" => forged.lent.bytes[TEXT].fill_with(&a_sheet(chance, sheets)),
         "enter_name" => forged.lent.bytes[TEXT].fill_with(&a_name(chance)),
         "records" => lend_records(chance, forged, numbers),
         "resolve_placements" | "line_names" => runs::lend_run(call, &mut forged.lent),
@@ -111,6 +111,7 @@ fn make(call: &str, forged: &Forged, numbers: Numbers) -> (u32, Promises) {
     let Forged { state, lent } = forged;
     match call {
         "read_sheet" => promises::read_sheet(lent),
+        "display_sheet" => promises::display_sheet(lent),
         "enter_name" => promises::enter_name(lent, *state, numbers),
         "explicit_size" => promises::explicit_size(state.grid, numbers),
         "line_count" => promises::line_count(state.grid, numbers),

@@ -5,7 +5,7 @@ use crate::palgwern::{raw, AREA_NAMES_START, PLACEMENT_NUMBERS};
 use std::sync::atomic::{AtomicUsize, Ordering};
 
 /// The faults, from 1 on.
-pub const FAULTS: [&str; 34] = [
+pub const FAULTS: [&str; 39] = [
     "a refused sheet changes a word",
     "a word that the tables held reaches the panel",
     "a sheet writes past the words",
@@ -40,6 +40,11 @@ pub const FAULTS: [&str; 34] = [
     "a track has the source of a gutter",
     "a refused placement has a mark",
     "what is no line has a mark",
+    "a pair stands beside another refusal than 12",
+    "a pair is numbered from 0",
+    "a refused display changes a word",
+    "a display refuses areas that share a cell by 12",
+    "a display has another grid",
 ];
 
 /// The fault in place, 0 for none.
@@ -54,7 +59,7 @@ fn planted() -> usize {
     PLANTED.load(Ordering::Relaxed)
 }
 
-pub fn in_sheet(lent: &mut Lent, held: u64, answer: &mut raw::PanelAnswer) {
+pub fn in_sheet(lent: &mut Lent, held: u64, answer: &mut raw::SheetAnswer) {
     let accepted = answer.number == 0;
     match planted() {
         1 if !accepted => lent.words[PANEL].content_mut()[9_000] ^= 1,
@@ -63,6 +68,17 @@ pub fn in_sheet(lent: &mut Lent, held: u64, answer: &mut raw::PanelAnswer) {
         4 if answer.number == 10 => answer.panel.room.areabytes = 1,
         5 if accepted && lent.bytes[ROW_STORE].content().len() > STORE_BYTES => lent.bytes[ROW_STORE].write_past(1),
         23 if accepted => lent.bytes[PANEL].write_past(7),
+        35 if answer.number == 6 => answer.later = 2,
+        36 if answer.number == 12 => answer.earlier -= 1,
+        _ => (),
+    }
+}
+
+pub fn in_display(lent: &mut Lent, answer: &mut raw::DisplayAnswer) {
+    match planted() {
+        37 if answer.number != 0 => lent.words[PANEL].content_mut()[9_000] ^= 1,
+        38 if answer.grid.areas > 2 => answer.number = 12,
+        39 if answer.number == 0 => answer.grid.areas += 1,
         _ => (),
     }
 }
@@ -99,8 +115,8 @@ pub fn in_placement(lent: &mut Lent, answer: &mut raw::PlacementAnswer) {
         11 if answer.startkind == 1 => lent.words[PANEL].content_mut()[PLACEMENTS.start + 3] ^= 1,
         12 if answer.number == 10 => answer.endkind = 1,
         13 => answer.endnumber += i32::from(lent.bytes[COLUMN_STORE].read_before() == 0xc3),
-        32 if answer.number == 4 => answer.endheld = 1,
-        33 if answer.startkind != 1 && answer.number == 0 => answer.startheld = 1,
+        33 if answer.number == 4 => answer.endheld = 1,
+        34 if answer.startkind != 1 && answer.number == 0 => answer.startheld = 1,
         _ => (),
     }
 }

@@ -34,23 +34,50 @@ pub fn of_refusal(number: u32, numbers: &[u32], zeros: bool, untouched: bool) ->
 }
 
 /// The answer that tables of zeros and full stores give.
-fn read_anew(sheet: &[u8]) -> raw::PanelAnswer {
+fn anew<A>(sheet: &[u8], call: impl Fn(&mut Lent) -> A) -> A {
     let mut lent = Lent::filled(0);
     lent.bytes[TEXT].fill_with(sheet);
-    calls::read_sheet(&mut lent)
+    call(&mut lent)
+}
+
+/// What every call that reads a sheet promises: the sheet is only read, and only the panel's words, its bytes and the stores are written.
+fn only_reads(lent: &Lent, after: &Lent) -> (&'static str, bool) {
+    let bytes = [PANEL, COLUMN_STORE, ROW_STORE].map(|at| (at, lent.bytes[at].whole()));
+    ("a sheet is only read", after.is_but_for(lent, &[(PANEL, lent.words[PANEL].whole())], &bytes))
+}
+
+/// Whether two numbers are those of an earlier and a later area.
+fn is_pair(earlier: u32, later: u32) -> bool {
+    1 <= earlier && earlier < later && later <= 65
 }
 
 pub fn read_sheet(lent: &Lent) -> (u32, Promises) {
     let Twice { answer, after, mut promises } = twice(lent, calls::read_sheet);
-    let anew = read_anew(lent.bytes[TEXT].content());
+    let anew = anew(lent.bytes[TEXT].content(), calls::read_sheet);
     let is_short = lent.is_short() && anew.number == 0;
-    let expected = if is_short { raw::PanelAnswer { number: 10, line: 0, panel: State::default() } } else { anew };
+    let short = raw::SheetAnswer { number: 10, line: 0, earlier: 0, later: 0, panel: State::default() };
     let zeros = answer.panel == State::default();
-    promises.extend(of_refusal(answer.number, &[1, 2, 3, 4, 5, 6, 7, 8, 10], zeros, after.has_contents_of(lent)));
+    promises.extend(of_refusal(answer.number, &[1, 2, 3, 4, 5, 6, 7, 8, 10, 12], zeros, after.has_contents_of(lent)));
     promises.push(("an accepted sheet has line 0", answer.number != 0 || answer.line == 0));
-    promises.push(("what the tables held is nothing to a sheet", answer == expected));
-    let bytes = [PANEL, COLUMN_STORE, ROW_STORE].map(|at| (at, lent.bytes[at].whole()));
-    promises.push(("a sheet is only read", after.is_but_for(lent, &[(PANEL, lent.words[PANEL].whole())], &bytes)));
+    promises.push(("what the tables held is nothing to a sheet", answer == if is_short { short } else { anew }));
+    let paired = if answer.number == 12 { is_pair(answer.earlier, answer.later) } else { (answer.earlier, answer.later) == (0, 0) };
+    promises.push(("a pair of areas stands beside 12, and zeros beside all else", paired));
+    promises.push(only_reads(lent, &after));
+    (answer.number, promises)
+}
+
+pub fn display_sheet(lent: &Lent) -> (u32, Promises) {
+    let Twice { answer, after, mut promises } = twice(lent, calls::display_sheet);
+    let (shown, read) = (anew(lent.bytes[TEXT].content(), calls::display_sheet), anew(lent.bytes[TEXT].content(), calls::read_sheet));
+    let is_short = lent.is_short() && shown.number == 0;
+    let short = raw::DisplayAnswer { number: 10, line: 0, earlier: 0, later: 0, grid: Grid::default() };
+    let zeros = answer.grid == Grid::default() && (answer.earlier, answer.later) == (0, 0);
+    promises.extend(of_refusal(answer.number, &[1, 2, 3, 4, 5, 6, 7, 8, 10], zeros, after.has_contents_of(lent)));
+    promises.push(("an accepted display has line 0", answer.number != 0 || answer.line == 0));
+    promises.push(("what the tables held is nothing to a display", answer == if is_short { short } else { shown }));
+    let alike = (shown.number, shown.line, shown.grid) == (read.number, read.line, read.panel.grid);
+    promises.push(("a display answers as the sheet call, but for 12", alike || read.number == 12));
+    promises.push(only_reads(lent, &after));
     (answer.number, promises)
 }
 

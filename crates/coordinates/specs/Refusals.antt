@@ -40,3 +40,7 @@ zeroLine = 9
 
 abbrev pub short : ℕ
 short = 10
+
+-- document 02, request 03: two areas with a common cell
+abbrev pub overlap : ℕ
+overlap = 12

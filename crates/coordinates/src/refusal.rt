@@ -1,4 +1,4 @@
-// The refusals of document 01's table, by number.
+// The refusals of document 01's table and of document 02's requests, by number.
 ghost use mathlib.Core.Path.{_≡_};
 ghost use Rattle.coordinates.specs.Refusals.{noRefusal, refusalOf};
 
@@ -22,6 +22,8 @@ pub const CROWDED: u32 = 8;
 pub const ZERO_LINE: u32 = 9;
 // short: a lent run or store that is too short
 pub const SHORT: u32 = 10;
+// overlap: an area that shares a cell with an earlier one
+pub const OVERLAP: u32 = 12;
 
 // A refusal: its number, 0 where nothing is refused, and its place, the sheet's line, 0 for a call without a sheet.
 pub struct Refusal {

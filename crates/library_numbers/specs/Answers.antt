@@ -13,10 +13,12 @@ use Rattle.panel_tables.specs.declared.Panel.{Panel}
 use Rattle.panel_tables.specs.Axes.{gridIn}
 use Rattle.coordinates.specs.Axes.{axisNumber, axisOf}
 use Rattle.sheet_rules.specs.Panels.{Tables}
-use Rattle.sheet_rules.specs.Read.{SheetRead}
+use Rattle.sheet_rules.specs.Read.{SheetRead, DisplayRead}
 use Rattle.panel_rules.specs.declared.PlacementAnswer.{PlacementAnswer}
 use Rattle.axis_tables.specs.declared.AxisSize.{AxisSize}
 use Rattle.panel_rules.specs.Calls.{NameTables, EnteredName, enterName, explicitSize, lineCountIn, axisTracks}
+use Rattle.library_numbers.specs.declared.SheetAnswer.{SheetAnswer}
+use Rattle.library_numbers.specs.declared.DisplayAnswer.{DisplayAnswer}
 use Rattle.library_numbers.specs.declared.PanelAnswer.{PanelAnswer}
 use Rattle.library_numbers.specs.declared.SizeAnswer.{SizeAnswer}
 use Rattle.library_numbers.specs.declared.CountAnswer.{CountAnswer}
@@ -27,16 +29,42 @@ use Rattle.library_numbers.specs.declared.PlacementNumbers.{PlacementNum
 abbrev pub isAxis : ℕ → Bool
 isAxis n = leb n 1
 
--- ---- `palgwern_read_sheet`
+-- ---- `palgwern_read_sheet` and `palgwern_display_sheet`
 
 -- the answer, and everything lent
-pub record PanelRead : Type 0 where
-  pub answer : PanelAnswer
+pub record SheetNumbers : Type 0 where
+  pub answer : SheetAnswer
   pub tables : Tables
 
-unfoldable pub panelRead : SheetRead → PanelRead
-panelRead s =
-    record { answer = record { number = s .answer .refusal .number; line = s .answer .refusal .line; panel = s .answer .panel }; tables = s .tables }
+unfoldable pub sheetNumbers : SheetRead → SheetNumbers
+sheetNumbers s =
+    record {
+      answer = record {
+        number = s .answer .refusal .number;
+        line = s .answer .refusal .line;
+        earlier = s .answer .earlier;
+        later = s .answer .later;
+        panel = s .answer .panel;
+      };
+      tables = s .tables;
+    }
+
+pub record DisplayNumbers : Type 0 where
+  pub answer : DisplayAnswer
+  pub tables : Tables
+
+unfoldable pub displayNumbers : DisplayRead → DisplayNumbers
+displayNumbers s =
+    record {
+      answer = record {
+        number = s .answer .refusal .number;
+        line = s .answer .refusal .line;
+        earlier = s .answer .earlier;
+        later = s .answer .later;
+        grid = s .answer .grid;
+      };
+      tables = s .tables;
+    }
 
 -- ---- `palgwern_enter_name`
 

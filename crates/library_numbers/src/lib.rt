@@ -3,10 +3,31 @@ pub mod axis;
 pub mod numbers;
 pub mod part;
 
+use panel_tables::Grid;
 use panel_tables::Panel;
 
-// A panel, or a refusal: its number, 0 where there is none, and its line. On a refusal `read_sheet` gives zeros for the panel, and
-// `enter_name` gives it back as it came.
+// The panel of a sheet, or a refusal and zeros: its number, 0 where there is none, and its line; with 12 the first two areas that share a
+// cell, numbered from 1, else zeros.
+#[repr(C)]
+pub struct SheetAnswer {
+    pub number: u32,
+    pub line: u32,
+    pub earlier: u32,
+    pub later: u32,
+    pub panel: Panel,
+}
+
+// What answers are read from of a sheet for display, with the first two of its areas that share a cell, or a refusal and zeros.
+#[repr(C)]
+pub struct DisplayAnswer {
+    pub number: u32,
+    pub line: u32,
+    pub earlier: u32,
+    pub later: u32,
+    pub grid: Grid,
+}
+
+// A panel, or a refusal: its number, 0 where there is none, and its line. On a refusal it comes back as it came.
 #[repr(C)]
 pub struct PanelAnswer {
     pub number: u32,

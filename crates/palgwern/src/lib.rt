@@ -1,11 +1,11 @@
 // The calls on a panel for programs in C and Rust: numbers, lent arrays and slices of numbers, and structs of numbers by value.
+mod sheets;
+
 ghost use mathlib.Core.Path.{_≡_};
-ghost use Rattle.sheet_rules.specs.Read.{readSheet};
-ghost use Rattle.sheet_rules.specs.Panels.{tablesIn};
 ghost use Rattle.panel_tables.specs.Regions.{areaWordsIn, placementWordsIn};
 ghost use Rattle.panel_rules.specs.Calls.{nameTablesIn, areaTableIn, placementTableIn};
 ghost use Rattle.panel_rules.specs.Placing.{resolvePlacement};
-ghost use Rattle.library_numbers.specs.Answers.{PanelRead, panelRead, PanelEntered, nameEntered, sizeOf, lineCountOf, recordCountOf, placementNumbers};
+ghost use Rattle.library_numbers.specs.Answers.{PanelEntered, nameEntered, sizeOf, lineCountOf, recordCountOf, placementNumbers};
 ghost use Rattle.palgwern.specs.Names.{ShowsName};
 ghost use Rattle.library_numbers.specs.Records.{WrittenRun, recordsWritten};
 ghost use Rattle.library_names.specs.Lists.{listsWritten};
@@ -32,27 +32,6 @@ use panel_tables::region::PANEL_WORDS;
 
 // The number of the rows, the last of an axis.
 const ROWS: u32 = 1;
-
-// The panel that a sheet describes, in the answer and everything lent.
-#[no_mangle]
-pub extern "C" fn palgwern_read_sheet(
-    sheet: &[u8],
-    words: &mut [u64; PANEL_WORDS],
-    bytes: &mut [u8; PANEL_BYTES],
-    columnstore: &mut [u8],
-    rowstore: &mut [u8],
-) -> PanelAnswer
-    ensures { λ r. ⌜ record { answer = r; tables = tablesIn (now (words .exit)) (now (bytes .exit)) (now (columnstore .exit)) (now (rowstore .exit)) } ≡ panelRead (readSheet (now (sheet .entry)) (tablesIn (now (words .entry)) (now (bytes .entry)) (now (columnstore .entry)) (now (rowstore .entry)))) ⌝ }
-{
-    let read = sheet::read_sheet(sheet, words, bytes, columnstore, rowstore);
-    let refusal = read.refusal;
-    let panel = read.panel;
-    PanelAnswer {
-        number: refusal.number,
-        line: refusal.line,
-        panel,
-    }
-}
 
 // A panel with one more line and name entered in an axis.
 #[no_mangle]

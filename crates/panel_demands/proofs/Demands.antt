@@ -1,11 +1,11 @@
 -- The three demands hold. Assumes nothing.
 use Prim.Native.Nat.{ℕ, zero, suc, _+_, _*_, _-_, _≤_, _<_}
-use mathlib.Core.Path.{_≡_, refl, sym, ap, ap₂, _∙_}
+use mathlib.Core.Path.{_≡_, refl, sym, ap, ap₂, _∙_, subst}
 use mathlib.Core.Logic.{_⊎_, inl, inr}
 use mathlib.Core.Bool.{Bool, true, false, cond}
 use mathlib.Core.List.{List, [], _∷_, _++_, map, List·Memᴰ·not-nil}
 use native.Mathlib.Omega.{arith}
-use borrow.Author.Tests.{eq-eqb, ne-eqb, leb-true, leb-false, ltb-true, ltb-false, le-leb, lt-leb, le-ltb, lt-ltb}
+use borrow.Author.Tests.{eq-eqb, ne-eqb, eqb-true, eqb-false, leb-true, leb-false, ltb-true, ltb-false, le-leb, lt-leb, le-ltb, lt-ltb}
 use lib.Dec.{eqb, leb, ltb}
 use lib.ListN.{length, getD, length-append}
 use Rattle.coordinates.specs.declared.axis.Axis.{Axis}
@@ -30,14 +30,16 @@ use Rattle.panel_tables.specs.declared.PlacementPlace.{PlacementPlace}
 use Rattle.panel_tables.specs.View.{PanelView}
 use Rattle.panel_tables.specs.Axes.{viewIn}
 use Rattle.panel_tables.specs.Placements.{placementAt as placeAt}
-use Rattle.sheet_rules.specs.Sheet.{Outcome, counted, sheetOf, entriesOf}
-use Rattle.sheet_rules.specs.Rows.{Row, numberOf, HoldsAt, FirstAt, Nowhere}
+use Rattle.sheet_rules.specs.Sheet.{Outcome, counted, displayOf, overlapOf, sheetOf, entriesOf}
+use Rattle.sheet_rules.proofs.Chosen.{former-outcome, overlap-refused}
+use Rattle.sheet_rules.proofs.Overlaps.{refused-pair}
+use Rattle.sheet_rules.specs.Rows.{Row, overlap, numberOf, HoldsAt, FirstAt, Nowhere}
 use Rattle.sheet_rules.specs.Valid.{ValidTemplate, CssCounted}
 use Rattle.sheet_rules.specs.Panels.{Tables, entryWords, sizedState}
 use Rattle.sheet_rules.proofs.Counted.{invalid-nothing}
-use Rattle.sheet_rules.specs.Read.{shortStores, readBy, readSheet}
+use Rattle.sheet_rules.specs.Read.{shortStores, readBy, strictBy, readSheet}
 use Rattle.sheet_rules.proofs.Contents.{view-says}
-use Rattle.sheet_rules.proofs.Theorem.{Found, nowhere, found, sheet-found}
+use Rattle.sheet_rules.proofs.Theorem.{Found, nowhere, found, sheet-found, refused-exactly}
 use Rattle.sheet_rules.proofs.Only.{some-number}
 use Rattle.panel_rules.specs.Calls.{NameTables, NamedWords, namesIn, axisTracks, shortNames, enterRefusal, enterName, trackRecord}
 use Rattle.panel_rules.specs.Placing.{linePlacement, placedBy, resolvePlacement}
@@ -46,7 +48,8 @@ use Rattle.panel_rules.specs.Views.{entryName, bytesAfter, entriesAfter, placem
 use Rattle.panel_rules.specs.Added.{sheetAxis, added, refusalAfter}
 use Rattle.panel_rules.specs.Book.{CssTemplate, asWritten, addedFrom, sheetBook, sheetTracks, book, bookBytes, tableRefusal, AllValid, AllCounted, RegularTemplate, Regular}
 use Rattle.panel_rules.specs.Ranges.{largest}
-use Rattle.panel_rules.proofs.Sheets.{accepted-sheet}
+use Rattle.panel_rules.proofs.Sheets.{read-overlap, accepted-sheet}
+use Rattle.panel_demands.proofs.Former.{former-number}
 use Rattle.panel_rules.proofs.Held.{run-refusal}
 use Rattle.panel_rules.proofs.Invariants.{areas-largest}
 use Rattle.panel_rules.proofs.Counted.{valid-counted}
@@ -59,29 +62,41 @@ use Rattle.panel_rules.proofs.Runs.{axis-fits, words-entries, added-to, few-tra
 use Rattle.panel_rules.proofs.AxisBack.{state-unrefused}
 use Rattle.panel_rules.proofs.ColumnsAlone.{columns-alone}
 use Rattle.panel_demands.specs.Demands.{SheetAnswered, EntryAnswered, PlacementAnswered, RecordAnswered, RunAnswered, FirstDemand, InvalidTheorem, SecondDemand, TemplateTheorem, RunTheorem, bothWritten, ThirdDemand, WithoutValidity}
-use Rattle.panel_demands.specs.Demands.{sheetAccepted, sheetRefused, sheetShort, entryAccepted, entryRefused, placementAccepted, placementOutside, placementShort, recordAccepted, recordOutside, recordShort, runAccepted, runShort}
+use Rattle.panel_demands.specs.Demands.{sheetAccepted, sheetOverlaps, sheetRefused, sheetShort, entryAccepted, entryRefused, placementAccepted, placementOutside, placementShort, recordAccepted, recordOutside, recordShort, runAccepted, runShort}
 
 -- ==== demand 1
 
 module _ (s : List ℕ) (t : Tables) where
   abbrev o : Outcome
-  o = sheetOf s
+  o = displayOf s
 
-  by-stores : Nowhere (HoldsAt s) → o .fault ≡ 0 → (b : Bool) → shortStores t ≡ b → SheetAnswered s t
-  unfolding readSheet readBy
-  by-stores h z true e = sheetShort h e (rw (eq-eqb (o .fault) 0 z, e))
-  by-stores h z false e = sheetAccepted h e (rw (eq-eqb (o .fault) 0 z, e))
+  -- no areas share a cell
+  by-stores : Nowhere (HoldsAt s) → overlapOf s .later ≡ 0 → o .fault ≡ 0 → (b : Bool) → shortStores t ≡ b → SheetAnswered s t
+  unfolding readSheet strictBy readBy
+  by-stores h n z true e = sheetShort h e (rw (eq-eqb (overlapOf s .later) 0 n, eq-eqb (o .fault) 0 z, e))
+  by-stores h n z false e =
+      sheetAccepted h e (rw (eq-eqb (overlapOf s .later) 0 n, eq-eqb (o .fault) 0 z, e)) (rw (eq-eqb (overlapOf s .later) 0 n, eq-eqb (o .fault) 0 z, e) (refl, refl))
 
-  by-row : (k : ℕ) (r : Row) → FirstAt (HoldsAt s) k r → o .fault ≡ numberOf r → o .line ≡ k → SheetAnswered s t
-  unfolding readSheet readBy
-  by-row k r h e l = sheetRefused k r h (rw (ne-eqb (o .fault) 0 (λ z. some-number r (sym e ∙ z)), e, l))
+  by-row : (k : ℕ) (r : Row) → (r ≡ overlap → ⊥) → FirstAt (HoldsAt s) k r → overlapOf s .later ≡ 0 → o .fault ≡ numberOf r → o .line ≡ k → SheetAnswered s t
+  unfolding readSheet strictBy readBy
+  by-row k r d h n e l = sheetRefused k r d h (rw (eq-eqb (overlapOf s .later) 0 n, ne-eqb (o .fault) 0 (λ z. some-number r (sym e ∙ z)), e, l))
 
   sheet-answered : SheetAnswered s t
-  sheet-answered = go (sheet-found s)
+  sheet-answered = go (eqb (overlapOf s .later) 0) refl (sheet-found s)
     where
-      go : Found (HoldsAt s) 0 (o .fault) (o .line) → SheetAnswered s t
-      go (nowhere e l h) = by-stores h e (shortStores t) refl
-      go (found k r e l h) = by-row k r h e (l ∙ omega arith)
+      no-twelve : (r : Row) → numberOf r ≡ o .fault → r ≡ overlap → ⊥
+      no-twelve r e d = former-number s (sym e ∙ ap numberOf d)
+
+      go : (b : Bool) → eqb (overlapOf s .later) 0 ≡ b → Found (HoldsAt s) 0 (sheetOf s .fault) (sheetOf s .line) → SheetAnswered s t
+      go true n f = former (subst (λ (x : Outcome). Found (HoldsAt s) 0 (x .fault) (x .line)) (former-outcome s (eqb-true (overlapOf s .later) 0 n)) f)
+        where
+          former : Found (HoldsAt s) 0 (o .fault) (o .line) → SheetAnswered s t
+          former (nowhere e l h) = by-stores h (eqb-true (overlapOf s .later) 0 n) e (shortStores t) refl
+          former (found k r e l h) = by-row k r (no-twelve r (sym e)) h (eqb-true (overlapOf s .later) 0 n) e (l ∙ omega arith)
+      go false n f =
+          let x = eqb-false (overlapOf s .later) 0 n in
+          sheetOverlaps (overlapOf s .line) (overlapOf s .earlier) (overlapOf s .later) (refused-exactly s (overlapOf s .line) overlap .0 (overlap-refused s x))
+          (refused-pair s x) (read-overlap s t x)
 
 entry-answered : (p : Panel) (t : NameTables) (a : Axis) (line : ℕ) (name : Bytes) → EntryAnswered p t a line name
 unfolding enterName

@@ -1,4 +1,7 @@
--- The demands (`first-demand`, `second-demand`, `third-demand`), the marked edges (`marked`), and the third demand at worked runs.
+-- The demands (`first-demand`, `second-demand`, `third-demand`), areas that share a cell (`overlap-theorem`), the marked edges (`marked`), and the
+-- third demand at worked runs.
+pub mod Former
 pub mod Demands
+pub mod Overlaps
 pub mod Marked
 pub mod Worked

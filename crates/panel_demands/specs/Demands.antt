@@ -34,10 +34,11 @@ use Rattle.panel_tables.specs.Axes.{gridIn, roomIn, viewIn}
 use Rattle.panel_tables.specs.Placements.{placementAt as placeAt}
 use Rattle.sheet_rules.specs.Sheet.{innerOf, strategyOf, counted, sheetOf}
 use Rattle.sheet_rules.specs.Valid.{ValidTemplate, CssCounted}
-use Rattle.sheet_rules.specs.Rows.{Row, numberOf, HoldsAt, FirstAt, Nowhere}
+use Rattle.sheet_rules.specs.Rows.{Row, overlap, numberOf, HoldsAt, FirstAt, Nowhere}
+use Rattle.sheet_rules.specs.Overlaps.{PairAt}
 use Rattle.sheet_rules.specs.Contents.{linesOf, PanelSays}
 use Rattle.sheet_rules.specs.Panels.{Tables}
-use Rattle.sheet_rules.specs.Read.{shortStores, refusedSheet, readSheet}
+use Rattle.sheet_rules.specs.Read.{shortStores, refusedSheet, refusedOverlap, readSheet}
 use Rattle.panel_rules.specs.Calls.{NameTables, NamedWords, bookIn, namesIn, wordsIn, storeIn, templateIn, sparesIn, axisTracks, shortNames, enterRefusal, EnteredName, enterName, trackRecord}
 use Rattle.panel_rules.specs.Placing.{refusedPlacement, resolvePlacement}
 use Rattle.panel_rules.specs.Runs.{Held, namesOf, areasOf, Call, refusalIn, Accepted, sheetHeld, runOf, sizeOf, placementOf, listsOf, nameOf, recordWith, runWith, fillWith, marksOf}
@@ -51,10 +52,13 @@ use Rattle.panel_rules.specs.Invalid.{InvalidBesideEmpty, SameAnswers}
 -- ==== demand 1: "a fault in a panel is answered by its number and place, with all other answer fields zero and every lent buffer untouched"
 
 -- reading a sheet: accepted exactly where no row of the table holds at any line and no store is short; refused by the row that comes first at
--- the earliest line, or by 10 after all of these. A refused sheet leaves everything lent as it was
+-- the earliest line, or by 10 after all of these. Refusal 12 carries the first pair of areas, every other answer zeros in its place. A refused
+-- sheet leaves everything lent as it was
 pub data SheetAnswered (s : List ℕ) (t : Tables) : Type 0 where
-  sheetAccepted : Nowhere (HoldsAt s) → shortStores t ≡ false → readSheet s t .answer .refusal ≡ noRefusal → SheetAnswered s t
-  sheetRefused : (k : ℕ) (r : Row) → FirstAt (HoldsAt s) k r → readSheet s t ≡ refusedSheet (record { number = numberOf r; line = k }) t → SheetAnswered s t
+  sheetAccepted : Nowhere (HoldsAt s) → shortStores t ≡ false → readSheet s t .answer .refusal ≡ noRefusal
+      → (readSheet s t .answer .earlier ≡ 0) × (readSheet s t .answer .later ≡ 0) → SheetAnswered s t
+  sheetOverlaps : (k i j : ℕ) → FirstAt (HoldsAt s) k overlap → PairAt s k i j → readSheet s t ≡ refusedOverlap (record { earlier = i; later = j; line = k }) t → SheetAnswered s t
+  sheetRefused : (k : ℕ) (r : Row) → (r ≡ overlap → ⊥) → FirstAt (HoldsAt s) k r → readSheet s t ≡ refusedSheet (record { number = numberOf r; line = k }) t → SheetAnswered s t
   sheetShort : Nowhere (HoldsAt s) → shortStores t ≡ true → readSheet s t ≡ refusedSheet (refusalOf short) t → SheetAnswered s t
 
 -- entering a name: a refused call gives its number and line 0, the state as it came and everything lent as it was

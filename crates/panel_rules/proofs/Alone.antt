@@ -15,7 +15,8 @@ use Rattle.sheet_forms.specs.Records.{recordOf}
 use Rattle.sheet_forms.proofs.LineFaults.{no-record}
 use Rattle.panel_tables.specs.View.{PanelView, emptyView}
 use Rattle.sheet_rules.specs.Lines.{recordStep, lineStep}
-use Rattle.sheet_rules.specs.Sheet.{endFault, outcome, ended, run, sheetOf}
+use Rattle.sheet_rules.specs.Sheet.{endFault, outcome, ended, run, displayOf, sheetOf}
+use Rattle.sheet_rules.proofs.Chosen.{accepted-former}
 use Rattle.panel_rules.specs.Runs.{Call}
 use Rattle.panel_rules.specs.Book.{addedFrom}
 use Rattle.panel_rules.specs.Alone.{rowTemplateLine, withoutRows, keptLines, columnCalls}
@@ -77,14 +78,18 @@ run-columns n (l ∷ m ∷ ls) v z = go (eqb (lineStep v (split 9 l) .fault) 0) 
     go true e h z = h z ∙ ap (λ (u : PanelView). columnsFrom u (m ∷ ls)) (line-columns v (split 9 l) e)
     go false e h z = absurd (eqb-false (lineStep v (split 9 l) .fault) 0 e z)
 
-sheet-columns : (s : List ℕ) → sheetOf s .fault ≡ 0 → onlyColumns (sheetOf s .view) ≡ columnsFrom (onlyColumns emptyView) (keptLines s)
-unfolding sheetOf
-sheet-columns s = go (ltb 32768 (length s))
+display-columns : (s : List ℕ) → displayOf s .fault ≡ 0 → onlyColumns (displayOf s .view) ≡ columnsFrom (onlyColumns emptyView) (keptLines s)
+unfolding displayOf
+display-columns s = go (ltb 32768 (length s))
   where
     go : (t : Bool) → cond t (outcome 1 0 emptyView) (run 1 (split 10 s) emptyView) .fault ≡ 0
         → onlyColumns (cond t (outcome 1 0 emptyView) (run 1 (split 10 s) emptyView) .view) ≡ columnsFrom (onlyColumns emptyView) (keptLines s)
     go true z = absurd (omega arith)
     go false z = run-columns 1 (split 10 s) emptyView z ∙ kept-columns (split 10 s) emptyView
+
+sheet-columns : (s : List ℕ) → sheetOf s .fault ≡ 0 → onlyColumns (sheetOf s .view) ≡ columnsFrom (onlyColumns emptyView) (keptLines s)
+unfolding sheetOf
+sheet-columns s z = display-columns s (accepted-former s z .1)
 
 pub columns-view : (s u : List ℕ) → sheetOf s .fault ≡ 0 → sheetOf u .fault ≡ 0 → keptLines s ≡ keptLines u
     → (sheetOf s .view .columns ≡ sheetOf u .view .columns)

@@ -19,8 +19,9 @@ use Rattle.panel_tables.specs.View.{PanelView, emptyView}
 use Rattle.panel_tables.specs.Axes.{viewIn}
 use Rattle.panel_tables.proofs.Axes.{axis-in-fits}
 use Rattle.sheet_rules.specs.Lines.{lineStep}
-use Rattle.sheet_rules.specs.Sheet.{entriesOf, openFault, countFault, entriesFault, axisFault, endFault, outcome, ended, run, sheetOf}
+use Rattle.sheet_rules.specs.Sheet.{entriesOf, openFault, countFault, entriesFault, axisFault, endFault, outcome, ended, run, displayOf, sheetOf}
 use Rattle.sheet_rules.specs.Panels.{nameEntries, entryWords}
+use Rattle.sheet_rules.proofs.Chosen.{accepted-former}
 use Rattle.sheet_rules.proofs.Fits.{sheet-fits}
 use Rattle.sheet_end.proofs.Entries.{none-open, entries-count}
 
@@ -51,13 +52,17 @@ run-end n (l ∷ m ∷ ls) v = go (eqb (lineStep v (split 9 l) .fault) 0) refl (
     go false e rest z = absurd (eqb-false (lineStep v (split 9 l) .fault) 0 e z)
 
 -- the whole sheet
-pub sheet-end : (s : List ℕ) → sheetOf s .fault ≡ 0 → endFault (sheetOf s .view) ≡ 0
-unfolding sheetOf
-sheet-end s = go (ltb 32768 (length s))
+display-end : (s : List ℕ) → displayOf s .fault ≡ 0 → endFault (displayOf s .view) ≡ 0
+unfolding displayOf
+display-end s = go (ltb 32768 (length s))
   where
     go : (t : Bool) → let o = cond t (outcome 1 0 emptyView) (run 1 (split 10 s) emptyView) in o .fault ≡ 0 → endFault (o .view) ≡ 0
     go true z = absurd (omega arith)
     go false z = run-end 1 (split 10 s) emptyView z
+
+pub sheet-end : (s : List ℕ) → sheetOf s .fault ≡ 0 → endFault (sheetOf s .view) ≡ 0
+unfolding sheetOf
+sheet-end s z = display-end s (accepted-former s z .1)
 
 -- of either axis
 pub no-fault : (v : PanelView) → endFault v ≡ 0 → (a : Axis) → axisFault (viewIn v a) ≡ 0

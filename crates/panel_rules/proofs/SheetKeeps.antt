@@ -8,7 +8,7 @@ use Rattle.text.specs.Split.{split}
 use Rattle.sheet_forms.specs.Records.{recordOf}
 use Rattle.panel_tables.specs.View.{PanelView, emptyView, refused, accepted}
 use Rattle.sheet_rules.specs.Lines.{recordStep, stageOf, recordFault, atStage, lineStep}
-use Rattle.sheet_rules.specs.Sheet.{endFault, outcome, ended, run, sheetOf}
+use Rattle.sheet_rules.specs.Sheet.{endFault, outcome, ended, run, displayOf, sheetOf}
 
 module _ (P : PanelView → Type 0) (empty : P emptyView) (staged : (n : ℕ) (v : PanelView) → P v → P (atStage n v))
     (kept : (v : PanelView) → P v → (fs : List (List ℕ)) → P (recordStep v fs (recordOf fs) .panel)) where
@@ -44,7 +44,7 @@ module _ (P : PanelView → Type 0) (empty : P emptyView) (staged : (n : ℕ) (v
       go false h = p
 
   pub sheet-keeps : (s : List ℕ) → P (sheetOf s .view)
-  unfolding sheetOf
+  unfolding sheetOf displayOf
   sheet-keeps s = go (ltb 32768 (length s))
     where
       go : (t : Bool) → P (cond t (outcome 1 0 emptyView) (run 1 (split 10 s) emptyView) .view)

@@ -42,12 +42,14 @@ use Rattle.track_rules.specs.Records.{listed, openTo, allTracks, recordsOf, axi
 use Rattle.axis_tables.specs.View.{Item, AxisView, componentsOf, emptyAxis, trackStep, repeatStep, endStep, nameStep, spareStep, itemStep, extraStep, axisStep}
 use Rattle.panel_tables.specs.View.{PanelView, emptyView, areaStep, placeStep}
 use Rattle.panel_tables.specs.Axes.{viewIn}
-use Rattle.sheet_rules.specs.Lines.{recordStep, recordFault, lineStep}
+use Rattle.panel_cells.specs.Steps.{shares, sharingFrom}
+use Rattle.sheet_rules.specs.Lines.{recordStep, recordFault, strictFault, lineFault, sharedAt, lineStep}
 use Rattle.sheet_rules.specs.Valid.{ValidTemplate}
 use Rattle.sheet_rules.proofs.Counted.{counted-valid}
-use Rattle.sheet_rules.specs.Sheet.{sizeOf as templateSize, counted, entriesOf, endFault, ended, run, sheetOf}
+use Rattle.sheet_rules.specs.Sheet.{sizeOf as templateSize, counted, entriesOf, endFault, ended, run, displayOf, noOverlap, overlapFrom, overlapOf, sheetOf}
+use Rattle.sheet_rules.proofs.Chosen.{accepted-former}
 use Rattle.sheet_rules.specs.Panels.{Tables}
-use Rattle.sheet_rules.specs.Read.{shortStores, readBy, readSheet}
+use Rattle.sheet_rules.specs.Read.{SheetRead, shortStores, readBy}
 use Rattle.panel_rules.specs.declared.PlacementAnswer.{PlacementAnswer}
 use Rattle.axis_tables.specs.declared.AxisSize.{AxisSize}
 use Rattle.panel_rules.specs.Placing.{refusedPlacement}
@@ -60,6 +62,7 @@ use Rattle.panel_rules.specs.Alone.{rowTemplateLine, withoutRows, keptLi
 use Rattle.panel_rules.specs.Worked.{AxisWorked, Worked, accepted, AxisAnswers, Answers, viewOf, found, Met, MetButValid, runFrom, lent, sampleSheet, sample, rowSheet, rowRun, otherSheet, otherRun, calledSheet, firstOrder, secondOrder, namedSheet, namedRun, benchSheet, benchFour, emptySheet, benchEmpty}
 use Rattle.panel_rules.specs.Invalid.{emptied, InvalidBesideEmpty}
 use Rattle.panel_rules.proofs.RegularTest.{regularTest, regular-by-test, validTest, valid-by-test, invalid-by-test, nonZeroTest, non-zero-by-test, allAmong, all-among}
+use Rattle.panel_rules.proofs.Sheets.{read-former}
 use Rattle.panel_rules.proofs.Run.{addedTo}
 use Rattle.panel_rules.proofs.Runs.{added-to, run-sizes, run-lists, run-names, run-records, run-placements, run-marks}
 
@@ -112,8 +115,10 @@ abbrev expected : Worked → Computation
 expected w = record { fault = 0; columns = axisExpected (w .columns); rows = axisExpected (w .rows); placements = w .placements ++ (refusedPlacement count ∷ []); nonZero = true }
 
 read-accepted : (s : List ℕ) (t : Tables) → sheetOf s .fault ≡ 0 → shortStores t ≡ false → Accepted s t
-unfolding readSheet readBy
-read-accepted s t z long = rw (eq-eqb (sheetOf s .fault) 0 z, long)
+unfolding readBy
+read-accepted s t z long =
+    let p = accepted-former s z in
+    ap (λ (r : SheetRead). r .answer .refusal) (read-former s t (p .0)) ∙ rw (eq-eqb (displayOf s .fault) 0 (p .1), long)
 
 module _ (w : Worked) (c : computed w ≡ expected w) (t : Tables) (long : shortStores t ≡ false) where
   abbrev s : List ℕ
@@ -233,7 +238,7 @@ unfolding sampleSheet sample rowSheet rowRun otherSheet otherRun calledSheet fir
     kindOf sizeRead innerOf endKind endName endNumber endOf axisLine areaLine nameLine sizesLine repeatLine endLine extraLine itemLine placeLine byKind recordRead
     emptyAxis trackStep repeatStep endStep nameStep spareStep itemStep extraStep axisStep emptyView areaStep placeStep
     templateSizeOf outsideCount automaticCount beforeCount automaticTracks anyEmpty allFixed everyFixed outsideSpace repetitionSpace fittingOf heldOf repetitionsOf floorOf ceilingOf
-    repeated passed ruleFrom recordStep recordFault lineStep templateSize counted entriesOf endFault ended run sheetOf ofBits add sub mul div lt ofInt
+    repeated passed ruleFrom recordStep recordFault lineStep shares sharingFrom strictFault lineFault sharedAt templateSize counted entriesOf endFault ended run displayOf overlapFrom overlapOf sheetOf ofBits add sub mul div lt ofInt
     sheetBook sheetTracks tableRefusal addedFrom book isName
     sizeAfter listsAfter nameAfter recordAfter placementAfter shownAfter explicitLineNames writtenOut openTo allTracks recordsOf axisRefusal recordAnswerOf seek named?
 all = record {

@@ -25,7 +25,7 @@ use Rattle.panel_tables.specs.View.{End, PanelView, PanelOutcome, emptyView, re
 use Rattle.panel_tables.specs.Axes.{viewIn, withView}
 use Rattle.sheet_rules.specs.Lines.{bit, edgesOf, placedEnd, recordStep, stageOf, recordFault, atStage, lineStep}
 use Rattle.sheet_rules.specs.Rows.{OnAxis}
-use Rattle.sheet_rules.specs.Sheet.{endFault, outcome, ended, run, sheetOf}
+use Rattle.sheet_rules.specs.Sheet.{endFault, outcome, ended, run, displayOf, sheetOf}
 use Rattle.sheet_rules.proofs.Says.{Says, record-says}
 use Rattle.sheet.proofs.Names.{Within, within-more, track-names, repeat-names, end-names, spare-names, item-names, extra-names, axis-names, name-within}
 
@@ -208,7 +208,7 @@ not-full (n ∷ ns) p = (omega (arith, p .names), omega (arith, p .bytes))
 
 -- a sheet that is read has at most 32,768 bytes
 sheet-within : (s : List ℕ) → BothWithin 32768 (sheetOf s .view)
-unfolding sheetOf
+unfolding sheetOf displayOf
 sheet-within s = go (ltb 32768 (length s)) refl
   where
     go : (t : Bool) → ltb 32768 (length s) ≡ t → BothWithin 32768 (cond t (outcome 1 0 emptyView) (run 1 (split 10 s) emptyView) .view)

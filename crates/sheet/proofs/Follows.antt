@@ -1,6 +1,7 @@
--- Reading on what is held for a view follows reading on the view: the same refusal at the same line, and what is held for the sized panel. Assumes nothing.
-use Prim.Native.Nat.{ℕ, _+_}
-use mathlib.Core.Path.{_≡_, refl, sym, _∙_, subst}
+-- Reading on what is held for a view follows reading on the view: the same refusal at the same line, the same
+-- overlap, and what is held for the sized panel. Assumes nothing.
+use Prim.Native.Nat.{ℕ, _+_, min}
+use mathlib.Core.Path.{_≡_, refl, sym, ap, _∙_, subst}
 use mathlib.Core.List.{List, [], _∷_}
 use mathlib.Core.Bool.{Bool, true, false, cond}
 use native.Mathlib.Omega.{arith}
@@ -17,15 +18,16 @@ use Rattle.axis_tables.proofs.Fits.{Fits}
 use Rattle.panel_tables.specs.View.{PanelView}
 use Rattle.panel_tables.specs.Written.{panelReadingOf, PanelHeld, heldPanel, areaWords, areaStore, placementWords, placementStore}
 use Rattle.panel_tables.proofs.Fits.{FitsPanel}
-use Rattle.sheet_rules.specs.Lines.{lineStep}
-use Rattle.sheet_rules.specs.Sheet.{axisFault, endFault, Outcome, outcome, ended, run}
+use Rattle.sheet_rules.specs.declared.Overlap.{Overlap}
+use Rattle.sheet_rules.specs.Lines.{sharedAt, lineStep}
+use Rattle.sheet_rules.specs.Sheet.{axisFault, endFault, Outcome, outcome, ended, run, noOverlap, overlapAt, overlapFrom}
 use Rattle.sheet_rules.specs.Panels.{entryWords, sizedPanel}
 use Rattle.sheet_rules.proofs.Fits.{line-fits}
-use Rattle.sheet_faults.specs.Lines.{lineIn}
-use Rattle.sheet_faults.proofs.Same.{line-fault, line-held}
+use Rattle.sheet_faults.specs.Lines.{lineIn, lineShared}
+use Rattle.sheet_faults.proofs.Same.{line-fault, line-held, line-shared}
 use Rattle.sheet_end.specs.End.{EndedAxis, endFaultIn, endIn}
 use Rattle.sheet_end.proofs.Same.{end-fault, end-same}
-use Rattle.sheet.specs.Runs.{HeldRun, stopped, heldRun, endedPanel, heldEnd, heldAfter}
+use Rattle.sheet.specs.Runs.{HeldRun, stopped, heldRun, notedAt, orElse, heldOverlap, endedPanel, heldEnd, heldAfter}
 
 -- what is held for a view whose sheet has ended
 unfoldable pub heldSized : PanelView → PanelHeld
@@ -132,3 +134,29 @@ run-follows n (l ∷ []) v f = go (eqb (length l) 0)
     go false = follows-stop 1 n (heldPanel v) v 1 refl (λ y. omega arith)
 run-follows n (l ∷ m ∷ ls) v f =
     line-follows n (split 9 l) v f (heldRun (n + 1) (m ∷ ls)) (run (n + 1) (m ∷ ls)) (run-follows (n + 1) (m ∷ ls) (lineStep v (split 9 l) .panel) (line-fits v f (split 9 l)))
+
+-- ---- the overlap
+
+-- a line that is not the last
+line-overlap : (n : ℕ) (fs : List (List ℕ)) (v : PanelView) → FitsPanel v → (next : PanelHeld → Overlap) (rest : PanelView → Overlap)
+    → next (heldPanel (lineStep v fs .panel)) ≡ rest (lineStep v fs .panel)
+    → orElse (notedAt (lineShared (heldPanel v) fs) (heldPanel v .panel .grid .areas) n) (cond (eqb (lineIn (heldPanel v) fs .fault) 0) (next (lineIn (heldPanel v) fs .held)) noOverlap)
+    ≡ cond (eqb (sharedAt v fs) 0) (cond (eqb (lineStep v fs .fault) 0) (rest (lineStep v fs .panel)) noOverlap) (overlapAt (sharedAt v fs) (length (v .areas)) n)
+unfolding heldPanel
+line-overlap n fs v f next rest q =
+    let z : min (length (v .areas)) 64 ≡ length (v .areas) = omega (arith, f .areas) in
+    rw (line-shared v f fs, z, line-fault v f fs) (go (eqb (sharedAt v fs) 0) (eqb (lineStep v fs .fault) 0) refl)
+  where
+    go : (t u : Bool) → eqb (lineStep v fs .fault) 0 ≡ u
+        → orElse (cond t noOverlap (overlapAt (sharedAt v fs) (length (v .areas)) n)) (cond u (next (lineIn (heldPanel v) fs .held)) noOverlap)
+        ≡ cond t (cond u (rest (lineStep v fs .panel)) noOverlap) (overlapAt (sharedAt v fs) (length (v .areas)) n)
+    go true true e = ap next (line-held v f fs (eqb-true (lineStep v fs .fault) 0 e)) ∙ q
+    go true false e = refl
+    go false u e = rw (ne-eqb (length (v .areas) + 1) 0 (λ y. omega arith))
+
+pub overlap-follows : (n : ℕ) (ls : List (List ℕ)) (v : PanelView) → FitsPanel v → heldOverlap n ls (heldPanel v) ≡ overlapFrom n ls v
+unfolding heldOverlap overlapFrom
+overlap-follows n [] v f = refl
+overlap-follows n (l ∷ []) v f = refl
+overlap-follows n (l ∷ m ∷ ls) v f =
+    line-overlap n (split 9 l) v f (heldOverlap (n + 1) (m ∷ ls)) (overlapFrom (n + 1) (m ∷ ls)) (overlap-follows (n + 1) (m ∷ ls) (lineStep v (split 9 l) .panel) (line-fits v f (split 9 l)))

@@ -1,19 +1,22 @@
 -- One line more of a run, and its end. Assumes nothing.
-use Prim.Native.Nat.{ℕ, _+_}
-use mathlib.Core.Path.{_≡_, refl, _∙_}
+use Prim.Native.Nat.{ℕ, _+_, min}
+use mathlib.Core.Path.{_≡_, refl, sym, ap, _∙_}
 use mathlib.Core.List.{List, [], _∷_}
 use mathlib.Core.Bool.{Bool, true, false, cond}
 use lib.Dec.{eqb}
 use lib.ListN.{length}
-use borrow.Author.Tests.{eq-eqb, ne-eqb}
+use native.Mathlib.Omega.{arith}
+use borrow.Author.Tests.{eq-eqb, ne-eqb, eqb-true}
 use Rattle.text.specs.Split.{split, onto}
 use Rattle.coordinates.specs.declared.axis.Axis.the-variants.{Column, Row}
 use Rattle.panel_tables.specs.declared.Panel.{Panel}
 use Rattle.panel_tables.specs.declared.Reading.{Reading}
 use Rattle.panel_tables.specs.Regions.{axisWordsIn, areaWordsIn, placementWordsIn}
 use Rattle.panel_tables.specs.Written.{PanelHeld, PanelStepped, panelHeldOf}
-use Rattle.sheet_faults.specs.Lines.{lineIn}
-use Rattle.sheet.specs.Runs.{HeldRun, stopped, heldRun, EndedPanel, endedPanel, atEnd, heldAfter, heldSheet}
+use Rattle.sheet_rules.specs.declared.Overlap.{Overlap}
+use Rattle.sheet_rules.specs.Sheet.{noOverlap, overlapAt}
+use Rattle.sheet_faults.specs.Lines.{lineIn, lineShared}
+use Rattle.sheet.specs.Runs.{HeldRun, stopped, heldRun, notedAt, orElse, heldOverlap, EndedPanel, endedPanel, atEnd, heldAfter, heldSheet}
 
 -- there is always a part
 data Some (ps : List (List ℕ)) : Type 0 where
@@ -58,6 +61,66 @@ module _ (n : ℕ) (l : List ℕ) (h : PanelHeld) where
 pub run-last : (n : ℕ) (h : PanelHeld) → heldRun n ([] ∷ []) h ≡ stopped 0 n h
 unfolding heldRun
 run-last n h = refl
+
+-- ---- the overlap
+
+-- the first of three, in any grouping
+else-joined : (o p q : Overlap) → orElse o (orElse p q) ≡ orElse (orElse o p) q
+else-joined o p q = go (eqb (o .later) 0) refl
+  where
+    go : (t : Bool) → eqb (o .later) 0 ≡ t → cond t (orElse p q) o ≡ orElse (cond t p o) q
+    go true e = refl
+    go false e = sym (rw e)
+
+-- a note that has no later area is none
+abbrev pub Settled : Overlap → Type 0
+Settled o = orElse o noOverlap ≡ o
+
+pub settled-none : Settled noOverlap
+settled-none = refl
+
+settled-at : (shared areas n : ℕ) → Settled (notedAt shared areas n)
+settled-at shared areas n = go (eqb shared 0)
+  where
+    go : (t : Bool) → Settled (cond t noOverlap (overlapAt shared (min areas 64) n))
+    go true = refl
+    go false = rw (ne-eqb (min areas 64 + 1) 0 (λ y. omega arith))
+
+pub settled-more : (o : Overlap) (shared areas n : ℕ) → Settled o → Settled (orElse o (notedAt shared areas n))
+settled-more o shared areas n s = go (eqb (o .later) 0)
+  where
+    go : (t : Bool) → Settled (cond t (notedAt shared areas n) o)
+    go true = settled-at shared areas n
+    go false = s
+
+module _ (n : ℕ) (l : List ℕ) (h : PanelHeld) (o : Overlap) where
+  -- a line before others
+  else-line : (ps : List (List ℕ)) → Some ps
+      → orElse o (heldOverlap n (l ∷ ps) h)
+      ≡ orElse (orElse o (notedAt (lineShared h (split 9 l)) (h .panel .grid .areas) n)) (cond (eqb (lineIn h (split 9 l) .fault) 0) (heldOverlap (n + 1) ps (lineIn h (split 9 l) .held)) noOverlap)
+  unfolding heldOverlap
+  else-line ps (some q qs e) =
+      rw e
+      (else-joined o (notedAt (lineShared h (split 9 l)) (h .panel .grid .areas) n)
+      (cond (eqb (lineIn h (split 9 l) .fault) 0) (heldOverlap (n + 1) (q ∷ qs) (lineIn h (split 9 l) .held)) noOverlap))
+
+  -- a line that has an end: accepted, and refused
+  module _ (b : ℕ) (x : List ℕ) (a : PanelStepped) (e : a ≡ lineIn h (split 9 l)) (k p : ℕ) (d : k ≡ lineShared h (split 9 l)) (g : p ≡ h .panel .grid .areas) where
+    pub overlap-next : a .fault ≡ 0 → orElse o (heldOverlap n (l ∷ split b x) h) ≡ orElse (orElse o (notedAt k p n)) (heldOverlap (n + 1) (split b x) (a .held))
+    overlap-next z = else-line (split b x) (split-some b x) ∙ rw (← e, ← d, ← g, eq-eqb (a .fault) 0 z)
+
+    pub overlap-stop : (a .fault ≡ 0 → ⊥) → orElse o (heldOverlap n (l ∷ split b x) h) ≡ orElse (orElse o (notedAt k p n)) noOverlap
+    overlap-stop z = else-line (split b x) (split-some b x) ∙ rw (← e, ← d, ← g, ne-eqb (a .fault) 0 z)
+
+-- the areas of what is held
+pub held-areas : (p : Panel) (q : Reading) (w b c d : List ℕ) → p .grid .areas ≡ panelHeldOf p q w b c d .panel .grid .areas
+unfolding panelHeldOf
+held-areas p q w b c d = refl
+
+-- a last line without a line feed, or nothing after the last line feed
+pub overlap-last : (n : ℕ) (l : List ℕ) (h : PanelHeld) → heldOverlap n (l ∷ []) h ≡ noOverlap
+unfolding heldOverlap
+overlap-last n l h = refl
 
 -- ---- the end after the lines
 

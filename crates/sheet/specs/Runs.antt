@@ -1,5 +1,5 @@
 -- The lines of a sheet one after the other, and what comes after the last, on what a panel holds.
-use Prim.Native.Nat.{ℕ, _+_}
+use Prim.Native.Nat.{ℕ, _+_, min}
 use mathlib.Core.List.{List, [], _∷_}
 use mathlib.Core.Bool.{cond}
 use lib.Dec.{eqb}
@@ -11,8 +11,10 @@ use Rattle.panel_tables.specs.declared.Panel.{Panel}
 use Rattle.panel_tables.specs.declared.Reading.{Reading}
 use Rattle.panel_tables.specs.Axes.{stateIn}
 use Rattle.panel_tables.specs.Written.{PanelHeld, PanelStepped}
+use Rattle.sheet_rules.specs.declared.Overlap.{Overlap}
+use Rattle.sheet_rules.specs.Sheet.{noOverlap, overlapAt}
 use Rattle.sheet_rules.specs.Panels.{withAxes}
-use Rattle.sheet_faults.specs.Lines.{lineIn}
+use Rattle.sheet_faults.specs.Lines.{lineIn, lineShared}
 use Rattle.sheet_end.specs.End.{EndedAxis, endIn}
 
 -- a refusal's number, 0 where there is none, its line, and what is held
@@ -32,6 +34,24 @@ heldRun n (l ∷ []) h = cond (eqb (length l) 0) (stopped 0 n h) (stopped 1 n h)
 heldRun n (l ∷ m ∷ ls) h =
     let a : PanelStepped = lineIn h (split 9 l) in
     cond (eqb (a .fault) 0) (heldRun (n + 1) (m ∷ ls) (a .held)) (stopped (a .fault) n (a .held))
+
+-- ---- the first overlap on the way
+
+-- at line n, after so many areas
+abbrev pub notedAt : ℕ → ℕ → ℕ → Overlap
+notedAt shared areas n = cond (eqb shared 0) noOverlap (overlapAt shared (min areas 64) n)
+
+-- one that was noted stays
+abbrev pub orElse : Overlap → Overlap → Overlap
+orElse o p = cond (eqb (o .later) 0) p o
+
+-- from line n on, until a line is refused
+unfoldable pub heldOverlap : ℕ → List (List ℕ) → PanelHeld → Overlap
+heldOverlap n [] h = noOverlap
+heldOverlap n (l ∷ []) h = noOverlap
+heldOverlap n (l ∷ m ∷ ls) h =
+    let a : PanelStepped = lineIn h (split 9 l) in
+    orElse (notedAt (lineShared h (split 9 l)) (h .panel .grid .areas) n) (cond (eqb (a .fault) 0) (heldOverlap (n + 1) (m ∷ ls) (a .held)) noOverlap)
 
 -- ---- after the last line
 

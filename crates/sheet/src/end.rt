@@ -5,7 +5,8 @@ ghost use lib.ListN.{length};
 ghost use Rattle.coordinates.specs.declared.axis.Axis.the-variants.{Column, Row};
 ghost use Rattle.panel_tables.specs.Regions.{axisWordsIn, areaWordsIn, placementWordsIn};
 ghost use Rattle.panel_tables.specs.Written.{zeroPanel, zeroPanelReading, panelHeldOf};
-ghost use Rattle.sheet.specs.Runs.{EndedPanel, endedPanel, heldSheet};
+ghost use Rattle.text.specs.Split.{split};
+ghost use Rattle.sheet.specs.Runs.{EndedPanel, endedPanel, heldSheet, heldOverlap};
 ghost use Rattle.sheet.specs.Steps.{endedIn};
 use crate::PanelEnd;
 use crate::SheetRun;
@@ -65,6 +66,7 @@ pub(crate) fn read_panel(
 ) -> SheetRun
     requires { ⌜ length (now sheet) ≤ 32768 ⌝ }
     ensures { λ r. ⌜ record { fault = r .fault; line = r .line; held = panelHeldOf (r .panel) (r .reading) (now (words .exit)) (now (bytes .exit)) (now (columnbytes .exit)) (now (rowbytes .exit)) } ≡ heldSheet (now (sheet .entry)) (panelHeldOf zeroPanel zeroPanelReading (now (words .entry)) (now (bytes .entry)) (now (columnbytes .entry)) (now (rowbytes .entry))) ⌝ }
+    ensures overlap { λ r. ⌜ r .overlap ≡ heldOverlap 1 (split 10 (now (sheet .entry))) (panelHeldOf zeroPanel zeroPanelReading (now (words .entry)) (now (bytes .entry)) (now (columnbytes .entry)) (now (rowbytes .entry))) ⌝ }
 {
     let run = read_lines(sheet, words, bytes, columnbytes, rowbytes);
     let fault = run.fault;
@@ -75,10 +77,12 @@ pub(crate) fn read_panel(
     let reading = run.reading;
     let end = end_panel(panel, reading, words);
     let sized = end.panel;
+    let overlap = run.overlap;
     SheetRun {
         fault: end.fault,
         line: run.line,
         panel: sized,
         reading,
+        overlap,
     }
 }

@@ -4,31 +4,71 @@ ghost use Prim.Native.Nat.{_≤_};
 ghost use lib.ListN.{length};
 ghost use Rattle.text.specs.Split.{split};
 ghost use Rattle.panel_tables.specs.Written.{zeroPanel, zeroPanelReading, panelHeldOf};
-ghost use Rattle.sheet.specs.Runs.{heldRun};
+ghost use Rattle.sheet_rules.specs.Sheet.{noOverlap};
+ghost use Rattle.sheet.specs.Runs.{heldRun, notedAt, orElse, heldOverlap};
 use crate::SheetRun;
 use axis_tables::layout::AXIS_BYTES;
+use panel_cells::at_most_all;
 use panel_tables::Panel;
 use panel_tables::Reading;
 use panel_tables::region::PANEL_BYTES;
 use panel_tables::region::PANEL_WORDS;
 use panel_tables::state::zero_panel;
 use panel_tables::state::zero_panel_reading;
+use sheet_rules::Overlap;
 use sheet_step::read_line;
 use text::split::find;
 
 // Where reading stops.
-fn stopped(fault: u32, line: u32, panel: Panel, reading: Reading) -> SheetRun
-    ensures { λ r. ⌜ r ≡ record { fault = fault; line = line; panel = panel; reading = reading } ⌝ }
+fn stopped(fault: u32, line: u32, panel: Panel, reading: Reading, overlap: Overlap) -> SheetRun
+    ensures { λ r. ⌜ r ≡ record { fault = fault; line = line; panel = panel; reading = reading; overlap = overlap } ⌝ }
 {
     SheetRun {
         fault,
         line,
         panel,
         reading,
+        overlap,
     }
 }
 
-// Line after line into the arrays, until one is refused.
+// No overlap.
+fn no_overlap() -> Overlap
+    ensures { λ r. ⌜ r ≡ noOverlap ⌝ }
+{
+    Overlap {
+        earlier: 0,
+        later: 0,
+        line: 0,
+    }
+}
+
+// The overlap of a line, numbered from 1: the area that it shares a cell with, and its own, which comes after so many.
+fn noted_at(shared: u32, areas: u32, line: u32) -> Overlap
+    ensures { λ r. ⌜ r ≡ notedAt shared areas line ⌝ }
+{
+    if shared == 0 {
+        return no_overlap();
+    }
+    let before = at_most_all(areas);
+    Overlap {
+        earlier: shared,
+        later: before + 1,
+        line,
+    }
+}
+
+// The first overlap, of which one that was noted stays.
+fn first_overlap(noted: Overlap, here: Overlap) -> Overlap
+    ensures { λ r. ⌜ r ≡ orElse noted here ⌝ }
+{
+    if noted.later == 0 {
+        return here;
+    }
+    noted
+}
+
+// Line after line into the arrays, until one is refused; the first overlap is noted, and reading goes on.
 pub(crate) fn read_lines(
     sheet: &[u8],
     words: &mut [u64; PANEL_WORDS],
@@ -38,15 +78,17 @@ pub(crate) fn read_lines(
 ) -> SheetRun
     requires { ⌜ length (now sheet) ≤ 32768 ⌝ }
     ensures { λ r. ⌜ record { fault = r .fault; line = r .line; held = panelHeldOf (r .panel) (r .reading) (now (words .exit)) (now (bytes .exit)) (now (columnbytes .exit)) (now (rowbytes .exit)) } ≡ heldRun 1 (split 10 (now (sheet .entry))) (panelHeldOf zeroPanel zeroPanelReading (now (words .entry)) (now (bytes .entry)) (now (columnbytes .entry)) (now (rowbytes .entry))) ⌝ }
+    ensures overlap { λ r. ⌜ r .overlap ≡ heldOverlap 1 (split 10 (now (sheet .entry))) (panelHeldOf zeroPanel zeroPanelReading (now (words .entry)) (now (bytes .entry)) (now (columnbytes .entry)) (now (rowbytes .entry))) ⌝ }
 {
     let mut panel = zero_panel();
     let mut reading = zero_panel_reading();
+    let mut overlap = no_overlap();
     let mut at: usize = 0;
     let mut line: u32 = 1;
     while at < sheet.len() {
         let end = find(sheet, at, 10);
         if end == sheet.len() {
-            return stopped(1, line, panel, reading);
+            return stopped(1, line, panel, reading, overlap);
         }
         let read = read_line(
             panel,
@@ -57,14 +99,15 @@ pub(crate) fn read_lines(
             rowbytes,
             &sheet[at..end],
         );
+        overlap = first_overlap(overlap, noted_at(read.shared, panel.grid.areas, line));
         panel = read.panel;
         reading = read.reading;
         let fault = read.fault;
         if fault != 0 {
-            return stopped(fault, line, panel, reading);
+            return stopped(fault, line, panel, reading, overlap);
         }
         at = end + 1;
         line += 1;
     }
-    stopped(0, line, panel, reading)
+    stopped(0, line, panel, reading, overlap)
 }

@@ -14,8 +14,8 @@ use Rattle.panel_tables.specs.Written.{PanelHeld, PanelStepped}
 use Rattle.panel_tables.specs.Axes.{heldIn}
 use Rattle.sheet_rules.specs.Steps.{axisHeld, axisRecord, onHeld, heldStep}
 use Rattle.sheet_faults.specs.declared.Part.{Part}
-use Rattle.sheet_faults.specs.Lines.{twiceIn, stageIn, lateIn, faultBefore, atStage, recordIn, lineIn}
-use Rattle.sheet_faults.specs.Parts.{axisPart, partOf, named, partStep, namedStep, twiceOf, beforeOf}
+use Rattle.sheet_faults.specs.Lines.{twiceIn, stageIn, lateIn, faultBefore, sharedIn, notedBy, atStage, recordIn, lineIn, lineShared}
+use Rattle.sheet_faults.specs.Parts.{axisPart, partOf, named, partStep, namedStep, twiceOf, beforeOf, sharedOf}
 
 module _ (h : PanelHeld) where
   -- a record of an axis is written to that axis's tables
@@ -78,3 +78,29 @@ module _ (h : PanelHeld) (fs : List (List ℕ)) where
       ∙ ap (λ (n : ℕ). made (faultBefore h fs r) n x) reached
       ∙ ap (made (faultBefore h fs r) (stageIn (h .reading .stage) r)) (wrote ∙ ap₂ (λ (m : List ℕ) (n : List ℕ). namedStep h m n r) one two ∙ sym (part-step r))
       ∙ ap (recordIn h fs) said
+
+  -- the area that it shares a cell with looks at the areas' edges alone
+  shared-of : (r : Record) → sharedIn h r ≡ sharedOf (h .panel .grid .areas) (h .areas) r
+  shared-of (Fault n) = refl
+  shared-of (AxisLine a) = refl
+  shared-of (Area a) = refl
+  shared-of (Name a) = refl
+  shared-of (Track a min max) = refl
+  shared-of (Repeat a n) = refl
+  shared-of (End a) = refl
+  shared-of (Spare a min max) = refl
+  shared-of (Extra a n p) = refl
+  shared-of (Item a i) = refl
+  shared-of (Place a s e) = refl
+
+  -- the overlap of a line, by its fault before, the area found and what it wrote
+  pub line-noted : {r : Record} {first second : List ℕ} {x : PanelStepped} {before shared noted : ℕ} → r ≡ recordOf fs → first ≡ firstName r fs → second ≡ secondName r fs
+      → before ≡ beforeOf (h .panel .grid .areas) (h .reading) (h .areas) (h .areaBytes) first r → x ≡ namedStep h first second r
+      → shared ≡ sharedOf (h .panel .grid .areas) (h .areas) r → noted ≡ notedBy before shared (x .fault) → noted ≡ lineShared h fs
+  unfolding lineShared
+  line-noted {r} {first} {second} {x} {before} {shared} {noted} said one two earlier wrote found top =
+      top
+      ∙ ap (λ (n : ℕ). notedBy n shared (x .fault)) (earlier ∙ ap (λ (n : List ℕ). beforeOf (h .panel .grid .areas) (h .reading) (h .areas) (h .areaBytes) n r) one ∙ sym (before-of r))
+      ∙ ap (λ (n : ℕ). notedBy (faultBefore h fs r) n (x .fault)) (found ∙ sym (shared-of r))
+      ∙ ap (λ (s : PanelStepped). notedBy (faultBefore h fs r) (sharedIn h r) (s .fault)) (wrote ∙ ap₂ (λ (m : List ℕ) (n : List ℕ). namedStep h m n r) one two ∙ sym (part-step r))
+      ∙ ap (λ (s : Record). notedBy (faultBefore h fs s) (sharedIn h s) (heldStep h fs s .fault)) said

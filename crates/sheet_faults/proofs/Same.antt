@@ -14,7 +14,7 @@ use Rattle.sheet_forms.specs.declared.Record.the-variants.{Fault, Axis as AxisL
 use Rattle.sheet_forms.specs.Words.{at}
 use Rattle.sheet_forms.specs.Faults.{rankOf, firstOf}
 use Rattle.sheet_forms.specs.Records.{recordOf, faultOf}
-use Rattle.sheet_forms.proofs.Firsts.{first-left, first-right, first-none, none-or-some}
+use Rattle.sheet_forms.proofs.Firsts.{first-joined}
 use Rattle.axis_tables.specs.View.{Unended, none, inside, AxisView}
 use Rattle.axis_tables.specs.Written.{repeatOf, readingOf}
 use Rattle.panel_tables.specs.View.{PanelView, refused, accepted}
@@ -22,43 +22,11 @@ use Rattle.panel_tables.specs.Axes.{readingIn, viewIn}
 use Rattle.panel_tables.specs.Written.{PanelStepped, panelReadingOf, heldPanel}
 use Rattle.panel_tables.proofs.Fits.{FitsPanel}
 use Rattle.panel_tables.proofs.Back.{has-back}
-use Rattle.sheet_rules.specs.Lines.{recordStep, twiceFault, stageOf, lateFault, recordFault, atStage as viewAtStage, recordOutcome, lineStep}
+use Rattle.panel_cells.proofs.Search.{sharing-back}
+use Rattle.sheet_rules.specs.Lines.{edgesOf, recordStep, twiceFault, stageOf, lateFault, sharedWith, recordFault, strictFault, lineFault, sharedAt, atStage as viewAtStage, recordOutcome, lineStep}
 use Rattle.sheet_rules.specs.Steps.{heldStep}
 use Rattle.sheet_rules.proofs.Same.{record-same}
-use Rattle.sheet_faults.specs.Lines.{twiceIn, stageIn, lateIn, faultBefore, atStage, recordIn, lineIn}
-
--- ---- the first of three faults
-
--- of two, by their places in the order
-first-of : (a b : ℕ) → (a ≡ 0 → ⊥) → (b ≡ 0 → ⊥) → (t : Bool) → leb (rankOf a) (rankOf b) ≡ t → firstOf a b ≡ cond t a b
-unfolding firstOf
-first-of a b h k t e = rw (ne-eqb a 0 h, ne-eqb b 0 k, e)
-
--- of three, in any grouping
-three : (a b c : ℕ) → (a ≡ 0 → ⊥) → (b ≡ 0 → ⊥) → (c ≡ 0 → ⊥) → firstOf (firstOf a b) c ≡ firstOf a (firstOf b c)
-three a b c h k l = go (leb (rankOf a) (rankOf b)) (leb (rankOf b) (rankOf c)) refl refl
-  where
-    go : (t u : Bool) → leb (rankOf a) (rankOf b) ≡ t → leb (rankOf b) (rankOf c) ≡ u → firstOf (firstOf a b) c ≡ firstOf a (firstOf b c)
-    go true true e f =
-        let le : leb (rankOf a) (rankOf c) ≡ true =
-        le-leb (rankOf a) (rankOf c) (omega (arith, leb-true (rankOf a) (rankOf b) e, leb-true (rankOf b) (rankOf c) f)) in
-        rw (first-of a b h k true e, first-of b c k l true f, first-of a c h l true le) (sym (first-of a b h k true e))
-    go true false e f = rw (first-of a b h k true e, first-of b c k l false f)
-    go false true e f = rw (first-of a b h k false e, first-of b c k l true f) (sym (first-of a b h k false e))
-    go false false e f =
-        let lt : leb (rankOf a) (rankOf c) ≡ false =
-        lt-leb (rankOf a) (rankOf c) (omega (arith, leb-false (rankOf a) (rankOf b) e, leb-false (rankOf b) (rankOf c) f)) in
-        rw (first-of a b h k false e, first-of b c k l false f, first-of a c h l false lt)
-
--- where 0 is none
-first-joined : (a b c : ℕ) → firstOf (firstOf a b) c ≡ firstOf a (firstOf b c)
-first-joined a b c = go (none-or-some a) (none-or-some b) (none-or-some c)
-  where
-    go : (a ≡ 0) ⊎ (a ≡ 0 → ⊥) → (b ≡ 0) ⊎ (b ≡ 0 → ⊥) → (c ≡ 0) ⊎ (c ≡ 0 → ⊥) → firstOf (firstOf a b) c ≡ firstOf a (firstOf b c)
-    go (inl e) y z = ap (λ (n : ℕ). firstOf n c) (first-left a b e) ∙ sym (first-left a (firstOf b c) e)
-    go (inr h) (inl e) z = ap (λ (n : ℕ). firstOf n c) (first-right a b h e) ∙ ap (firstOf a) (sym (first-left b c e))
-    go (inr h) (inr k) (inl e) = ap (firstOf (firstOf a b)) e ∙ first-none (firstOf a b) ∙ ap (firstOf a) (sym (ap (firstOf b) e ∙ first-none b))
-    go (inr h) (inr k) (inr l) = three a b c h k l
+use Rattle.sheet_faults.specs.Lines.{twiceIn, stageIn, lateIn, faultBefore, sharedIn, notedBy, atStage, recordIn, lineIn, lineShared}
 
 -- ---- the faults that a record has before it is written
 
@@ -164,3 +132,29 @@ line-fault v f fs = record-fault v f fs (recordOf fs) ∙ sym (outcome-fault v f
 pub line-held : (v : PanelView) → FitsPanel v → (fs : List (List ℕ)) → lineStep v fs .fault ≡ 0 → lineIn (heldPanel v) fs .held ≡ heldPanel (lineStep v fs .panel)
 unfolding lineIn lineStep
 line-held v f fs e = record-held v f fs (recordOf fs) (sym (outcome-fault v f fs (recordOf fs)) ∙ e)
+
+-- ---- the overlap
+
+-- the areas are read back from their table
+shared-with : (v : PanelView) → FitsPanel v → (r : Record) → sharedIn (heldPanel v) r ≡ sharedWith v r
+unfolding heldPanel
+shared-with v f (Fault n) = refl
+shared-with v f (AxisLine a) = refl
+shared-with v f (Area a) = sharing-back (v .areas) (f .drawn) (f .areas) (edgesOf a)
+shared-with v f (Name a) = refl
+shared-with v f (Track a min max) = refl
+shared-with v f (Repeat a n) = refl
+shared-with v f (End a) = refl
+shared-with v f (Spare a min max) = refl
+shared-with v f (Extra a n p) = refl
+shared-with v f (Item a i) = refl
+shared-with v f (Place a s e) = refl
+
+-- a line notes what it notes on the view
+pub line-shared : (v : PanelView) → FitsPanel v → (fs : List (List ℕ)) → lineShared (heldPanel v) fs ≡ sharedAt v fs
+unfolding lineShared sharedAt lineFault strictFault
+line-shared v f fs =
+    let r : Record = recordOf fs in
+    ap (λ (n : ℕ). notedBy n (sharedIn (heldPanel v) r) (heldStep (heldPanel v) fs r .fault)) (before-same v f fs r)
+    ∙ ap (λ (n : ℕ). notedBy (firstOf (faultOf r) (firstOf (twiceFault v fs r) (lateFault v r))) n (heldStep (heldPanel v) fs r .fault)) (shared-with v f r)
+    ∙ ap (λ (s : PanelStepped). notedBy (firstOf (faultOf r) (firstOf (twiceFault v fs r) (lateFault v r))) (sharedWith v r) (s .fault)) (record-same v f fs r)

@@ -12,6 +12,8 @@ use Rattle.sheet_forms.specs.Records.{recordOf, faultOf}
 use Rattle.panel_tables.specs.Areas.{hasAreaIn}
 use Rattle.panel_tables.specs.Axes.{readingIn}
 use Rattle.panel_tables.specs.Written.{PanelHeld, PanelStepped}
+use Rattle.panel_cells.specs.Steps.{firstSharingIn}
+use Rattle.sheet_rules.specs.Lines.{edgesOf}
 use Rattle.sheet_rules.specs.Steps.{heldStep}
 
 -- twice: an area name or axis record again
@@ -50,6 +52,24 @@ lateIn stage r = cond (ltb (stageIn stage r) stage) 7 0
 unfoldable pub faultBefore : PanelHeld → List (List ℕ) → Record → ℕ
 faultBefore h fs r = firstOf (faultOf r) (firstOf (twiceIn h fs r) (lateIn (h .reading .stage) r))
 
+-- the number of the first area before it that shares a cell with an area, from 1; 0 where none does
+abbrev pub sharedIn : PanelHeld → Record → ℕ
+sharedIn h (Fault n) = 0
+sharedIn h (AxisLine a) = 0
+sharedIn h (Area a) = firstSharingIn (h .panel .grid .areas) (h .areas) (edgesOf a)
+sharedIn h (Name a) = 0
+sharedIn h (Track a min max) = 0
+sharedIn h (Repeat a n) = 0
+sharedIn h (End a) = 0
+sharedIn h (Spare a min max) = 0
+sharedIn h (Extra a n p) = 0
+sharedIn h (Item a i) = 0
+sharedIn h (Place a s e) = 0
+
+-- that number where an overlap is the first fault: after those before it is written, and before that of writing it
+abbrev pub notedBy : ℕ → ℕ → ℕ → ℕ
+notedBy before shared written = cond (eqb (firstOf before (firstOf (cond (eqb shared 0) 0 12) written)) 12) shared 0
+
 abbrev pub atStage : ℕ → PanelHeld → PanelHeld
 atStage n h =
     record {
@@ -78,3 +98,7 @@ recordIn h fs r =
 -- a line as its fields
 unfoldable pub lineIn : PanelHeld → List (List ℕ) → PanelStepped
 lineIn h fs = recordIn h fs (recordOf fs)
+
+-- the first area that it shares a cell with, where that is its first fault, else 0
+unfoldable pub lineShared : PanelHeld → List (List ℕ) → ℕ
+lineShared h fs = notedBy (faultBefore h fs (recordOf fs)) (sharedIn h (recordOf fs)) (heldStep h fs (recordOf fs) .fault)

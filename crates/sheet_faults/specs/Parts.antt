@@ -15,11 +15,13 @@ use Rattle.panel_tables.specs.declared.Reading.{Reading}
 use Rattle.panel_tables.specs.declared.AreaEdges.{AreaEdges}
 use Rattle.panel_tables.specs.declared.PanelRead.{PanelRead}
 use Rattle.panel_tables.specs.Areas.{hasAreaIn, InAreas, putArea}
+use Rattle.panel_cells.specs.Steps.{firstSharingIn}
 use Rattle.panel_tables.specs.Placements.{putPlacement}
 use Rattle.panel_tables.specs.Axes.{readingIn}
 use Rattle.panel_tables.specs.Written.{PanelHeld, PanelStepped, ofAreas, ofPlacements}
 use Rattle.sheet_rules.specs.Lines.{edgesOf, placedEnd}
 use Rattle.sheet_rules.specs.Steps.{stayed, onHeld}
+use Rattle.sheet_faults.specs.declared.LineRead.{LineRead}
 use Rattle.sheet_faults.specs.declared.Part.{Part}
 use Rattle.sheet_faults.specs.declared.Part.the-variants.{Nothing, Columns, Rows, Areas, Placements}
 use Rattle.sheet_faults.specs.Lines.{lateIn}
@@ -94,8 +96,25 @@ twiceOf areas reading words bytes name (Place a s e) = 0
 abbrev pub beforeOf : ℕ → Reading → List ℕ → List ℕ → List ℕ → Record → ℕ
 beforeOf areas reading words bytes name r = firstOf (faultOf r) (firstOf (twiceOf areas reading words bytes name r) (lateIn (reading .stage) r))
 
+-- ---- the overlap
+
+-- the first area that shares a cell with a record's, over no more than it looks at
+abbrev pub sharedOf : ℕ → List ℕ → Record → ℕ
+sharedOf areas words (Fault n) = 0
+sharedOf areas words (AxisLine a) = 0
+sharedOf areas words (Area a) = firstSharingIn areas words (edgesOf a)
+sharedOf areas words (Name a) = 0
+sharedOf areas words (Track a min max) = 0
+sharedOf areas words (Repeat a n) = 0
+sharedOf areas words (End a) = 0
+sharedOf areas words (Spare a min max) = 0
+sharedOf areas words (Extra a n p) = 0
+sharedOf areas words (Item a i) = 0
+sharedOf areas words (Place a s e) = 0
+
 -- ---- the line
 
--- an answer with a fault, at a place of the kind order
-abbrev pub stagedRead : ℕ → ℕ → PanelRead → PanelRead
-stagedRead fault stage r = record { fault = fault; panel = r .panel; reading = record { stage = stage; columns = r .reading .columns; rows = r .reading .rows } }
+-- an answer with a fault and the area that it shares a cell with, at a place of the kind order
+abbrev pub stagedRead : ℕ → ℕ → ℕ → PanelRead → LineRead
+stagedRead fault shared stage r =
+    record { fault = fault; shared = shared; panel = r .panel; reading = record { stage = stage; columns = r .reading .columns; rows = r .reading .rows } }

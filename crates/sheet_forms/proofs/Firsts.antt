@@ -1,12 +1,13 @@
 -- The row that comes first: of two parts of a line, of rows that say the same, and that there is only one. Assumes nothing.
 use Prim.Native.Nat.{ℕ, _≤_, _<_}
 use mathlib.Core.Path.{_≡_, refl, sym, ap, _∙_}
-use mathlib.Core.Bool.{Bool, true, false}
+use mathlib.Core.Bool.{Bool, true, false, cond}
 use mathlib.Core.Logic.{_⊎_, inl, inr, ⊎-elim}
 use native.Mathlib.Omega.{arith}
 use lib.Dec.{eqb, leb}
 use borrow.Author.Tests.{eq-eqb, ne-eqb, le-leb, lt-leb, leb-true, leb-false, eqb-true, eqb-false}
 use Rattle.sheet_forms.specs.Faults.{rankOf, firstOf, FirstBy, noRow, firstRow}
+use Rattle.sheet_forms.proofs.Order.{rank-same}
 use Rattle.sheet_forms.specs.Rows.{Row, unread, badName, badValue, badCount, badArea, numberOf, First}
 
 -- the first of two faults
@@ -59,6 +60,61 @@ first-zero a b e = ⊎-elim (λ z. (z, sym (first-left a b z) ∙ e)) (λ h. abs
     go (inl z) h = h (sym (first-right a b h z) ∙ e)
     go (inr k) h = ⊎-elim (λ q. h (sym q ∙ e)) (λ q. k (sym q ∙ e)) (first-either a b)
 
+-- ---- the first of three faults
+
+-- of two, by their places in the order
+first-of : (a b : ℕ) → (a ≡ 0 → ⊥) → (b ≡ 0 → ⊥) → (t : Bool) → leb (rankOf a) (rankOf b) ≡ t → firstOf a b ≡ cond t a b
+unfolding firstOf
+first-of a b h k t e = rw (ne-eqb a 0 h, ne-eqb b 0 k, e)
+
+-- of three, in any grouping
+three : (a b c : ℕ) → (a ≡ 0 → ⊥) → (b ≡ 0 → ⊥) → (c ≡ 0 → ⊥) → firstOf (firstOf a b) c ≡ firstOf a (firstOf b c)
+three a b c h k l = go (leb (rankOf a) (rankOf b)) (leb (rankOf b) (rankOf c)) refl refl
+  where
+    go : (t u : Bool) → leb (rankOf a) (rankOf b) ≡ t → leb (rankOf b) (rankOf c) ≡ u → firstOf (firstOf a b) c ≡ firstOf a (firstOf b c)
+    go true true e f =
+        let le : leb (rankOf a) (rankOf c) ≡ true =
+        le-leb (rankOf a) (rankOf c) (omega (arith, leb-true (rankOf a) (rankOf b) e, leb-true (rankOf b) (rankOf c) f)) in
+        rw (first-of a b h k true e, first-of b c k l true f, first-of a c h l true le) (sym (first-of a b h k true e))
+    go true false e f = rw (first-of a b h k true e, first-of b c k l false f)
+    go false true e f = rw (first-of a b h k false e, first-of b c k l true f) (sym (first-of a b h k false e))
+    go false false e f =
+        let lt : leb (rankOf a) (rankOf c) ≡ false =
+        lt-leb (rankOf a) (rankOf c) (omega (arith, leb-false (rankOf a) (rankOf b) e, leb-false (rankOf b) (rankOf c) f)) in
+        rw (first-of a b h k false e, first-of b c k l false f, first-of a c h l false lt)
+
+-- where 0 is none
+pub first-joined : (a b c : ℕ) → firstOf (firstOf a b) c ≡ firstOf a (firstOf b c)
+first-joined a b c = go (none-or-some a) (none-or-some b) (none-or-some c)
+  where
+    go : (a ≡ 0) ⊎ (a ≡ 0 → ⊥) → (b ≡ 0) ⊎ (b ≡ 0 → ⊥) → (c ≡ 0) ⊎ (c ≡ 0 → ⊥) → firstOf (firstOf a b) c ≡ firstOf a (firstOf b c)
+    go (inl e) y z = ap (λ (n : ℕ). firstOf n c) (first-left a b e) ∙ sym (first-left a (firstOf b c) e)
+    go (inr h) (inl e) z = ap (λ (n : ℕ). firstOf n c) (first-right a b h e) ∙ ap (firstOf a) (sym (first-left b c e))
+    go (inr h) (inr k) (inl e) = ap (firstOf (firstOf a b)) e ∙ first-none (firstOf a b) ∙ ap (firstOf a) (sym (ap (firstOf b) e ∙ first-none b))
+    go (inr h) (inr k) (inr l) = three a b c h k l
+
+-- the middle one of three may be left out where it is not the first
+pub first-without : (a b c : ℕ) → (firstOf a (firstOf b c) ≡ b → ⊥) → firstOf a (firstOf b c) ≡ firstOf a c
+first-without a b c not = pick (first-either b c)
+  where
+    places : (x y : ℕ) → (x ≡ 0 → ⊥) → (y ≡ 0 → ⊥) → firstOf x y ≡ x → rankOf x ≤ rankOf y
+    places x y h k e = go (leb (rankOf x) (rankOf y)) refl
+      where
+        go : (t : Bool) → leb (rankOf x) (rankOf y) ≡ t → rankOf x ≤ rankOf y
+        go true q = leb-true (rankOf x) (rankOf y) q
+        go false q = omega (arith, ap rankOf (sym e ∙ first-of x y h k false q))
+
+    last : firstOf b c ≡ b → (b ≡ 0) ⊎ (b ≡ 0 → ⊥) → (a ≡ 0) ⊎ (a ≡ 0 → ⊥) → (c ≡ 0) ⊎ (c ≡ 0 → ⊥) → (firstOf a b ≡ a) ⊎ (firstOf a b ≡ b) → firstOf a (firstOf b c) ≡ firstOf a c
+    last e (inl z) y w q = ap (firstOf a) (first-left b c z)
+    last e (inr h) y w (inr q) = absurd (not (ap (firstOf a) e ∙ q))
+    last e (inr h) (inl z) w (inl q) = absurd (not (ap (firstOf a) e ∙ first-left a b z))
+    last e (inr h) (inr k) (inl z) (inl q) = ap (firstOf a) e ∙ q ∙ sym (first-right a c k z)
+    last e (inr h) (inr k) (inr l) (inl q) = ap (firstOf a) e ∙ q ∙ sym (first-le a c k l (omega (arith, places a b k h q, places b c h l e)))
+
+    pick : (firstOf b c ≡ b) ⊎ (firstOf b c ≡ c) → firstOf a (firstOf b c) ≡ firstOf a c
+    pick (inl e) = last e (none-or-some b) (none-or-some a) (none-or-some c) (first-either a b)
+    pick (inr e) = ap (firstOf a) e
+
 -- nothing comes before 1
 pub first-one : (a b : ℕ) → a ≡ 1 → firstOf a b ≡ 1
 first-one a b e = ⊎-elim (λ z. first-right a b some z ∙ e) (λ h. first-le a b some h (before h) ∙ e) (none-or-some b)
@@ -67,7 +123,7 @@ first-one a b e = ⊎-elim (λ z. first-right a b some z ∙ e) (λ h. first-le 
     some z = omega arith
 
     before : (b ≡ 0 → ⊥) → rankOf a ≤ rankOf b
-    before h = unfold rankOf in ⊎-elim (λ z. absurd (h z)) (⊎-elim (λ z. omega arith) (λ z. omega arith)) (trichotomy b 0)
+    before h = unfold rankOf in rw e (omega arith)
 
 -- ---- which row comes first
 
@@ -103,7 +159,7 @@ module _ {R : Type 0} {number : R → ℕ} where
   first-unique {m = m} {n = n} (firstRow r e h l) (firstRow s f k j) = same-rank (λ w. j r w h) (λ w. l s w k)
     where
       same-rank : (rankOf (number r) < rankOf (number s) → ⊥) → (rankOf (number s) < rankOf (number r) → ⊥) → m ≡ n
-      same-rank x y = unfold rankOf in ⊎-elim (λ z. e ∙ z ∙ sym f) (λ z. absurd (⊎-elim x y z)) (trichotomy (number r) (number s))
+      same-rank x y = ⊎-elim (λ z. e ∙ rank-same (number r) (number s) z ∙ sym f) (λ z. absurd (⊎-elim x y z)) (trichotomy (rankOf (number r)) (rankOf (number s)))
 
 -- ---- the five rows of a line
 

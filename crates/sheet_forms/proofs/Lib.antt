@@ -1,5 +1,6 @@
 -- Laws of the records of a sheet.
 pub mod Codes
+pub mod Order
 pub mod Firsts
 pub mod FieldRows
 pub mod PartRows

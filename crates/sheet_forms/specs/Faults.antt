@@ -1,12 +1,23 @@
--- Which of the faults of one line is named (document 01, the table of refusals): "lowest number first at one line".
-use Prim.Native.Nat.{ℕ, _<_}
+-- Which of the faults of one line is named (document 01, the table of refusals): "lowest number first at one line"; 12 comes
+-- "after 6 and 7 and before 8" (document 02, request 03).
+use Prim.Native.Nat.{ℕ, suc, _<_}
 use mathlib.Core.Path.{_≡_}
+use mathlib.Core.List.{List, [], _∷_}
 use mathlib.Core.Bool.{cond}
 use lib.Dec.{eqb, leb}
 
+-- the numbers of the table in that order; "10 after all of these"
+abbrev pub inOrder : List ℕ
+inOrder = 1 ∷ 2 ∷ 3 ∷ 4 ∷ 5 ∷ 6 ∷ 7 ∷ 12 ∷ 8 ∷ 9 ∷ 10 ∷ []
+
+-- how many numbers of a list come before n; any other number comes after them all, by itself
+abbrev pub placeIn : List ℕ → ℕ → ℕ
+placeIn [] n = n
+placeIn (x ∷ xs) n = cond (eqb n x) 0 (suc (placeIn xs n))
+
 -- a fault's place in that order
 unfoldable pub rankOf : ℕ → ℕ
-rankOf n = n
+rankOf n = placeIn inOrder n
 
 -- the first of two faults, where 0 is none
 unfoldable pub firstOf : ℕ → ℕ → ℕ

@@ -1,12 +1,27 @@
 // Which of the faults of one line is named.
 ghost use mathlib.Core.Path.{_≡_};
 ghost use Rattle.sheet_forms.specs.Faults.{rankOf, firstOf};
+use coordinates::refusal::OVERLAP;
 
-// A fault's place in the order in which the faults of one line are looked at: the lowest number first.
-pub fn rank(number: u32) -> u32
+// A fault's place in the order in which the faults of one line are looked at: the lowest number first, but 12 before 8. A number that
+// is none of the table's comes after all of these.
+pub fn rank(number: u32) -> u64
     ensures { λ r. ⌜ r ≡ rankOf number ⌝ }
 {
-    number
+    match number {
+        1 => 0,
+        2 => 1,
+        3 => 2,
+        4 => 3,
+        5 => 4,
+        6 => 5,
+        7 => 6,
+        OVERLAP => 7,
+        8 => 8,
+        9 => 9,
+        10 => 10,
+        _ => number as u64 + 11,
+    }
 }
 
 // The first of two faults, 0 where there is none.

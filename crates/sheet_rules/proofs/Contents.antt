@@ -26,32 +26,33 @@ use Rattle.panel_tables.specs.View.{Area as AnArea, End as PlacedEnd, Placement
 use Rattle.panel_tables.specs.Axes.{viewIn, withView}
 use Rattle.panel_tables.proofs.Rooms.{fault-stays}
 use Rattle.sheet_rules.specs.Lines.{bit, edgesOf, placedEnd, recordStep, twiceFault, stageOf, lateFault, recordFault, atStage, lineStep}
-use Rattle.sheet_rules.specs.Sheet.{openFault, countFault, entriesFault, axisFault, endFault, outcome, ended, run, sheetOf}
+use Rattle.sheet_rules.specs.Sheet.{openFault, countFault, entriesFault, axisFault, endFault, outcome, ended, run, displayOf, sheetOf}
 use Rattle.sheet_rules.specs.Rows.{OnAxis}
 use Rattle.sheet_rules.specs.Contents.{Line, linesFrom, linesOf, those, isOf, letterOf, isOn, linesWith, templateIn, axisIn, sizesIn, areaIn, endIn, placementIn, piece, opening, closing, templateLineIn, templateLines, lastOf, largest, isAmong, AxisSays, PanelSays}
 use Rattle.sheet_rules.proofs.LineFields.{not-zero, EndReads, Reads, record-reads}
 use Rattle.sheet_rules.proofs.Says.{Says, record-says}
+use Rattle.sheet_rules.proofs.Chosen.{accepted-former}
 use Rattle.sheet_rules.proofs.AxisContents.{more, those-more, Chosen, chosen, word, grown, chosen-more, openLines, AxisAgrees, name-written, track-written, repeat-written, end-written, template-agrees, spare-agrees, extra-agrees, item-agrees, axis-agrees, area-agrees}
 use Rattle.sheet_rules.proofs.TemplateContents.{picked, nameSaid, trackSaid, names-from, tracks-of, picked-lines, name-one, track-one}
 
 -- ---- a panel says what its lines say
 
-record Agrees (ls : List Line) (v : PanelView) : Type 0 where
-  axes : (a : Axis) → AxisAgrees a (chosen a ls) (viewIn v a)
-  areas : v .areas ≡ map areaIn (linesWith area ls)
-  placements : v .placements ≡ map placementIn (linesWith place ls)
+pub record Agrees (ls : List Line) (v : PanelView) : Type 0 where
+  pub axes : (a : Axis) → AxisAgrees a (chosen a ls) (viewIn v a)
+  pub areas : v .areas ≡ map areaIn (linesWith area ls)
+  pub placements : v .placements ≡ map placementIn (linesWith place ls)
 
 letter : (fs : Line) (a : Axis) → OnAxis fs a → at fs 1 ≡ letterOf a
 letter fs Column o = o
 letter fs Row o = o
 
 -- the lines of a kind that a line is not of
-other-kind : (j k : Kind) (ls : List Line) (l : Line) → at l 0 ≡ word j → same (word j) (word k) ≡ false → linesWith k (ls ++ (l ∷ [])) ≡ linesWith k ls
+pub other-kind : (j k : Kind) (ls : List Line) (l : Line) → at l 0 ≡ word j → same (word j) (word k) ≡ false → linesWith k (ls ++ (l ∷ [])) ≡ linesWith k ls
 unfolding more
 other-kind j k ls l w d = those-more (isOf k) ls l ∙ ap (λ (t : Bool). more t (linesWith k ls) l) (ap (λ (f : List ℕ). same f (word k)) w ∙ d)
 
 -- and of a kind that it is of
-own-kind : (k : Kind) (ls : List Line) (l : Line) → at l 0 ≡ word k → linesWith k (ls ++ (l ∷ [])) ≡ linesWith k ls ++ (l ∷ [])
+pub own-kind : (k : Kind) (ls : List Line) (l : Line) → at l 0 ≡ word k → linesWith k (ls ++ (l ∷ [])) ≡ linesWith k ls ++ (l ∷ [])
 unfolding more
 own-kind k ls l w = those-more (isOf k) ls l ∙ ap (λ (t : Bool). more t (linesWith k ls) l) (ap (λ (f : List ℕ). same f (word k)) w ∙ same-self (word k))
 
@@ -206,7 +207,7 @@ module _ (ls : List Line) (v : PanelView) (agrees : Agrees ls v) (l : Line) wher
 -- ---- the lines one after the other
 
 -- what the panel says of the lines before, and an accepted line, it says of one line more
-line-agrees : (ls : List Line) (v : PanelView) → Agrees ls v → (l : Line) → lineStep v l .fault ≡ 0 → Agrees (ls ++ (l ∷ [])) (lineStep v l .panel)
+pub line-agrees : (ls : List Line) (v : PanelView) → Agrees ls v → (l : Line) → lineStep v l .fault ≡ 0 → Agrees (ls ++ (l ∷ [])) (lineStep v l .panel)
 unfolding lineStep recordFault
 line-agrees ls v agrees l = go (eqb (recordFault v l (recordOf l)) 0) refl
   where
@@ -275,7 +276,7 @@ run-agrees n (l ∷ m ∷ ls) before v agrees z = go (λ w p y. run-agrees (n + 
         (rest (lineStep v (split 9 l) .panel) (line-agrees before v agrees (split 9 l) (eqb-true (lineStep v (split 9 l) .fault) 0 e)) y)
     go rest false e y = absurd (eqb-false (lineStep v (split 9 l) .fault) 0 e y)
 
-empty-agrees : Agrees [] emptyView
+pub empty-agrees : Agrees [] emptyView
 unfolding emptyView emptyAxis those lastOf largest isAmong templateLines
 empty-agrees = record { axes = axes; areas = refl; placements = refl }
   where
@@ -295,9 +296,9 @@ empty-agrees = record { axes = axes; areas = refl; placements = refl }
     axes Column = nothing Column
     axes Row = nothing Row
 
-sheet-agrees : (s : List ℕ) → sheetOf s .fault ≡ 0 → AgreesEnded (linesOf s) (sheetOf s .view)
-unfolding sheetOf
-sheet-agrees s = go (ltb 32768 (length s))
+display-agrees : (s : List ℕ) → displayOf s .fault ≡ 0 → AgreesEnded (linesOf s) (displayOf s .view)
+unfolding displayOf
+display-agrees s = go (ltb 32768 (length s))
   where
     go : (t : Bool) → cond t (outcome 1 0 emptyView) (run 1 (split 10 s) emptyView) .fault ≡ 0 → AgreesEnded (linesOf s) (cond t (outcome 1 0 emptyView) (run 1 (split 10 s) emptyView) .view)
     go true z = absurd (not-zero 0 z)
@@ -305,16 +306,16 @@ sheet-agrees s = go (ltb 32768 (length s))
 
 -- ---- the laws
 
--- the view of every accepted sheet is what its lines say
-pub view-says : (s : List ℕ) → sheetOf s .fault ≡ 0 → PanelSays (linesOf s) (sheetOf s .view)
-view-says s z = record { axes = axis-says; areas = p .agrees .areas; placements = p .agrees .placements }
+-- the view of every sheet that the display call accepts is what its lines say
+pub display-says : (s : List ℕ) → displayOf s .fault ≡ 0 → PanelSays (linesOf s) (displayOf s .view)
+display-says s z = record { axes = axis-says; areas = p .agrees .areas; placements = p .agrees .placements }
   where
-    p : AgreesEnded (linesOf s) (sheetOf s .view)
-    p = sheet-agrees s z
+    p : AgreesEnded (linesOf s) (displayOf s .view)
+    p = display-agrees s z
 
-    axis-says : (a : Axis) → AxisSays a (linesOf s) (viewIn (sheetOf s .view) a)
+    axis-says : (a : Axis) → AxisSays a (linesOf s) (viewIn (displayOf s .view) a)
     axis-says a =
-        let x : AxisView = viewIn (sheetOf s .view) a in
+        let x : AxisView = viewIn (displayOf s .view) a in
         let agrees : AxisAgrees a (chosen a (linesOf s)) x = p .agrees .axes a in
         let closed : x .unended ≡ none = p .closed a in
         let lines : templateLines (x .template) ≡ map templateLineIn (templateIn a (linesOf s)) =
@@ -336,3 +337,8 @@ view-says s z = record { axes = axis-says; areas = p .agrees .areas; placements 
           marks = agrees .marks;
           areas = agrees .areas;
         }
+
+-- and of every accepted sheet
+pub view-says : (s : List ℕ) → sheetOf s .fault ≡ 0 → PanelSays (linesOf s) (sheetOf s .view)
+unfolding sheetOf
+view-says s z = display-says s (accepted-former s z .1)

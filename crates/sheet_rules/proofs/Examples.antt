@@ -24,8 +24,9 @@ use Rattle.sheet_forms.specs.Ends.{endKind, endName, endNumber, endOf}
 use Rattle.sheet_forms.specs.Records.{axisLine, areaLine, nameLine, sizesLine, repeatLine, endLine, extraLine, itemLine, placeLine, byKind, recordOf}
 use Rattle.axis_tables.specs.View.{emptyAxis, trackStep, repeatStep, endStep, nameStep, spareStep, itemStep, extraStep, axisStep, AxisView}
 use Rattle.panel_tables.specs.View.{emptyView, areaStep, placeStep}
-use Rattle.sheet_rules.specs.Lines.{recordStep, recordFault, lineStep}
-use Rattle.sheet_rules.specs.Sheet.{sizeOf as templateSize, counted, explicitOf, entriesOf, endFault, ended, run, sheetOf, Outcome}
+use Rattle.panel_cells.specs.Steps.{shares, sharingFrom}
+use Rattle.sheet_rules.specs.Lines.{recordStep, recordFault, strictFault, lineFault, sharedAt, lineStep}
+use Rattle.sheet_rules.specs.Sheet.{sizeOf as templateSize, counted, explicitOf, entriesOf, endFault, ended, run, displayOf, overlapFrom, overlapOf, sheetOf, Outcome}
 
 -- repetitions, explicit count and name entries of an axis
 pub record Size : Type 0 where
@@ -117,5 +118,5 @@ unfolding every right cases
     kindOf sizeOf innerOf endKind endName endNumber endOf axisLine areaLine nameLine sizesLine repeatLine endLine extraLine itemLine placeLine byKind recordOf
     emptyAxis trackStep repeatStep endStep nameStep spareStep itemStep extraStep axisStep emptyView areaStep placeStep
     templateSizeOf outsideCount automaticCount beforeCount automaticTracks anyEmpty allFixed everyFixed outsideSpace repetitionSpace fittingOf heldOf repetitionsOf floorOf ceilingOf
-    repeated passed ruleFrom recordStep recordFault lineStep templateSize counted entriesOf endFault ended run sheetOf ofBits add sub mul div lt ofInt
+    repeated passed ruleFrom recordStep recordFault lineStep shares sharingFrom strictFault lineFault sharedAt templateSize counted entriesOf endFault ended run displayOf overlapFrom overlapOf sheetOf ofBits add sub mul div lt ofInt
 worked = tt

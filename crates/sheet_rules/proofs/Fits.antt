@@ -17,7 +17,7 @@ use Rattle.panel_tables.specs.Axes.{viewIn}
 use Rattle.panel_tables.proofs.Axes.{axis-in-fits, step-in-fits}
 use Rattle.panel_tables.proofs.Fits.{FitsPanel, area-fits, place-fits, empty-fits-panel}
 use Rattle.sheet_rules.specs.Lines.{bit, edgesOf, placedEnd, recordStep, stageOf, recordFault, atStage, recordOutcome, lineStep}
-use Rattle.sheet_rules.specs.Sheet.{endFault, Outcome, outcome, ended, run, sheetOf}
+use Rattle.sheet_rules.specs.Sheet.{endFault, Outcome, outcome, ended, run, displayOf, sheetOf}
 
 module _ (v : PanelView) (f : FitsPanel v) where
   record-fits : (fs : List (List ℕ)) (r : Record) → FitsPanel (recordStep v fs r .panel)
@@ -72,10 +72,14 @@ run-fits n (l ∷ m ∷ ls) v f = go (eqb (lineStep v (split 9 l) .fault) 0) (ru
     go false h = f
 
 -- every sheet
-pub sheet-fits : (s : List ℕ) → FitsPanel (sheetOf s .view)
-unfolding sheetOf
-sheet-fits s = go (ltb 32768 (length s))
+pub display-fits : (s : List ℕ) → FitsPanel (displayOf s .view)
+unfolding displayOf
+display-fits s = go (ltb 32768 (length s))
   where
     go : (t : Bool) → FitsPanel (cond t (outcome 1 0 emptyView) (run 1 (split 10 s) emptyView) .view)
     go true = empty-fits-panel
     go false = run-fits 1 (split 10 s) emptyView empty-fits-panel
+
+pub sheet-fits : (s : List ℕ) → FitsPanel (sheetOf s .view)
+unfolding sheetOf
+sheet-fits s = display-fits s

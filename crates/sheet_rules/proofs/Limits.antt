@@ -1,5 +1,5 @@
 -- Each limit of a sheet is reached: exactly full is accepted, one more is refused, at its line. Assumes nothing.
-use Prim.Native.Nat.{ℕ, zero, suc, _+_}
+use Prim.Native.Nat.{ℕ, zero, suc, _+_, _/_, _%_}
 use mathlib.Core.List.{List, [], _∷_, _++_}
 use mathlib.Core.Bool.{Bool, true, _&&_}
 use lib.Dec.{T, eqb}
@@ -22,18 +22,27 @@ use Rattle.sheet_forms.specs.Ends.{endKind, endName, endNumber, endOf}
 use Rattle.sheet_forms.specs.Records.{axisLine, areaLine, nameLine, sizesLine, repeatLine, endLine, extraLine, itemLine, placeLine, byKind, recordOf}
 use Rattle.axis_tables.specs.View.{emptyAxis, trackStep, repeatStep, endStep, nameStep, spareStep, itemStep, extraStep, axisStep}
 use Rattle.panel_tables.specs.View.{emptyView, areaStep, placeStep}
-use Rattle.sheet_rules.specs.Lines.{recordStep, recordFault, lineStep}
-use Rattle.sheet_rules.specs.Sheet.{sizeOf as templateSize, counted, entriesOf, endFault, ended, run, sheetOf}
+use Rattle.panel_cells.specs.Steps.{shares, sharingFrom}
+use Rattle.sheet_rules.specs.Lines.{recordStep, recordFault, strictFault, lineFault, sharedAt, lineStep}
+use Rattle.sheet_rules.specs.Sheet.{sizeOf as templateSize, counted, entriesOf, endFault, ended, run, displayOf, overlapFrom, overlapOf, sheetOf}
 
 -- n lines
 pub lines : ℕ → List ℕ → List ℕ
 lines zero l = []
 lines (suc n) l = l ++ lines n l
 
--- `area`, a name of one byte, 1, 2, 1, 2: n areas from that byte on
-pub areas : ℕ → ℕ → List ℕ
-areas zero b = []
-areas (suc n) b = (97 ∷ 114 ∷ 101 ∷ 97 ∷ 9 ∷ b ∷ 9 ∷ 49 ∷ 9 ∷ 50 ∷ 9 ∷ 49 ∷ 9 ∷ 50 ∷ 10 ∷ []) ++ areas n (b + 1)
+-- two digits
+digits : ℕ → List ℕ
+digits n = (48 + n / 10) ∷ (48 + n % 10) ∷ []
+
+-- `area`, a name of one byte, row, row + 1, 1, 2
+area : ℕ → ℕ → List ℕ
+area b row = (97 ∷ 114 ∷ 101 ∷ 97 ∷ 9 ∷ b ∷ 9 ∷ []) ++ (digits row ++ ((9 ∷ []) ++ (digits (row + 1) ++ (9 ∷ 49 ∷ 9 ∷ 50 ∷ 10 ∷ []))))
+
+-- n of them from that byte and that row on
+pub areas : ℕ → ℕ → ℕ → List ℕ
+areas zero b row = []
+areas (suc n) b row = area b row ++ areas n (b + 1) (row + 1)
 
 -- `spare c auto 00000000 auto 00000000`
 abbrev spare : List ℕ
@@ -100,8 +109,10 @@ cases =
     ∷ is (start ++ (lines 32 track ++ end)) 0 0
     ∷ is (start ++ (lines 33 track ++ end)) 8 34
     -- 64 drawn areas
-    ∷ is (areas 64 33) 0 0
-    ∷ is (areas 65 33) 8 65
+    ∷ is (areas 64 33 10) 0 0
+    ∷ is (areas 65 33 10) 8 65
+    -- a 65th that shares a cell with the first
+    ∷ is (areas 64 33 10 ++ area 97 10) 12 65
     -- 256 placements
     ∷ is (lines 256 place) 0 0
     ∷ is (lines 257 place) 8 257
@@ -111,13 +122,13 @@ cases =
     ∷ []
 
 pub reached : T (every cases)
-unfolding every right cases lines areas
+unfolding every right cases lines digits area areas
     split onto same index digitsOf naturalOf nonNegative negative wholeOf countIn indexIn bitsFrom bitsOf
     upTo minimumKind largestOf valueInRange lengthInRange floatUpTo sizingOfKind sizingOf rankOf firstOf axisOf ruleOf countOf repetitionOf codes nameFault
     kindOf sizeOf innerOf endKind endName endNumber endOf axisLine areaLine nameLine sizesLine repeatLine endLine extraLine itemLine placeLine byKind recordOf
     emptyAxis trackStep repeatStep endStep nameStep spareStep itemStep extraStep axisStep emptyView areaStep placeStep
     templateSizeOf outsideCount automaticCount beforeCount automaticTracks anyEmpty allFixed everyFixed outsideSpace repetitionSpace fittingOf heldOf repetitionsOf floorOf ceilingOf
-    repeated passed ruleFrom recordStep recordFault lineStep templateSize counted entriesOf endFault ended run sheetOf ofBits add sub mul div lt ofInt
+    repeated passed ruleFrom recordStep recordFault lineStep shares sharingFrom strictFault lineFault sharedAt templateSize counted entriesOf endFault ended run displayOf overlapFrom overlapOf sheetOf ofBits add sub mul div lt ofInt
 reached = tt
 
 -- 32,768 bytes are a sheet, one more is not
@@ -134,5 +145,5 @@ unfolding every right bytes lines
     kindOf sizeOf innerOf endKind endName endNumber endOf axisLine areaLine nameLine sizesLine repeatLine endLine extraLine itemLine placeLine byKind recordOf
     emptyAxis trackStep repeatStep endStep nameStep spareStep itemStep extraStep axisStep emptyView areaStep placeStep
     templateSizeOf outsideCount automaticCount beforeCount automaticTracks anyEmpty allFixed everyFixed outsideSpace repetitionSpace fittingOf heldOf repetitionsOf floorOf ceilingOf
-    repeated passed ruleFrom recordStep recordFault lineStep templateSize counted entriesOf endFault ended run sheetOf ofBits add sub mul div lt ofInt
+    repeated passed ruleFrom recordStep recordFault lineStep shares sharingFrom strictFault lineFault sharedAt templateSize counted entriesOf endFault ended run displayOf overlapFrom overlapOf sheetOf ofBits add sub mul div lt ofInt
 bytes-reached = tt

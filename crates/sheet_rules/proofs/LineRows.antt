@@ -1,4 +1,4 @@
--- Twice, late, misnested and crowded at a line that is a record: the fault of each is 0 exactly where its row does not hold. Assumes nothing.
+-- Twice, late, overlap, misnested and crowded at a line that is a record: the fault of each is 0 exactly where its row does not hold. Assumes nothing.
 use Prim.Native.Nat.{ℕ, zero, suc, _+_, _≤_, _<_, zero-le}
 use mathlib.Core.Path.{_≡_, refl, sym, ap, _∙_, subst}
 use mathlib.Core.List.{List, [], _∷_}
@@ -28,8 +28,13 @@ use Rattle.axis_tables.specs.View.{Unended, none, inside, AxisView, AxisOutcome
 use Rattle.panel_tables.specs.declared.AreaEdges.{AreaEdges}
 use Rattle.panel_tables.specs.View.{Area, PanelView, PanelOutcome, hasArea, refused, accepted, edgeOutside, edgesOutside, numberOutside, endOutside, areaStep, placeStep}
 use Rattle.panel_tables.specs.Axes.{viewIn}
-use Rattle.sheet_rules.specs.Lines.{edgesOf, placedEnd, recordStep, twiceFault, stageOf, lateFault}
-use Rattle.sheet_rules.specs.Rows.{OnAxis, OfAxis, Opened, Open, Seen, Drawn, MisnestedBy, TwiceBy, orderOf, LateBy, FullFor, NoRoomFor, CrowdedBy, AtKind, Row, unread, twice, late, crowded, numberOf, First}
+use Rattle.panel_cells.specs.Cells.{SharedBy}
+use Rattle.panel_cells.specs.Steps.{firstSharing}
+use Rattle.panel_cells.proofs.Pairs.{sharing-none, sharing-some}
+use Rattle.sheet_rules.specs.Contents.{areaIn}
+use Rattle.sheet_rules.specs.Lines.{edgesOf, placedEnd, recordStep, twiceFault, stageOf, lateFault, overlapFault}
+use Rattle.sheet_rules.specs.Rows.{OnAxis, OfAxis, Opened, Open, Seen, Drawn, MisnestedBy, TwiceBy, orderOf, LateBy, FullFor, NoRoomFor, CrowdedBy, OverlapBy, AtKind, Row, unread, twice, late, crowded, overlap, numberOf, First}
+use Rattle.sheet_rules.proofs.LineFields.{Reads}
 use Rattle.sheet_rules.proofs.Says.{Says, one-axis}
 use Rattle.sheet_rules.proofs.Only.{Only, only-no, only-yes, only-if, some-number}
 
@@ -139,6 +144,34 @@ module _ (v : PanelView) (fs : List (List ℕ)) where
   late-first (Extra a n p) i (o, x) = late-by extra o
   late-first (Item a j) i (o, x) = late-by item o
   late-first (Place a s e) i (o, x) = late-by place o
+
+  -- overlap
+  abbrev pub OverlapRow : Row → Type 0
+  OverlapRow = Only overlap (AtKind OverlapBy v fs)
+
+  no-overlap : (k : Kind) → Of fs k → (OverlapBy k v fs → ⊥) → First OverlapRow 0
+  no-overlap k o h = only-no overlap refl (λ x. h (at-kind OverlapBy k o x))
+
+  pub overlap-first : (r : Record) → IsRecord r → Says fs r → Reads fs r → First OverlapRow (overlapFault v r)
+  overlap-first (Fault n) i s h = absurd i
+  overlap-first (AxisLine a) i (o, x) h = no-overlap axis o (λ y. y)
+  overlap-first (AreaLine a) i o h = go (eqb (firstSharing (edgesOf a) (v .areas)) 0) refl
+    where
+      go : (t : Bool) → eqb (firstSharing (edgesOf a) (v .areas)) 0 ≡ t → First OverlapRow (cond t 0 12)
+      go true e =
+          no-overlap area o
+          (λ y. sharing-none (edgesOf a) (v .areas) (eqb-true (firstSharing (edgesOf a) (v .areas)) 0 e) (subst (SharedBy (v .areas)) (sym h) y))
+      go false e =
+          only-yes overlap refl
+          (area, o, subst (SharedBy (v .areas)) h (sharing-some (edgesOf a) (v .areas) (eqb-false (firstSharing (edgesOf a) (v .areas)) 0 e)))
+  overlap-first (Name a) i (o, x) h = no-overlap name o (λ y. y)
+  overlap-first (Track a min max) i (o, x) h = no-overlap track o (λ y. y)
+  overlap-first (Repeat a n) i (o, x) h = no-overlap repeat o (λ y. y)
+  overlap-first (End a) i (o, x) h = no-overlap end o (λ y. y)
+  overlap-first (Spare a min max) i (o, x) h = no-overlap spare o (λ y. y)
+  overlap-first (Extra a n p) i (o, x) h = no-overlap extra o (λ y. y)
+  overlap-first (Item a j) i (o, x) h = no-overlap item o (λ y. y)
+  overlap-first (Place a s e) i (o, x) h = no-overlap place o (λ y. y)
 
   -- misnested and crowded
   abbrev pub NestRow : Row → Type 0

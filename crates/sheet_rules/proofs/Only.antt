@@ -1,4 +1,4 @@
--- Rows that hold alone, and the rows of one line by itself among the eight. Assumes nothing.
+-- Rows that hold alone, and the rows of one line by itself among all of them. Assumes nothing.
 use Prim.Native.Nat.{ℕ, _<_}
 use mathlib.Core.Path.{_≡_, refl, sym, ap, _∙_, subst}
 use mathlib.Core.List.{List}
@@ -8,7 +8,7 @@ use Rattle.sheet_forms.specs.Faults.{rankOf, FirstBy, noRow, firstRow}
 use Rattle.sheet_forms.specs.Records.{recordOf, faultOf}
 use Rattle.sheet_forms.specs.Rows.{Row as LineRow, unread as unread', badName as badName', badValue as badValue', badCount as badCount', badArea as badArea', numberOf as lineNumber, Holds as LineHolds, UnreadLine, BadName, BadValue, BadCount, BadArea}
 use Rattle.sheet_forms.proofs.Theorem.{record-first}
-use Rattle.sheet_rules.specs.Rows.{Row, unread, badName, badValue, badCount, badArea, twice, late, crowded, numberOf, First}
+use Rattle.sheet_rules.specs.Rows.{Row, unread, badName, badValue, badCount, badArea, twice, late, crowded, overlap, numberOf, First}
 
 pub some-number : (r : Row) → numberOf r ≡ 0 → ⊥
 some-number unread z = omega arith
@@ -19,6 +19,7 @@ some-number badArea z = omega arith
 some-number twice z = omega arith
 some-number late z = omega arith
 some-number crowded z = omega arith
+some-number overlap z = omega arith
 
 -- ---- one row
 
@@ -51,6 +52,7 @@ OwnRows fs badArea = BadArea fs
 OwnRows fs twice = ⊥
 OwnRows fs late = ⊥
 OwnRows fs crowded = ⊥
+OwnRows fs overlap = ⊥
 
 abbrev pub rowOf : LineRow → Row
 rowOf unread' = unread
@@ -83,6 +85,7 @@ no-own fs W h badArea w x = h badArea' w x
 no-own fs W h twice w x = x
 no-own fs W h late w x = x
 no-own fs W h crowded w x = x
+no-own fs W h overlap w x = x
 
 own-lift : (fs : List (List ℕ)) {n : ℕ} → FirstBy lineNumber (LineHolds fs) n → First (OwnRows fs) n
 own-lift fs (noRow e h) = noRow e (λ q. no-own fs (λ (i : ℕ). Unit {0}) (λ r u. h r) q tt)

@@ -12,14 +12,15 @@ use lib.ListN.{length}
 use borrow.Author.Tests.{ne-eqb, eqb-true, eqb-false, ltb-true, ltb-false}
 use Rattle.text.specs.Split.{split}
 use Rattle.sheet_forms.specs.Faults.{rankOf, firstOf, FirstBy, noRow, firstRow}
+use Rattle.sheet_forms.proofs.Order.{rank-same}
 use Rattle.sheet_forms.proofs.Firsts.{firsts-by, first-same}
 use Rattle.axis_tables.specs.View.{Unended, none, inside, AxisView}
 use Rattle.panel_tables.specs.View.{PanelView, emptyView}
-use Rattle.sheet_rules.specs.Lines.{lineStep}
-use Rattle.sheet_rules.specs.Sheet.{explicitOf, entriesOf, openFault, countFault, entriesFault, axisFault, endFault, Outcome, outcome, ended, run, sheetOf}
-use Rattle.sheet_rules.specs.Rows.{Opened, Open, Row, unread, badName, badValue, badCount, badArea, twice, late, crowded, numberOf, Holds, HoldsAfter, HoldsLast, HoldsFrom, HoldsAt, First, FirstAt, Nowhere}
+use Rattle.sheet_rules.specs.Lines.{lineFault, sharedAt, lineStep}
+use Rattle.sheet_rules.specs.Sheet.{explicitOf, entriesOf, openFault, countFault, entriesFault, axisFault, endFault, Outcome, outcome, ended, run, displayOf, noOverlap, overlapAt, overlapFrom, overlapOf, chosen, sheetOf}
+use Rattle.sheet_rules.specs.Rows.{Opened, Open, Row, unread, badName, badValue, badCount, badArea, twice, late, crowded, overlap, numberOf, Holds, HoldsAfter, HoldsLast, HoldsFrom, HoldsAt, First, FirstAt, Nowhere}
 use Rattle.sheet_rules.proofs.Only.{Only, only-no, only-yes, only-if, some-number}
-use Rattle.sheet_rules.proofs.LineTheorem.{line-first}
+use Rattle.sheet_rules.proofs.LineTheorem.{line-first, line-former, line-overlap}
 
 -- ---- the line after the last
 
@@ -59,6 +60,7 @@ module _ (v : PanelView) where
   after-not late h x = x
   after-not crowded h (inl x) = h (inl (inr (inr (refl, x))))
   after-not crowded h (inr x) = h (inr (inr (inr (refl, x))))
+  after-not overlap h x = x
 
   pub after-first : First (HoldsAfter v) (endFault v)
   unfolding endFault
@@ -117,27 +119,41 @@ unended-found (b ∷ l) from v = rw (ne-eqb (suc (length l)) 0 (λ e. omega arit
     lower : (q : Row) → rankOf (numberOf q) < rankOf 1 → q ≡ unread → ⊥
     lower q m e = omega (arith, m, ap (λ (x : Row). rankOf (numberOf x)) e)
 
-run-found : (ls : List (List ℕ)) (from : ℕ) (v : PanelView) → Found (λ k. HoldsFrom k ls v) from (run from ls v .fault) (run from ls v .line)
-unfolding run
+-- what the lines are judged by: an overlap among them, or the outcome where that is no fault
+abbrev judged : ℕ → List (List ℕ) → PanelView → Outcome
+judged from ls v = chosen (overlapFrom from ls v) (run from ls v)
+
+run-found : (ls : List (List ℕ)) (from : ℕ) (v : PanelView) → Found (λ k. HoldsFrom k ls v) from (judged from ls v .fault) (judged from ls v .line)
+unfolding run overlapFrom
 run-found [] from v = ended-found (λ k. HoldsFrom k [] v) from v (λ r x. x) (λ r x. x) (λ k r x. x)
 run-found (l ∷ []) from v = unended-found l from v
-run-found (l ∷ m ∷ ls) from v = go (λ w. run-found (m ∷ ls) (from + 1) w) (eqb (lineStep v (split 9 l) .fault) 0) refl
+run-found (l ∷ m ∷ ls) from v = go (λ w. run-found (m ∷ ls) (from + 1) w) (eqb (sharedAt v (split 9 l)) 0) (eqb (lineStep v (split 9 l) .fault) 0) refl refl
   where
-    go : ((w : PanelView) → Found (λ k. HoldsFrom k (m ∷ ls) w) (from + 1) (run (from + 1) (m ∷ ls) w .fault) (run (from + 1) (m ∷ ls) w .line))
-        → (t : Bool) → eqb (lineStep v (split 9 l) .fault) 0 ≡ t
-        → let o = cond t (run (from + 1) (m ∷ ls) (lineStep v (split 9 l) .panel)) (outcome (lineStep v (split 9 l) .fault) from v) in
+    fs : List (List ℕ)
+    fs = split 9 l
+
+    go : ((w : PanelView) → Found (λ k. HoldsFrom k (m ∷ ls) w) (from + 1) (judged (from + 1) (m ∷ ls) w .fault) (judged (from + 1) (m ∷ ls) w .line))
+        → (u t : Bool) → eqb (sharedAt v fs) 0 ≡ u → eqb (lineStep v fs .fault) 0 ≡ t
+        → let o = chosen (cond u (cond t (overlapFrom (from + 1) (m ∷ ls) (lineStep v fs .panel)) noOverlap) (overlapAt (sharedAt v fs) (length (v .areas)) from))
+        (cond t (run (from + 1) (m ∷ ls) (lineStep v fs .panel)) (outcome (lineStep v fs .fault) from v)) in
         Found (λ k. HoldsFrom k (l ∷ m ∷ ls) v) from (o .fault) (o .line)
-    go rest true e = later from (none-holds (eqb-true (lineStep v (split 9 l) .fault) 0 e) (line-first v (split 9 l))) (rest (lineStep v (split 9 l) .panel))
-    go rest false e = stopped from (line-first v (split 9 l)) (eqb-false (lineStep v (split 9 l) .fault) 0 e)
+    go rest false t d e =
+        rw (ne-eqb (length (v .areas) + 1) 0 (λ z. omega arith))
+        (stopped from (subst (First (Holds v fs)) (line-overlap v fs (eqb-false (sharedAt v fs) 0 d)) (line-first v fs)) (λ z. omega arith))
+    go rest true true d e =
+        later from (none-holds (line-former v fs (eqb-true (sharedAt v fs) 0 d) ∙ eqb-true (lineStep v fs .fault) 0 e) (line-first v fs)) (rest (lineStep v fs .panel))
+    go rest true false d e =
+        stopped from (subst (First (Holds v fs)) (line-former v fs (eqb-true (sharedAt v fs) 0 d)) (line-first v fs)) (eqb-false (lineStep v fs .fault) 0 e)
 
 -- ---- the sheet
 
 pub sheet-found : (s : List ℕ) → Found (HoldsAt s) 0 (sheetOf s .fault) (sheetOf s .line)
-unfolding sheetOf
+unfolding sheetOf displayOf overlapOf
 sheet-found s = go (ltb 32768 (length s)) refl
   where
     go : (t : Bool) → ltb 32768 (length s) ≡ t
-        → let o = cond t (outcome 1 0 emptyView) (run 1 (split 10 s) emptyView) in Found (HoldsAt s) 0 (o .fault) (o .line)
+        → let o = chosen (cond t noOverlap (overlapFrom 1 (split 10 s) emptyView)) (cond t (outcome 1 0 emptyView) (run 1 (split 10 s) emptyView)) in
+        Found (HoldsAt s) 0 (o .fault) (o .line)
     go true e =
         stopped 0 (firstRow unread refl (refl, ltb-true 32768 (length s) e) (λ q m (z, y). lower q m z)) (λ z. omega arith)
       where
@@ -168,7 +184,8 @@ rowAt (suc (suc (suc (suc zero)))) = badCount
 rowAt (suc (suc (suc (suc (suc zero))))) = badArea
 rowAt (suc (suc (suc (suc (suc (suc zero)))))) = twice
 rowAt (suc (suc (suc (suc (suc (suc (suc zero))))))) = late
-rowAt (suc (suc (suc (suc (suc (suc (suc (suc n)))))))) = crowded
+rowAt (suc (suc (suc (suc (suc (suc (suc (suc zero)))))))) = crowded
+rowAt (suc (suc (suc (suc (suc (suc (suc (suc (suc n))))))))) = overlap
 
 row-back : (r : Row) → rowAt (numberOf r) ≡ r
 unfolding rowAt
@@ -180,6 +197,7 @@ row-back badArea = refl
 row-back twice = refl
 row-back late = refl
 row-back crowded = refl
+row-back overlap = refl
 
 same-row : (p q : Row) → numberOf p ≡ numberOf q → p ≡ q
 same-row p q e = sym (row-back p) ∙ ap rowAt e ∙ row-back q
@@ -194,7 +212,6 @@ trichotomy a b = go (ltb a b) (ltb b a) refl refl
 
 -- a sheet is refused by a row at a line exactly if that row holds there, none that comes first there does, and none holds at any line before
 pub refused-exactly : (s : List ℕ) (k : ℕ) (r : Row) → ((sheetOf s .fault ≡ numberOf r) × (sheetOf s .line ≡ k)) ↔ FirstAt (HoldsAt s) k r
-unfolding rankOf
 refused-exactly s k r = (λ (e, f). go e f (sheet-found s), λ h. back h (sheet-found s))
   where
     go : {n line : ℕ} → n ≡ numberOf r → line ≡ k → Found (HoldsAt s) 0 n line → FirstAt (HoldsAt s) k r
@@ -211,10 +228,10 @@ refused-exactly s k r = (λ (e, f). go e f (sheet-found s), λ h. back h (sheet-
         pick (inr (inr l)) = absurd (g .earliest k l r (h .here))
 
     same-number : (q : Row) → FirstAt (HoldsAt s) k r → FirstAt (HoldsAt s) k q → numberOf q ≡ numberOf r
-    same-number q h g = pick (trichotomy (numberOf q) (numberOf r))
+    same-number q h g = pick (trichotomy (rankOf (numberOf q)) (rankOf (numberOf r)))
       where
-        pick : (numberOf q ≡ numberOf r) ⊎ ((numberOf q < numberOf r) ⊎ (numberOf r < numberOf q)) → numberOf q ≡ numberOf r
-        pick (inl e) = e
+        pick : (rankOf (numberOf q) ≡ rankOf (numberOf r)) ⊎ ((rankOf (numberOf q) < rankOf (numberOf r)) ⊎ (rankOf (numberOf r) < rankOf (numberOf q))) → numberOf q ≡ numberOf r
+        pick (inl e) = rank-same (numberOf q) (numberOf r) e
         pick (inr (inl l)) = absurd (h .first q l (g .here))
         pick (inr (inr l)) = absurd (g .first r l (h .here))
 

@@ -16,6 +16,7 @@ use Rattle.axis_tables.specs.View.{trackStep, repeatStep, endStep, nameStep, sp
 use Rattle.panel_tables.specs.declared.AreaEdges.{AreaEdges}
 use Rattle.panel_tables.specs.View.{PanelView, PanelOutcome, End as PlacedEnd, hasArea, refused, accepted, areaStep, placeStep}
 use Rattle.panel_tables.specs.Axes.{viewIn, stepIn}
+use Rattle.panel_cells.specs.Steps.{firstSharing}
 
 -- ---- what the record of a line writes, and the fault of its own: 1 by nesting, 8 by a limit
 
@@ -76,9 +77,27 @@ stageOf v (Place a s e) = 2
 abbrev pub lateFault : PanelView → Record → ℕ
 lateFault v r = cond (ltb (stageOf v r) (v .stage)) 7 0
 
+-- the number of the first area before it that shares a cell with an area, from 1; 0 where none does
+abbrev pub sharedWith : PanelView → Record → ℕ
+sharedWith v (Fault n) = 0
+sharedWith v (AxisLine a) = 0
+sharedWith v (Area a) = firstSharing (edgesOf a) (v .areas)
+sharedWith v (Name a) = 0
+sharedWith v (Track a min max) = 0
+sharedWith v (Repeat a n) = 0
+sharedWith v (End a) = 0
+sharedWith v (Spare a min max) = 0
+sharedWith v (Extra a n p) = 0
+sharedWith v (Item a i) = 0
+sharedWith v (Place a s e) = 0
+
+-- overlap: an area that shares a cell with one before it (document 02, request 03)
+abbrev pub overlapFault : PanelView → Record → ℕ
+overlapFault v r = cond (eqb (sharedWith v r) 0) 0 12
+
 -- ---- the line
 
--- of all its faults the one that comes first
+-- of all its faults but an overlap the one that comes first
 unfoldable pub recordFault : PanelView → List (List ℕ) → Record → ℕ
 recordFault v fs r = firstOf (faultOf r) (firstOf (twiceFault v fs r) (firstOf (lateFault v r) (recordStep v fs r .fault)))
 
@@ -90,6 +109,18 @@ abbrev pub recordOutcome : PanelView → List (List ℕ) → Record → PanelOut
 recordOutcome v fs r =
     cond (eqb (recordFault v fs r) 0) (accepted (atStage (stageOf v r) (recordStep v fs r .panel))) (refused (recordFault v fs r) v)
 
--- a line as its fields
+-- and of all its faults
+unfoldable pub strictFault : PanelView → List (List ℕ) → Record → ℕ
+strictFault v fs r = firstOf (firstOf (faultOf r) (firstOf (twiceFault v fs r) (lateFault v r))) (firstOf (overlapFault v r) (recordStep v fs r .fault))
+
+-- a line as its fields: the first of all its faults
+unfoldable pub lineFault : PanelView → List (List ℕ) → ℕ
+lineFault v fs = strictFault v fs (recordOf fs)
+
+-- the first area that it shares a cell with, where that is its first fault, else 0
+unfoldable pub sharedAt : PanelView → List (List ℕ) → ℕ
+sharedAt v fs = cond (eqb (lineFault v fs) 12) (sharedWith v (recordOf fs)) 0
+
+-- what it does where an overlap is no fault
 unfoldable pub lineStep : PanelView → List (List ℕ) → PanelOutcome
 lineStep v fs = recordOutcome v fs (recordOf fs)

@@ -1,4 +1,4 @@
--- Rows 1 to 8 of document 01's table: at a line, over its fields and the panel that the lines before it describe, and after the last line
+-- Rows 1 to 8 and 12 of the table of refusals (document 01; document 02, request 03): at a line, over its fields and the panel that the lines before it describe, and after the last line
 -- (SHEET.md, Refusals).
 -- They don't name the reader; proofs/Theorem.antt shows that it follows them.
 use Prim.Native.Nat.{ℕ, zero, suc, _+_, _≤_, _<_}
@@ -16,6 +16,8 @@ use Rattle.sheet_forms.specs.Rows.{UnreadLine, BadName, BadValue, BadCount, Bad
 use Rattle.axis_tables.specs.View.{Unended, none, inside, AxisView, tracksIn, componentsOf, axisNames, axisBytes}
 use Rattle.panel_tables.specs.View.{Area, PanelView, emptyView}
 use Rattle.panel_tables.specs.Axes.{viewIn}
+use Rattle.panel_cells.specs.Cells.{SharedBy}
+use Rattle.sheet_rules.specs.Contents.{areaIn}
 use Rattle.sheet_rules.specs.Lines.{lineStep}
 use Rattle.sheet_rules.specs.Sheet.{explicitOf, entriesOf}
 
@@ -112,13 +114,26 @@ CrowdedBy extra v fs = ⊥
 CrowdedBy item v fs = ⊥
 CrowdedBy place v fs = 256 ≤ length (v .placements)
 
+-- document 02, request 03: "two areas with a common cell", at the later one's line
+abbrev pub OverlapBy : Kind → PanelView → List (List ℕ) → Type 0
+OverlapBy axis v fs = ⊥
+OverlapBy area v fs = SharedBy (v .areas) (areaIn fs .edges)
+OverlapBy name v fs = ⊥
+OverlapBy track v fs = ⊥
+OverlapBy repeat v fs = ⊥
+OverlapBy end v fs = ⊥
+OverlapBy spare v fs = ⊥
+OverlapBy extra v fs = ⊥
+OverlapBy item v fs = ⊥
+OverlapBy place v fs = ⊥
+
 abbrev pub AtKind : (Kind → PanelView → List (List ℕ) → Type 0) → PanelView → List (List ℕ) → Type 0
 AtKind P v fs = (k : Kind) × Of fs k × P k v fs
 
 -- ---- the rows of the table
 
 pub data Row : Type 0 where
-  unread badName badValue badCount badArea twice late crowded : Row
+  unread badName badValue badCount badArea twice late crowded overlap : Row
 
 abbrev pub numberOf : Row → ℕ
 numberOf unread = 1
@@ -129,6 +144,7 @@ numberOf badArea = 5
 numberOf twice = 6
 numberOf late = 7
 numberOf crowded = 8
+numberOf overlap = 12
 
 -- at a line
 abbrev pub Holds : PanelView → List (List ℕ) → Row → Type 0
@@ -140,6 +156,7 @@ Holds v fs badArea = BadArea fs
 Holds v fs twice = AtKind TwiceBy v fs
 Holds v fs late = AtKind LateBy v fs
 Holds v fs crowded = AtKind CrowdedBy v fs
+Holds v fs overlap = AtKind OverlapBy v fs
 
 -- of one axis or the other
 abbrev pub Either : PanelView → (AxisView → Type 0) → Type 0
@@ -155,6 +172,7 @@ HoldsAfter v badArea = ⊥
 HoldsAfter v twice = ⊥
 HoldsAfter v late = ⊥
 HoldsAfter v crowded = Either v (λ x. 4096 < length (entriesOf x))
+HoldsAfter v overlap = ⊥
 
 -- n is the number of the row that holds and comes first, 0 where no row holds
 abbrev pub First : (Row → Type 0) → ℕ → Type 0

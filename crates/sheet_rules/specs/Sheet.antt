@@ -19,7 +19,8 @@ use Rattle.text.specs.Split.{split}
 use Rattle.sheet_forms.specs.Faults.{firstOf}
 use Rattle.axis_tables.specs.View.{Piece, name, track, Repeat, Item, single, repeat, Unended, none, inside, AxisLine, AxisView, componentsOf}
 use Rattle.panel_tables.specs.View.{PanelView, PanelOutcome, emptyView}
-use Rattle.sheet_rules.specs.Lines.{lineStep}
+use Rattle.sheet_rules.specs.declared.Overlap.{Overlap}
+use Rattle.sheet_rules.specs.Lines.{sharedAt, lineStep}
 
 -- ---- what an axis comes to
 
@@ -110,7 +111,7 @@ outcome f n v = record { fault = f; line = n; view = v }
 unfoldable pub ended : ℕ → PanelView → Outcome
 ended n v = cond (eqb (endFault v) 0) (outcome 0 0 v) (outcome (endFault v) n v)
 
--- from line n on, until a line is refused; "a last line without a line feed is unread", and nothing stands after the last line feed
+-- from line n on, until a line is refused, overlap being no fault; "a last line without a line feed is unread", and nothing stands after the last line feed
 unfoldable pub run : ℕ → List (List ℕ) → PanelView → Outcome
 run n [] v = ended n v
 run n (l ∷ []) v = cond (eqb (length l) 0) (ended n v) (outcome 1 n v)
@@ -118,6 +119,34 @@ run n (l ∷ m ∷ ls) v =
     let a : PanelOutcome = lineStep v (split 9 l) in
     cond (eqb (a .fault) 0) (run (n + 1) (m ∷ ls) (a .panel)) (outcome (a .fault) n v)
 
--- a sheet of more than 32,768 bytes is unread at line 0
+-- the rule that the display call keeps: an overlap is no fault. A sheet of more than 32,768 bytes is unread at line 0
+unfoldable pub displayOf : List ℕ → Outcome
+displayOf s = cond (ltb 32768 (length s)) (outcome 1 0 emptyView) (run 1 (split 10 s) emptyView)
+
+-- ---- the first overlap (document 02, requests 03 and 09)
+
+abbrev pub noOverlap : Overlap
+noOverlap = record { earlier = 0; later = 0; line = 0 }
+
+-- an area at line n after so many, and the first that it shares a cell with: "numbered from 1", the earlier first
+abbrev pub overlapAt : ℕ → ℕ → ℕ → Overlap
+overlapAt shared areas n = record { earlier = shared; later = areas + 1; line = n }
+
+-- from line n on, as far as lines are accepted
+unfoldable pub overlapFrom : ℕ → List (List ℕ) → PanelView → Overlap
+overlapFrom n [] v = noOverlap
+overlapFrom n (l ∷ []) v = noOverlap
+overlapFrom n (l ∷ m ∷ ls) v =
+    let a : PanelOutcome = lineStep v (split 9 l) in
+    cond (eqb (sharedAt v (split 9 l)) 0) (cond (eqb (a .fault) 0) (overlapFrom (n + 1) (m ∷ ls) (a .panel)) noOverlap)
+    (overlapAt (sharedAt v (split 9 l)) (length (v .areas)) n)
+
+unfoldable pub overlapOf : List ℕ → Overlap
+overlapOf s = cond (ltb 32768 (length s)) noOverlap (overlapFrom 1 (split 10 s) emptyView)
+
+-- where two areas share a cell the sheet is refused by 12, at the later one's line
+abbrev pub chosen : Overlap → Outcome → Outcome
+chosen p o = outcome (cond (eqb (p .later) 0) (o .fault) 12) (cond (eqb (p .later) 0) (o .line) (p .line)) (o .view)
+
 unfoldable pub sheetOf : List ℕ → Outcome
-sheetOf s = cond (ltb 32768 (length s)) (outcome 1 0 emptyView) (run 1 (split 10 s) emptyView)
+sheetOf s = chosen (overlapOf s) (displayOf s)

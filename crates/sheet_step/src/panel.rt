@@ -3,7 +3,6 @@ ghost use mathlib.Core.Path.{_≡_};
 ghost use lib.ListN.{length};
 ghost use Rattle.text.specs.Places.{partAt};
 ghost use Rattle.panel_tables.specs.Written.{panelHeldOf};
-ghost use Rattle.sheet_rules.specs.Lines.{edgesOf};
 ghost use Rattle.sheet_faults.specs.Parts.{axisPart, partOf, namedStep};
 ghost use Rattle.sheet_step.specs.Regions.{onAxis, onAreas, onPlacements};
 use crate::axis::axis_record;
@@ -38,7 +37,7 @@ use panel_tables::state::put;
 use panel_writes::area_record::put_area;
 use panel_writes::place_record::put_placement;
 use sheet_faults::Part;
-use sheet_forms::AreaRecord;
+use sheet_faults::overlap::edges_of;
 use sheet_forms::PlaceEnd;
 use sheet_forms::Record;
 use sheet_lines::LineRecord;
@@ -51,18 +50,6 @@ fn axis_part(axis: Axis) -> Part
     match axis {
         Axis::Column => Part::Columns,
         Axis::Row => Part::Rows,
-    }
-}
-
-// The edges that an `area` record says.
-fn edges_of(area: AreaRecord) -> AreaEdges
-    ensures { λ r. ⌜ r ≡ edgesOf area ⌝ }
-{
-    AreaEdges {
-        rowstart: area.rowstart,
-        rowend: area.rowend,
-        columnstart: area.columnstart,
-        columnend: area.columnend,
     }
 }
 

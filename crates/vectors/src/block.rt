@@ -4,6 +4,7 @@ use crate::calls::call_lines;
 use crate::calls::lent;
 use crate::expected::seen_refusal;
 use crate::input::CUT;
+use crate::input::DISPLAY;
 use crate::input::Head;
 use crate::input::STORES;
 use crate::input::after_line;
@@ -14,16 +15,20 @@ use crate::input::line_at;
 use crate::input::number_of;
 use crate::marks::seen_marks;
 use crate::names::seen_names;
+use panel_tables::Grid;
 use panel_tables::Panel;
 use panel_tables::region::PANEL_BYTES;
 use panel_tables::region::PANEL_WORDS;
+use sheet_rules::DisplayAnswer;
 use sheet_rules::SheetAnswer;
 
-// Where the parts of a block lie: whether the lengths of stores are given, and these; the sheet, the calls and the expected text.
+// Where the parts of a block lie: whether the lengths of stores are given, and these; whether the sheet is only displayed; the sheet, the
+// calls and the expected text.
 pub struct Block {
     pub given: bool,
     pub columnbytes: u32,
     pub rowbytes: u32,
+    pub display: bool,
     pub sheet: usize,
     pub sheetend: usize,
     pub calls: usize,
@@ -52,6 +57,11 @@ fn sheet_head(input: &[u8], stores: Head, first: usize) -> Head {
     head_at(input, first)
 }
 
+// The expected text of a block.
+fn expected_of(input: &[u8], block: Block) -> &[u8] {
+    between(input, block.text, block.end)
+}
+
 // The parts of the block whose `case` line starts at a place.
 pub fn block_at(input: &[u8], at: usize) -> Block {
     let first = after_line(input, at);
@@ -66,6 +76,7 @@ pub fn block_at(input: &[u8], at: usize) -> Block {
         given,
         columnbytes: number_of(text::part(lengths, 32, 1)),
         rowbytes: number_of(text::part(lengths, 32, 2)),
+        display: sheethead.word == DISPLAY,
         sheet: sheethead.next,
         sheetend,
         calls: calls.next,
@@ -96,7 +107,54 @@ fn read_block(
     )
 }
 
-// The entry calls and all answers of an accepted sheet: the place up to which the expected text is seen.
+// The display call of a block, in the same way.
+fn display_block(
+    sheet: &[u8],
+    block: Block,
+    words: &mut [u64; PANEL_WORDS],
+    bytes: &mut [u8; PANEL_BYTES],
+    columnstore: &mut [u8],
+    rowstore: &mut [u8],
+) -> DisplayAnswer {
+    let columnlength = lent(columnstore, block.given, block.columnbytes);
+    let rowlength = lent(rowstore, block.given, block.rowbytes);
+    sheet::display_sheet(
+        sheet,
+        words,
+        bytes,
+        &mut columnstore[..columnlength],
+        &mut rowstore[..rowlength],
+    )
+}
+
+// The answers of what was read or displayed: the place up to which the expected text is seen.
+fn seen_grid<'a>(
+    input: &[u8],
+    block: Block,
+    seen: usize,
+    grid: Grid,
+    words: &[u64; PANEL_WORDS],
+    bytes: &[u8; PANEL_BYTES],
+    columnstore: &'a [u8],
+    rowstore: &'a [u8],
+) -> usize {
+    let expected = expected_of(input, block);
+    let cut = block.cut;
+    let last = seen_answer(
+        expected,
+        seen,
+        cut,
+        grid,
+        words,
+        bytes,
+        columnstore,
+        rowstore,
+    );
+    let named = seen_names(expected, last, cut, grid, words, columnstore, rowstore);
+    seen_marks(expected, named, grid, words, bytes, columnstore, rowstore)
+}
+
+// The entry calls and all answers of an accepted sheet.
 fn seen_accepted(
     input: &[u8],
     expected: &[u8],
@@ -110,49 +168,33 @@ fn seen_accepted(
     let called = call_lines(input, block, expected, panel, words, columnstore, rowstore);
     let after = called.panel;
     let grid = after.grid;
-    let seen = seen_answer(
-        expected,
+    seen_grid(
+        input,
+        block,
         called.seen,
-        block.cut,
         grid,
         words,
         bytes,
         columnstore,
         rowstore,
-    );
-    let named = seen_names(
-        expected,
-        seen,
-        block.cut,
-        grid,
-        words,
-        columnstore,
-        rowstore,
-    );
-    seen_marks(expected, named, grid, words, bytes, columnstore, rowstore)
+    )
 }
 
-// Whether the answers of a block are the expected ones.
-pub fn is_same(
+// The sheet call and all answers of a block.
+fn seen_sheet(
     input: &[u8],
     block: Block,
     words: &mut [u64; PANEL_WORDS],
     bytes: &mut [u8; PANEL_BYTES],
     columnstore: &mut [u8],
     rowstore: &mut [u8],
-) -> bool {
-    let expected = between(input, block.text, block.end);
-    let answer = read_block(
-        between(input, block.sheet, block.sheetend),
-        block,
-        words,
-        bytes,
-        columnstore,
-        rowstore,
-    );
+) -> usize {
+    let expected = expected_of(input, block);
+    let sheet = between(input, block.sheet, block.sheetend);
+    let answer = read_block(sheet, block, words, bytes, columnstore, rowstore);
     let refusal = answer.refusal;
     if refusal.number != 0 {
-        return seen_refusal(expected, 0, refusal) == expected.len();
+        return seen_refusal(expected, 0, refusal);
     }
     let panel = answer.panel;
     seen_accepted(
@@ -165,5 +207,40 @@ pub fn is_same(
         columnstore,
         rowstore,
     )
-        == expected.len()
+}
+
+// The display call and all answers of a block.
+fn seen_display(
+    input: &[u8],
+    block: Block,
+    words: &mut [u64; PANEL_WORDS],
+    bytes: &mut [u8; PANEL_BYTES],
+    columnstore: &mut [u8],
+    rowstore: &mut [u8],
+) -> usize {
+    let expected = expected_of(input, block);
+    let sheet = between(input, block.sheet, block.sheetend);
+    let answer = display_block(sheet, block, words, bytes, columnstore, rowstore);
+    let refusal = answer.refusal;
+    if refusal.number != 0 {
+        return seen_refusal(expected, 0, refusal);
+    }
+    let grid = answer.grid;
+    seen_grid(input, block, 0, grid, words, bytes, columnstore, rowstore)
+}
+
+// Whether the answers of a block are the expected ones.
+pub fn is_same(
+    input: &[u8],
+    block: Block,
+    words: &mut [u64; PANEL_WORDS],
+    bytes: &mut [u8; PANEL_BYTES],
+    columnstore: &mut [u8],
+    rowstore: &mut [u8],
+) -> bool {
+    let length = expected_of(input, block).len();
+    if block.display {
+        return seen_display(input, block, words, bytes, columnstore, rowstore) == length;
+    }
+    seen_sheet(input, block, words, bytes, columnstore, rowstore) == length
 }

@@ -10,6 +10,8 @@ pub const CUT: usize = 5;
 
 pub const LINES: usize = 6;
 
+pub const DISPLAY: usize = 7;
+
 // A line that starts with a word and a number: both, and where the next line starts.
 pub struct Head {
     pub word: usize,
@@ -68,7 +70,7 @@ pub fn line_at(input: &[u8], at: usize) -> &[u8] {
 pub fn head_at(input: &[u8], at: usize) -> Head {
     let line = line_at(input, at);
     let word = text::find_part(
-        b"case\nstores\nsheet\nenter\nexpect\ncut\nlines",
+        b"case\nstores\nsheet\nenter\nexpect\ncut\nlines\ndisplay",
         10,
         text::part(line, 32, 0),
     );

@@ -1,6 +1,6 @@
-// Replays recorded lists from standard input. A block is a sheet, entry calls and the expected answers; a row is the conversion
-// of a grid line and back. Prints the first lines of those that differ, how many there are, and how many differ. Some are wrong on
-// purpose, and say so.
+// Replays recorded lists from standard input. A block is a sheet, read or only displayed, entry calls and the expected answers; a row
+// is the conversion of a grid line and back. Prints the first lines of those that differ, how many there are, and how many differ. Some
+// are wrong on purpose, and say so.
 mod answers;
 mod block;
 mod buffer;

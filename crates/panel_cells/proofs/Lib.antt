@@ -1,0 +1,3 @@
+-- Laws of cells that areas share.
+pub mod Search
+pub mod Pairs
