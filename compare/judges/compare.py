@@ -98,19 +98,21 @@ def drawn_up_to(sheet, line):
 
 
 def css_overlap(sheet, refused):
-    """The pairs that a refusal by 12 may carry against CSS's cells; the areas before its line share none."""
+    """The pair of a refusal by 12 against CSS's cells; the areas before its line share none."""
     drawn = drawn_up_to(sheet, refused.line)
-    pairs = css.sharing_pairs(drawn)
-    if pairs and set(refused.pairs) == pairs and all(later == len(drawn) for _, later in pairs):
+    first = css.first_pair(drawn)
+    if first == refused.pair and first[1] == len(drawn):
         return None
-    return f"CSS: cells in common of {sorted(pairs)}, model {refused.pairs}"
+    return f"CSS: cells in common of {first}, model {refused.pair}"
 
 
-def css_apart(panel):
-    """No two areas of a panel share a cell; those of one that is only displayed may."""
-    drawn = [(area.row_start, area.row_end, area.column_start, area.column_end) for area in panel.areas.values()]
-    pairs = set() if panel.display else css.sharing_pairs(drawn)
-    return f"CSS: cells in common of {sorted(pairs)}, accepted" if pairs else None
+def css_pair(state):
+    """No two areas of a panel share a cell; of those of one that is only displayed, the pair is the first that do."""
+    drawn = [(area.row_start, area.row_end, area.column_start, area.column_end) for area in state.panel.areas.values()]
+    first = css.first_pair(drawn)
+    if first == state.pair and (state.panel.display or first == reader.NO_PAIR):
+        return None
+    return f"CSS: cells in common of {first}, accepted with {state.pair}"
 
 
 def compare_overlap(refused, rust, sheet):
@@ -234,7 +236,7 @@ def css_differences(state):
     differences += [None if css.gutters_fall_into_one(state.records[letter]) else f"CSS: gutters of {letter}"
                     for letter in model.LETTERS]
     differences += [css_sources(state, letter, state.records[letter]) for letter in model.LETTERS]
-    differences.append(css_apart(state.panel))
+    differences.append(css_pair(state))
     demand = demand_lines(state)
     if demand is None:
         return differences, False
@@ -260,8 +262,7 @@ def compare(sheet, calls, rust, judged=(), expected=None):
         if found != expected:
             result.differences.append(f"damage: model {found}, made for {expected}")
     for one in judged:
-        lines = one.ask(sheet, calls)
-        difference = first_difference(one.name, one.expected(sheet, answer, lines), lines)
+        difference = first_difference(one.name, one.expected(sheet, answer), one.ask(sheet, calls))
         result.differences += [difference] if difference else []
     return result
 

@@ -151,17 +151,18 @@ def template_tracks(axis, repetitions):
     return tracks
 
 
-def sharing_pairs(areas):
-    """CSS 7.3: a cell bears at most one name. The pairs (earlier, later) of areas that have a cell in common, numbered from 1; an area
-    is its row start, row end, column start and column end.
+def first_pair(areas):
+    """CSS 7.3: a cell bears at most one name. The first two areas (earlier, later) that have a cell in common, numbered from 1, by the
+    later one and then by the earlier; zeros where none do. An area is its row start, row end, column start and column end.
 
     Of the cells that two areas share, the first lies where the rows of one and the columns of one start: only such cells are looked at."""
     pairs = set()
     for row in {area[0] for area in areas}:
         for column in {area[2] for area in areas}:
             holders = [number for number, area in enumerate(areas, start=1) if row in range(*area[:2]) and column in range(*area[2:])]
-            pairs |= {(one, other) for one in holders for other in holders if one < other}
-    return pairs
+            pairs |= {(other, one) for one in holders for other in holders if one < other}
+    later, earlier = min(pairs, default=(0, 0))
+    return earlier, later
 
 
 def area_tracks(panel, letter):

@@ -156,36 +156,36 @@ def drawn(*edges):
 
 
 def shared_sheets():
-    """Areas that touch or share a cell: (name, lines, refusal or None, the pairs (earlier, later) that it may carry)."""
-    yield "side by side", drawn("1 2 1 2", "1 2 2 3"), None, []
-    yield "one below the other", drawn("2 3 1 2", "1 2 1 2"), None, []
-    yield "touching at a corner", drawn("1 2 1 2", "2 3 2 3"), None, []
-    yield "only a row in common", drawn("1 3 1 2", "2 4 2 3"), None, []
-    yield "only a column in common", drawn("1 2 1 3", "2 3 2 4"), None, []
-    yield "touching on all sides", drawn("1 2 1 3", "1 3 3 4", "3 4 2 4", "2 4 1 2"), None, []
-    yield "one cell in common", drawn("1 3 1 3", "2 4 2 4"), (12, 2), [(1, 2)]
-    yield "one cell in common, the other way", drawn("2 4 1 3", "1 3 2 4"), (12, 2), [(1, 2)]
-    yield "equal", drawn("1 2 1 2", "1 2 1 2"), (12, 2), [(1, 2)]
-    yield "one inside another", drawn("1 5 1 5", "2 3 2 3"), (12, 2), [(1, 2)]
-    yield "one around another", drawn("2 3 2 3", "1 5 1 5"), (12, 2), [(1, 2)]
-    yield "a cross", drawn("2 3 1 4", "1 4 2 3"), (12, 2), [(1, 2)]
-    yield "the furthest cell", drawn("10000 10001 1 10001", "1 10001 10000 10001"), (12, 2), [(1, 2)]
-    yield "the first of two", drawn("1 2 1 3", "2 3 1 2", "1 2 2 4"), (12, 3), [(1, 3)]
-    yield "the second of two", drawn("2 3 1 2", "1 2 1 3", "1 2 2 4"), (12, 3), [(2, 3)]
-    yield "both of two", drawn("1 2 1 2", "1 2 2 3", "1 2 1 3"), (12, 3), [(1, 3), (2, 3)]
+    """Areas that touch or share a cell: (name, lines, refusal or None, its pair (earlier, later))."""
+    yield "side by side", drawn("1 2 1 2", "1 2 2 3"), None, (0, 0)
+    yield "one below the other", drawn("2 3 1 2", "1 2 1 2"), None, (0, 0)
+    yield "touching at a corner", drawn("1 2 1 2", "2 3 2 3"), None, (0, 0)
+    yield "only a row in common", drawn("1 3 1 2", "2 4 2 3"), None, (0, 0)
+    yield "only a column in common", drawn("1 2 1 3", "2 3 2 4"), None, (0, 0)
+    yield "touching on all sides", drawn("1 2 1 3", "1 3 3 4", "3 4 2 4", "2 4 1 2"), None, (0, 0)
+    yield "one cell in common", drawn("1 3 1 3", "2 4 2 4"), (12, 2), (1, 2)
+    yield "one cell in common, the other way", drawn("2 4 1 3", "1 3 2 4"), (12, 2), (1, 2)
+    yield "equal", drawn("1 2 1 2", "1 2 1 2"), (12, 2), (1, 2)
+    yield "one inside another", drawn("1 5 1 5", "2 3 2 3"), (12, 2), (1, 2)
+    yield "one around another", drawn("2 3 2 3", "1 5 1 5"), (12, 2), (1, 2)
+    yield "a cross", drawn("2 3 1 4", "1 4 2 3"), (12, 2), (1, 2)
+    yield "the furthest cell", drawn("10000 10001 1 10001", "1 10001 10000 10001"), (12, 2), (1, 2)
+    yield "the first of two", drawn("1 2 1 3", "2 3 1 2", "1 2 2 4"), (12, 3), (1, 3)
+    yield "the second of two", drawn("2 3 1 2", "1 2 1 3", "1 2 2 4"), (12, 3), (2, 3)
+    yield "both of two", drawn("1 2 1 2", "1 2 2 3", "1 2 1 3"), (12, 3), (1, 3)
     # Area 3 shares a cell with area 2, and area 4, which comes after it, with area 1.
-    yield "several pairs", drawn("1 2 1 2", "2 3 1 2", "2 4 1 2", "1 2 1 3"), (12, 3), [(2, 3)]
-    yield "after an axis line", [axis_line("42c80000")] + drawn("1 2 1 2", "1 2 1 2"), (12, 3), [(1, 2)]
-    yield "5 beside it", drawn("1 5 1 5", "3 3 2 4"), (5, 2), []
-    yield "6 beside it", drawn("1 2 1 2") + drawn("1 2 1 2"), (6, 2), []
-    yield "7 beside it", drawn("1 2 1 2") + ["item\tc\t0", "area\tb\t1\t2\t1\t2"], (7, 3), []
-    yield "8 beside it", COLUMN_OF_AREAS + ["area\tx\t64\t66\t1\t2"], (12, 65), [(64, 65)]
-    yield "8 beside 6", COLUMN_OF_AREAS + ["area\t0\t1\t2\t1\t2"], (6, 65), []
-    yield "a fault on the line before", drawn("1 2 1 2") + ["", "area\tb\t1\t2\t1\t2"], (1, 2), []
-    yield "a fault on the line after", drawn("1 2 1 2", "1 2 1 2") + [""], (12, 2), [(1, 2)]
-    yield "too many tracks after it", drawn("1 2 1 2", "1 2 1 2") + ["repeat\tr\t10001", f"track\tr\t{TRACK}", "end\tr"], (12, 2), [(1, 2)]
+    yield "several pairs", drawn("1 2 1 2", "2 3 1 2", "2 4 1 2", "1 2 1 3"), (12, 3), (2, 3)
+    yield "after an axis line", [axis_line("42c80000")] + drawn("1 2 1 2", "1 2 1 2"), (12, 3), (1, 2)
+    yield "5 beside it", drawn("1 5 1 5", "3 3 2 4"), (5, 2), (0, 0)
+    yield "6 beside it", drawn("1 2 1 2") + drawn("1 2 1 2"), (6, 2), (0, 0)
+    yield "7 beside it", drawn("1 2 1 2") + ["item\tc\t0", "area\tb\t1\t2\t1\t2"], (7, 3), (0, 0)
+    yield "8 beside it", COLUMN_OF_AREAS + ["area\tx\t64\t66\t1\t2"], (12, 65), (64, 65)
+    yield "8 beside 6", COLUMN_OF_AREAS + ["area\t0\t1\t2\t1\t2"], (6, 65), (0, 0)
+    yield "a fault on the line before", drawn("1 2 1 2") + ["", "area\tb\t1\t2\t1\t2"], (1, 2), (0, 0)
+    yield "a fault on the line after", drawn("1 2 1 2", "1 2 1 2") + [""], (12, 2), (1, 2)
+    yield "too many tracks after it", drawn("1 2 1 2", "1 2 1 2") + ["repeat\tr\t10001", f"track\tr\t{TRACK}", "end\tr"], (12, 2), (1, 2)
     yield "named in placements", drawn("1 2 1 3", "1 3 2 4") + [f"track\tc\t{TRACK}", place_line("named\ta\t0", "named\tb\t0"),
-                                                             place_line("named\tb\t0", "named\ta\t0")], (12, 2), [(1, 2)]
+                                                             place_line("named\tb\t0", "named\ta\t0")], (12, 2), (1, 2)
 
 
 def limit_calls():

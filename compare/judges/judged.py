@@ -27,7 +27,7 @@ class Program:
             raise CannotCompare(f"no comparison: the panel program {path} can't be run")
         self.path = path
 
-    def expected(self, sheet, answer, lines):
+    def expected(self, sheet, answer):
         """The model's output before any entry call, cut at line feeds."""
         plain = model.Answer(sheet) if answer.calls and not answer.refused else answer
         return plain.output + [""]
@@ -45,20 +45,18 @@ class Program:
         pass
 
 
-def whole_answer(answer, lines):
-    pairs = model.pair_lines(answer)
-    pair = [line for line in lines if line in pairs] or pairs
-    return answer.full_answer() + pair[:1] + ([] if answer.refused else model.count_lines(answer.state))
+def whole_answer(answer):
+    return answer.full_answer() + ([] if answer.refused else model.count_lines(answer.state))
 
 
 class Library(Batch):
     """The static library: a running process that makes its calls."""
     name = "library"
 
-    def expected(self, sheet, answer, lines):
+    def expected(self, sheet, answer):
         """The model's whole answer: entry calls, output, names, the pair of areas that share a cell and the number of entries; then that
-        of the display call. Of several such pairs it is the one that was answered."""
-        return whole_answer(answer, lines) + [DISPLAYED] + whole_answer(model.displayed(sheet, answer), lines)
+        of the display call."""
+        return whole_answer(answer) + [DISPLAYED] + whole_answer(model.displayed(sheet, answer))
 
     def ask(self, sheet, calls):
         """Its whole answer, and that of its display call."""

@@ -19,6 +19,8 @@ class State:
         self.entries = {letter: rules.written_entries(panel.axes[letter]) for letter in LETTERS}
         self.used = {letter: panel.axes[letter].name_bytes for letter in LETTERS}
         self.accepted = []
+        # Of a panel that is only displayed; no two areas of another share a cell.
+        self.pair = reader.first_pair(list(panel.areas.values())) if panel.display else reader.NO_PAIR
 
     @cached_property
     def records(self):
@@ -118,11 +120,6 @@ def count_lines(state):
     return [f"entries\t{letter}\t{len(state.entries[letter])}" for letter in LETTERS]
 
 
-def pair_lines(answer):
-    """The lines of the pairs that a refusal may carry, in the form that README.md gives; none where no areas share a cell."""
-    return [f"pair\t{earlier}\t{later}" for earlier, later in answer.refused.pairs] if answer.refused else []
-
-
 def displayed(sheet, answer):
     """What the display call answers, beside the sheet call's answer: it refuses no areas that share a cell and takes no entries,
     and is else the same."""
@@ -133,13 +130,13 @@ def displayed(sheet, answer):
 class Answer:
     """What the model says of a sheet and entry calls, each (axis, line, name as bytes), or of a sheet that is only displayed."""
 
-    def __init__(self, sheet, calls=(), display=False):
+    def __init__(self, sheet, calls=(), display=False, stores=FULL_STORES):
         self.refused = None
         self.state = None
         self.numbers = []
         self.calls = calls
         try:
-            self.state = read_sheet(sheet, display=display)
+            self.state = read_sheet(sheet, stores, display)
         except reader.Refused as refused:
             self.refused = refused
             return
@@ -162,9 +159,15 @@ class Answer:
         """The marks of the placements after the entry calls."""
         return [] if self.refused else mark_lines(self.state)
 
+    @cached_property
+    def pair(self):
+        """The line of the pair of areas that share a cell, in the form that README.md gives; none where it is zeros."""
+        earlier, later = self.refused.pair if self.refused else self.state.pair
+        return [f"pair\t{earlier}\t{later}"] if (earlier, later) != reader.NO_PAIR else []
+
     def full_answer(self, names=True):
-        """The answers of the calls, document 01's output and, where asked, the line names and the marks."""
-        return [entry_line(number) for number in self.numbers] + self.output + (self.names + self.marks if names else [])
+        """The answers of the calls, document 01's output and, where asked, the line names, the marks and the pair."""
+        return [entry_line(number) for number in self.numbers] + self.output + (self.names + self.marks + self.pair if names else [])
 
 
 def text_of(lines):

@@ -24,18 +24,19 @@ FAULT_ORDER = (UNREAD, NAME, VALUE, COUNT, AREA, TWICE, LATE, OVERLAP, CROWDED)
 LARGEST_OF_KIND = {"len": LARGEST_LENGTH, "pct": LARGEST_PERCENTAGE, "fr": LARGEST_LENGTH,
                    "fitl": LARGEST_LENGTH, "fitp": LARGEST_PERCENTAGE, "auto": 0.0, "min": 0.0, "max": 0.0}
 MINIMUM_KINDS = ("len", "pct", "auto", "min", "max")
+NO_PAIR = (0, 0)
 KIND_ORDER = {"axis": 0, "area": 1}
 THE_REST = 2
 
 
 class Refused(Exception):
-    """A refusal: number, line and, where areas share a cell, the pairs (earlier, later) that it may carry."""
+    """A refusal: number, line and, where areas share a cell, the pair (earlier, later)."""
 
-    def __init__(self, number, line, pairs=()):
+    def __init__(self, number, line, pair=NO_PAIR):
         super().__init__(number, line)
         self.number = number
         self.line = line
-        self.pairs = list(pairs)
+        self.pair = pair
 
 
 @dataclass
@@ -116,8 +117,8 @@ class Panel:
     order: int = 0
     # Whether it is read for display alone: there areas may share a cell.
     display: bool = False
-    # The pairs of the area that was refused for sharing a cell.
-    pairs: list = field(default_factory=list)
+    # The pair of the area that was refused for sharing a cell.
+    pair: tuple = NO_PAIR
 
 
 class Fields:
@@ -204,9 +205,15 @@ def share_a_cell(one, other):
     return all(one.edges(letter)[0] < other.edges(letter)[1] and other.edges(letter)[0] < one.edges(letter)[1] for letter in "cr")
 
 
-def pairs_with(areas, area):
-    """The pairs (earlier, later), numbered from 1 in sheet order, of an area that comes after others and shares a cell with them."""
-    return [(number, len(areas) + 1) for number, earlier in enumerate(areas.values(), start=1) if share_a_cell(earlier, area)]
+def first_sharing(areas, area):
+    """The number, from 1 in sheet order, of the first of these areas that shares a cell with one that comes after them; 0 where none does."""
+    return next((number for number, earlier in enumerate(areas, start=1) if share_a_cell(earlier, area)), 0)
+
+
+def first_pair(areas):
+    """The first pair (earlier, later) of areas that share a cell: smallest later area, then smallest earlier area; zeros where none do."""
+    pairs = ((first_sharing(areas[:number - 1], area), number) for number, area in enumerate(areas, start=1))
+    return next((pair for pair in pairs if pair[0]), NO_PAIR)
 
 
 def good_name(text):
@@ -243,10 +250,10 @@ def read_area(panel, fields):
     if len(panel.areas) >= MOST["area"]:
         fields.faults.add(CROWDED)
     area = Area(row_start, row_end, column_start, column_end)
-    pairs = [] if panel.display else pairs_with(panel.areas, area)
-    if pairs:
+    earlier = 0 if panel.display else first_sharing(list(panel.areas.values()), area)
+    if earlier:
         fields.faults.add(OVERLAP)
-        panel.pairs = pairs
+        panel.pair = earlier, len(panel.areas) + 1
 
     def do():
         panel.areas[name] = area
@@ -384,7 +391,7 @@ def read_lines(sheet, display=False):
     for number, text in enumerate(lines[:-1], start=1):
         fault = read_line(panel, text)
         if fault:
-            raise Refused(fault, number, panel.pairs if fault == OVERLAP else ())
+            raise Refused(fault, number, panel.pair if fault == OVERLAP else NO_PAIR)
     if lines[-1]:
         raise Refused(UNREAD, len(lines))
     if any(axis.open for axis in panel.axes.values()):

@@ -57,14 +57,14 @@ class Case:
         self.lines = self.answer_lines(rust)
 
     def answer_lines(self, rust):
-        """The Rust's lines where it speaks, a record's source after them; the model's for refusals, the numbers of calls and marks."""
+        """The Rust's lines where it speaks, a record's source after them; the model's for refusals, the numbers of calls, marks and pairs."""
         if self.refused:
-            return self.answer.output
+            return self.answer.full_answer()
         asked = asked_of_the_rust(self.sheet, self.answer.state.panel)
         lines = rust.ask(asked, self.answer.state.accepted)[:-2]
         own = self.answer.output + self.answer.names
         lines = [rules.with_source(line, beside) for line, beside in zip(lines, own, strict=True)]
-        return [model.entry_line(number) for number in self.answer.numbers] + lines + self.answer.marks
+        return [model.entry_line(number) for number in self.answer.numbers] + lines + self.answer.marks + self.answer.pair
 
     def block(self, cut=False):
         lines = cut_lines(self.lines) if cut else self.lines
@@ -172,11 +172,11 @@ def write_limits(rust):
     keep("limits", [case.block(cut=len(case.lines) > 3000) for case in cases])
 
 
-def shared_case(name, lines, refusal, pairs, rust):
-    """A sheet with areas that touch or share a cell, held to its refusal and to the pairs that it may carry."""
+def shared_case(name, lines, refusal, pair, rust):
+    """A sheet with areas that touch or share a cell, held to its refusal and to the pair that it carries."""
     case = limit_case(name, lines, refusal, rust)
-    if case.refused and case.refused.pairs != pairs:
-        raise build.CannotCompare(f"not recorded: {name} is answered with the pairs {case.refused.pairs}")
+    if case.refused and case.refused.pair != pair:
+        raise build.CannotCompare(f"not recorded: {name} is answered with the pair {case.refused.pair}")
     return case
 
 
@@ -261,13 +261,10 @@ def short_block(name, sheet, stores, calls, display=False):
     word = "display" if display else "sheet"
     head = f"case {name}\nstores {stores[0]} {stores[1]}\n{word} {len(sheet)}\n".encode() + sheet
     rows = b"".join(f"{lent[0]}\t{lent[1]}\t".encode() + call_line(call) for lent, call in calls)
-    lines = []
-    try:
-        state = model.read_sheet(sheet, stores, display)
-        numbers = [model.enter(state, *call, lent) for lent, call in calls]
-        lines = [model.entry_line(number) for number in numbers] + model.sheet_lines(state) + model.name_lines(state) + model.mark_lines(state)
-    except reader.Refused as refused:
-        lines = [model.refusal_line(refused.number, refused.line)]
+    answer = model.Answer(sheet, display=display, stores=stores)
+    if not answer.refused:
+        answer.numbers = [model.enter(answer.state, *call, lent) for lent, call in calls]
+    lines = answer.full_answer()
     expected = model.text_of(lines).encode()
     return head + f"enter {len(calls)}\n".encode() + rows + f"expect {len(expected)}\n".encode() + expected
 

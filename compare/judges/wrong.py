@@ -238,7 +238,7 @@ def later_areas_dropped(sheet, display=False):
     panel, line_after = right_read_lines(sheet, display)
     kept = {}
     for name, area in panel.areas.items():
-        if not reader.pairs_with(kept, area):
+        if not reader.first_sharing(kept.values(), area):
             kept[name] = area
     panel.areas = kept
     return panel, line_after
@@ -353,10 +353,34 @@ def starts_inside(one, other):
 
 
 def the_area_before(areas, area):
-    return [pair for pair in right_pairs_with(areas, area) if pair[0] == len(areas)]
+    return len(areas) if areas and reader.share_a_cell(areas[-1], area) else 0
 
 
-right_pairs_with = reader.pairs_with
+def the_last_sharing(areas, area):
+    return max((number for number, earlier in enumerate(areas, start=1) if reader.share_a_cell(earlier, area)), default=0)
+
+
+def smallest_earlier_first(areas):
+    """The pair (1, 4) before (2, 3)."""
+    pairs = [(reader.first_sharing(areas[:number - 1], area), number) for number, area in enumerate(areas, start=1)]
+    return min((pair for pair in pairs if pair[0]), default=reader.NO_PAIR)
+
+
+def no_pair_displayed(areas):
+    return reader.NO_PAIR
+
+
+def a_pair_of_any_two(areas):
+    return (1, 2) if len(areas) > 1 else reader.NO_PAIR
+
+
+def numbered_from_0(areas):
+    earlier, later = right_first_pair(areas)
+    return max(0, earlier - 1), max(0, later - 1)
+
+
+right_first_sharing = reader.first_sharing
+right_first_pair = reader.first_pair
 
 FOUND_BY_CSS = {
     "a track that only an area makes positive": (rules, "sources", areas_are_positive),
@@ -368,7 +392,12 @@ FOUND_BY_CSS = {
     "only rows compared": (reader, "share_a_cell", shares_on("r")),
     "only columns compared": (reader, "share_a_cell", shares_on("c")),
     "only the later area's first cell looked at": (reader, "share_a_cell", starts_inside),
-    "only the area before compared": (reader, "pairs_with", the_area_before),
+    "only the area before compared": (reader, "first_sharing", the_area_before),
+    "the last earlier area that shares a cell": (reader, "first_sharing", the_last_sharing),
+    "the pair with the smallest earlier area": (reader, "first_pair", smallest_earlier_first),
+    "no pair where areas that share a cell are displayed": (reader, "first_pair", no_pair_displayed),
+    "a pair where no areas share a cell": (reader, "first_pair", a_pair_of_any_two),
+    "areas numbered from 0": (reader, "first_pair", numbered_from_0),
 }
 
 
@@ -400,14 +429,14 @@ def the_earlier_line(sheet, display=False):
         return right_read_lines(sheet, display)
     except reader.Refused as refused:
         if refused.number == reader.OVERLAP:
-            earlier, later = refused.pairs[0]
-            raise reader.Refused(reader.OVERLAP, refused.line - later + earlier, refused.pairs)
+            earlier, later = refused.pair
+            raise reader.Refused(reader.OVERLAP, refused.line - later + earlier, refused.pair)
         raise
 
 
 def held_before_it_is_compared(areas, area):
     """A 65th area, which is never held, not compared."""
-    return [] if len(areas) >= reader.MOST["area"] else right_pairs_with(areas, area)
+    return 0 if len(areas) >= reader.MOST["area"] else right_first_sharing(areas, area)
 
 
 def line_before_name(state, letter, line, name, stores=model.FULL_STORES):
@@ -443,7 +472,7 @@ FOUND_BY_DAMAGE = {
     "12 before 7": (reader, "first_fault", fault_order(1, 2, 3, 4, 5, 6, 12, 7, 8)),
     "12 before 6": (reader, "first_fault", fault_order(1, 2, 3, 4, 5, 12, 6, 7, 8)),
     "12 at the earlier area's line": (reader, "read_lines", the_earlier_line),
-    "a 65th area not compared": (reader, "pairs_with", held_before_it_is_compared),
+    "a 65th area not compared": (reader, "first_sharing", held_before_it_is_compared),
 }
 
 

@@ -58,9 +58,8 @@ class ByTheLibrary:
         self.remembered = Remembered(process)
 
     def found(self, sheet, calls, expected):
-        lines = self.remembered.ask(sheet, calls)
-        own = self.process.expected(sheet, model.Answer(sheet, calls), lines)
-        difference = first_difference(Library.name, own, lines)
+        own = self.process.expected(sheet, model.Answer(sheet, calls))
+        difference = first_difference(Library.name, own, self.remembered.ask(sheet, calls))
         return [difference] if difference else []
 
 

@@ -101,12 +101,13 @@ pub fn print_pair(out: &mut Vec<u8>, pair: Option<Pair>) {
 }
 
 /// The whole answer of a panel, edited or only displayed.
-pub fn print_answers(out: &mut Vec<u8>, panel: &Answers) {
+pub fn print_answers(out: &mut Vec<u8>, panel: &Answers, pair: Option<Pair>) {
     AXES.into_iter().for_each(|axis| print_axis(out, panel, axis));
     let resolved = panel.resolved();
     resolved.iter().enumerate().for_each(|(index, found)| print_placement(out, panel, index, *found));
     AXES.into_iter().for_each(|axis| print_names(out, panel, axis));
     resolved.iter().for_each(|found| print_marks(out, *found));
+    print_pair(out, pair);
     let grid = panel.grid();
     writeln!(out, "entries\tc\t{}\nentries\tr\t{}", grid.columns.entries, grid.rows.entries).unwrap();
 }

@@ -35,7 +35,7 @@ fn answer(panel: &mut Panel, lent: &mut Lent, sheet: &[u8], calls: &[Call]) -> V
         return out;
     }
     calls.iter().for_each(|call| print_call(&mut out, panel, call));
-    print_answers(&mut out, panel);
+    print_answers(&mut out, panel, None);
     out
 }
 
@@ -46,8 +46,9 @@ fn displayed(lent: &mut Lent, sheet: &[u8]) -> Vec<u8> {
         Err(refusal) => {
             print_refusal(&mut out, refusal);
             asked_again(&mut out, lent, sheet, display_sheet);
+            print_pair(&mut out, refusal.pair);
         }
-        Ok(display) => print_answers(&mut out, &display),
+        Ok(display) => print_answers(&mut out, &display, display.overlap()),
     }
     out
 }

@@ -5,7 +5,7 @@ use crate::palgwern::{raw, AREA_NAMES_START, PLACEMENT_NUMBERS};
 use std::sync::atomic::{AtomicUsize, Ordering};
 
 /// The faults, from 1 on.
-pub const FAULTS: [&str; 39] = [
+pub const FAULTS: [&str; 41] = [
     "a refused sheet changes a word",
     "a word that the tables held reaches the panel",
     "a sheet writes past the words",
@@ -45,6 +45,8 @@ pub const FAULTS: [&str; 39] = [
     "a refused display changes a word",
     "a display refuses areas that share a cell by 12",
     "a display has another grid",
+    "a display has no pair",
+    "a refused display has a pair",
 ];
 
 /// The fault in place, 0 for none.
@@ -79,6 +81,8 @@ pub fn in_display(lent: &mut Lent, answer: &mut raw::DisplayAnswer) {
         37 if answer.number != 0 => lent.words[PANEL].content_mut()[9_000] ^= 1,
         38 if answer.grid.areas > 2 => answer.number = 12,
         39 if answer.number == 0 => answer.grid.areas += 1,
+        40 => (answer.earlier, answer.later) = (0, 0),
+        41 if answer.number != 0 => answer.later = 1,
         _ => (),
     }
 }

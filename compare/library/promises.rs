@@ -77,6 +77,8 @@ pub fn display_sheet(lent: &Lent) -> (u32, Promises) {
     promises.push(("what the tables held is nothing to a display", answer == if is_short { short } else { shown }));
     let alike = (shown.number, shown.line, shown.grid) == (read.number, read.line, read.panel.grid);
     promises.push(("a display answers as the sheet call, but for 12", alike || read.number == 12));
+    let refused_by = if shown.number == 0 { (read.earlier, read.later) } else { (0, 0) };
+    promises.push(("a display has the pair that the sheet is refused with", (shown.earlier, shown.later) == refused_by));
     promises.push(only_reads(lent, &after));
     (answer.number, promises)
 }

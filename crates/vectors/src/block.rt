@@ -2,6 +2,7 @@
 use crate::answers::seen_answer;
 use crate::calls::call_lines;
 use crate::calls::lent;
+use crate::expected::seen_pair;
 use crate::expected::seen_refusal;
 use crate::input::CUT;
 use crate::input::DISPLAY;
@@ -193,11 +194,13 @@ fn seen_sheet(
     let sheet = between(input, block.sheet, block.sheetend);
     let answer = read_block(sheet, block, words, bytes, columnstore, rowstore);
     let refusal = answer.refusal;
+    let earlier = answer.earlier;
+    let later = answer.later;
     if refusal.number != 0 {
-        return seen_refusal(expected, 0, refusal);
+        return seen_pair(expected, seen_refusal(expected, 0, refusal), earlier, later);
     }
     let panel = answer.panel;
-    seen_accepted(
+    let seen = seen_accepted(
         input,
         expected,
         block,
@@ -206,7 +209,8 @@ fn seen_sheet(
         bytes,
         columnstore,
         rowstore,
-    )
+    );
+    seen_pair(expected, seen, earlier, later)
 }
 
 // The display call and all answers of a block.
@@ -222,11 +226,14 @@ fn seen_display(
     let sheet = between(input, block.sheet, block.sheetend);
     let answer = display_block(sheet, block, words, bytes, columnstore, rowstore);
     let refusal = answer.refusal;
+    let earlier = answer.earlier;
+    let later = answer.later;
     if refusal.number != 0 {
-        return seen_refusal(expected, 0, refusal);
+        return seen_pair(expected, seen_refusal(expected, 0, refusal), earlier, later);
     }
     let grid = answer.grid;
-    seen_grid(input, block, 0, grid, words, bytes, columnstore, rowstore)
+    let seen = seen_grid(input, block, 0, grid, words, bytes, columnstore, rowstore);
+    seen_pair(expected, seen, earlier, later)
 }
 
 // Whether the answers of a block are the expected ones.

@@ -24,6 +24,22 @@ pub fn seen_refusal(expected: &[u8], seen: usize, refusal: Refusal) -> usize {
     seen_part(expected, seen, &line[..count])
 }
 
+// The same for the pair of areas that share a cell, which has a line where it is not zeros.
+pub fn seen_pair(expected: &[u8], seen: usize, earlier: u32, later: u32) -> usize {
+    if earlier == 0 {
+        if later == 0 {
+            return seen;
+        }
+    }
+    let first = seen_number(
+        expected,
+        seen_part(expected, seen, b"pair\t"),
+        earlier as u64,
+    );
+    let last = seen_number(expected, seen_part(expected, first, b"\t"), later as u64);
+    seen_part(expected, last, b"\n")
+}
+
 // The same for the answer of an entry call.
 pub fn seen_entry(expected: &[u8], seen: usize, refusal: Refusal) -> usize {
     if refusal.number == 0 {
