@@ -4,6 +4,7 @@
 
 mod answers;
 mod compute;
+mod cursor;
 mod geometry;
 mod ours;
 mod palgwern;
@@ -33,7 +34,7 @@ use timing::pair;
 
 const STAGES: [&str; 5] = ["sizes", "names", "placements", "records", "line names"];
 /// What is timed beside the stages.
-const PARTS: [&str; 2] = ["reading", "templates"];
+const PARTS: [&str; 3] = ["reading", "templates", "cursor"];
 const GROWTH: [&str; 4] = ["small", "medium", "large, 16 names", "large, 1,440 names"];
 
 /// Both sides of a sheet, after they were seen to answer alike; ends the program where they do not.
@@ -91,7 +92,7 @@ fn readings(sheets: &[Sheet]) {
     [panels::forty_lines(), panels::longest()].iter().chain(sheets).for_each(reading);
 }
 
-/// Every stage, the reading and the templates, or those that are named.
+/// Every stage, the reading, the templates and the cursor, or those that are named.
 fn main() {
     let words: Vec<String> = std::env::args().skip(1).collect();
     if let Some(word) = words.iter().find(|word| !PARTS.contains(&word.as_str()) && !STAGES.contains(&word.as_str())) {
@@ -114,5 +115,9 @@ fn main() {
     }
     if asked("templates") {
         template::print();
+        println!();
+    }
+    if asked("cursor") {
+        cursor::print();
     }
 }

@@ -3,8 +3,8 @@
  * Link target/staticlib/libpalgwern.a (x86-64 Linux), which `rt staticlib palgwern` writes. Every call is proved to end and to
  * answer as its contract in crates/palgwern/src says, whatever the panel and what is lent hold. What C must ensure:
  *
- * - stack: 512 KiB of room for palgwern_read_sheet and palgwern_display_sheet, 192 KiB for palgwern_line_names, 64 KiB for each
- *   other call (`bindings/test` measures them);
+ * - stack: 512 KiB of room for palgwern_read_sheet and palgwern_display_sheet, 192 KiB for palgwern_line_names, 128 KiB for
+ *   palgwern_placements_within and palgwern_placements_around, 64 KiB for each other call (`bindings/test` measures them);
  * - memory: everything that is lent is initialized, whatever it holds, and not null; an array has the length that is stated here,
  *   a pointer with a length has so many elements, and one of length 0 still points somewhere;
  * - no overlap: what a call may write (no `const`) is part of nothing else that is lent to it, and nobody else reads or writes it
@@ -32,8 +32,9 @@ enum palgwern_refusal {
     PALGWERN_TWICE = 6,     /* twice: an area name or axis record again */
     PALGWERN_LATE = 7,      /* late: record earlier in kind than one before it */
     PALGWERN_CROWDED = 8,   /* crowded: one more would pass a panel limit */
-    PALGWERN_ZERO_LINE = 9, /* zero line: conversion of line 0 (no call here makes one) */
+    PALGWERN_ZERO_LINE = 9, /* zero line: line 0, which no placement is around */
     PALGWERN_SHORT = 10,    /* short: lent records, item bytes or a line-name store too short */
+    PALGWERN_INDEFINITE = 11, /* indefinite: a track or gutter with no definite size */
     PALGWERN_OVERLAP = 12   /* overlap: an area that shares a cell with an earlier one */
 };
 
@@ -61,6 +62,7 @@ enum palgwern_length {
     PALGWERN_STORE_BYTES = 32768,     /* columnstore, rowstore: the bytes of line names; at least so many, else 10 */
     PALGWERN_PLACEMENT_RUN = 2048,    /* numbers of a run of placements: eight for each that a panel can have */
     PALGWERN_LINE_NAME_RUN = 4096,    /* names of a run of line names: a word for each entry that an axis can have */
+    PALGWERN_HITS = 256,              /* indexes of a list of placements: one for each that a panel can have */
     PALGWERN_AXIS_WORDS = 12480,      /* of an axis: components, track sizes, spare sizes, name records, name entries */
     PALGWERN_AREA_WORDS = 128,        /* edges, then names */
     PALGWERN_PLACEMENT_WORDS = 512,   /* two words each */
@@ -201,6 +203,7 @@ typedef struct palgwern_display_answer {
 } palgwern_display_answer;
 typedef struct palgwern_size_answer { uint32_t number; uint32_t repetitions; uint32_t explicit_count; } palgwern_size_answer;
 typedef struct palgwern_count_answer { uint32_t number; uint64_t count; } palgwern_count_answer;
+typedef struct palgwern_line_answer { uint32_t number; int32_t line; } palgwern_line_answer;
 typedef struct palgwern_name_answer { uint32_t number; uint32_t offset; uint32_t length; } palgwern_name_answer;
 /* A mark is 1 where the line of its end was held within -10,000..10,000 of the first explicit line, or a line on the way to it was: a
  * written line, the line of a name, the line beside a named span. 0 says that it would be the same if lines were never held. */
@@ -286,6 +289,33 @@ palgwern_count_answer palgwern_records(
     palgwern_grid grid, const uint64_t words[PALGWERN_PANEL_WORDS],
     uint32_t axis, const uint8_t *items, size_t items_bytes, uint32_t first, uint64_t *records, size_t records_length);
 
+/* The line of an axis nearest to a cursor, as a grid line, the lower of two as near: 1 is the first explicit line, lines before it are
+ * counted from the end. `cursor` has the bits of an f32, a position in pixels from the start of the first record of the axis; `items`
+ * is as in palgwern_records. Refuses by 3 (no position from 0 to 65,535), then by 4 (no axis, or a count above 10,000, which no sheet
+ * gives), by 10 (fewer item bytes than tracks), and by 11 (a track or gutter of the axis has no definite size). Time is linear in the
+ * axis. */
+palgwern_line_answer palgwern_nearest_line(
+    palgwern_grid grid, const uint64_t words[PALGWERN_PANEL_WORDS],
+    uint32_t axis, const uint8_t *items, size_t items_bytes, uint32_t cursor);
+
+/* The placements of an axis with both lines within a span of pixels, its ends included, by their indexes from 0, ascending, from the
+ * first place of `hits` on; answers how many. Places past them stay as they are. `low` and `high` are the bits of two floats, 0 to
+ * 65,535; where `low` lies above `high` no line is within. Lines are not held, reversed ones are swapped, equal ones span one track;
+ * a placement with an end that is no line, or with a line that is 0 or off the grid, is in no list. `items` is as for
+ * palgwern_records. Refuses by 3 (an end of the span is no length), then by 4 (no axis, or a count above 10,000, which no sheet gives),
+ * by 10 (fewer item bytes than tracks, or a short store) and by 11 (a track or gutter with no definite size). */
+palgwern_count_answer palgwern_placements_within(
+    palgwern_grid grid, const uint64_t words[PALGWERN_PANEL_WORDS], const uint8_t bytes[PALGWERN_PANEL_BYTES],
+    const uint8_t *columnstore, size_t columnstore_bytes, const uint8_t *rowstore, size_t rowstore_bytes,
+    uint32_t axis, const uint8_t *items, size_t items_bytes, uint32_t low, uint32_t high, uint32_t hits[PALGWERN_HITS]);
+
+/* The placements of an axis with a grid line strictly between their own lines, in the same way. Refuses by 4 (no axis, a count above
+ * 10,000, or a line outside -32,768..32,767), then by 9 (line 0), by 10 and by 11 as above. */
+palgwern_count_answer palgwern_placements_around(
+    palgwern_grid grid, const uint64_t words[PALGWERN_PANEL_WORDS], const uint8_t bytes[PALGWERN_PANEL_BYTES],
+    const uint8_t *columnstore, size_t columnstore_bytes, const uint8_t *rowstore, size_t rowstore_bytes,
+    uint32_t axis, const uint8_t *items, size_t items_bytes, int32_t line, uint32_t hits[PALGWERN_HITS]);
+
 /* ---- all that is lent, in one struct, and the calls on it */
 
 typedef struct palgwern_tables {
@@ -333,11 +363,31 @@ static inline palgwern_name_answer palgwern_tables_name(const palgwern_tables *t
         place);
 }
 
-/* with the sheet's item marks */
+/* the sheet's item marks, which the calls below answer with */
+static inline const uint8_t *palgwern_tables_items(const palgwern_tables *t, uint32_t axis) {
+    return t->bytes + (axis == PALGWERN_ROWS ? PALGWERN_ROW_MARKS_START : PALGWERN_COLUMN_MARKS_START);
+}
+
 static inline palgwern_count_answer palgwern_tables_records(const palgwern_tables *t, palgwern_grid grid, uint32_t axis,
     uint32_t first, uint64_t *records, size_t length) {
-    const uint8_t *items = t->bytes + (axis == PALGWERN_ROWS ? PALGWERN_ROW_MARKS_START : PALGWERN_COLUMN_MARKS_START);
-    return palgwern_records(grid, t->words, axis, items, PALGWERN_AXIS_MARKS, first, records, length);
+    return palgwern_records(grid, t->words, axis, palgwern_tables_items(t, axis), PALGWERN_AXIS_MARKS, first, records, length);
+}
+
+static inline palgwern_count_answer palgwern_tables_within(const palgwern_tables *t, palgwern_grid grid, uint32_t axis,
+    uint32_t low, uint32_t high, uint32_t hits[PALGWERN_HITS]) {
+    return palgwern_placements_within(grid, t->words, t->bytes, t->columnstore, sizeof t->columnstore, t->rowstore,
+        sizeof t->rowstore, axis, palgwern_tables_items(t, axis), PALGWERN_AXIS_MARKS, low, high, hits);
+}
+
+static inline palgwern_count_answer palgwern_tables_around(const palgwern_tables *t, palgwern_grid grid, uint32_t axis,
+    int32_t line, uint32_t hits[PALGWERN_HITS]) {
+    return palgwern_placements_around(grid, t->words, t->bytes, t->columnstore, sizeof t->columnstore, t->rowstore,
+        sizeof t->rowstore, axis, palgwern_tables_items(t, axis), PALGWERN_AXIS_MARKS, line, hits);
+}
+
+static inline palgwern_line_answer palgwern_tables_nearest_line(const palgwern_tables *t, palgwern_grid grid, uint32_t axis,
+    uint32_t cursor) {
+    return palgwern_nearest_line(grid, t->words, axis, palgwern_tables_items(t, axis), PALGWERN_AXIS_MARKS, cursor);
 }
 
 #ifdef __cplusplus

@@ -14,6 +14,8 @@ pub const STORE_BYTES: usize = 32_768;
 /// The numbers of a run of placements, and the words of a run of line names.
 pub const PLACEMENT_RUN: usize = 2_048;
 pub const LINE_NAME_RUN: usize = 4_096;
+/// The indexes of a list of placements.
+pub const HITS: usize = 256;
 /// Where the regions of the words start, and their lengths.
 pub const COLUMNS_START: usize = 0;
 pub const ROWS_START: usize = 12_480;
@@ -170,6 +172,13 @@ pub mod raw {
 
     #[repr(C)]
     #[derive(Clone, Copy, Debug, PartialEq, Eq)]
+    pub struct LineAnswer {
+        pub number: u32,
+        pub line: i32,
+    }
+
+    #[repr(C)]
+    #[derive(Clone, Copy, Debug, PartialEq, Eq)]
     pub struct NameAnswer {
         pub number: u32,
         pub offset: u32,
@@ -225,6 +234,19 @@ pub mod raw {
             grid: Grid, words: *const [u64; PANEL_WORDS], axis: u32, items: *const u8, items_bytes: usize, first: u32,
             records: *mut u64, records_length: usize,
         ) -> CountAnswer;
+        pub fn palgwern_nearest_line(
+            grid: Grid, words: *const [u64; PANEL_WORDS], axis: u32, items: *const u8, items_bytes: usize, cursor: u32,
+        ) -> LineAnswer;
+        pub fn palgwern_placements_within(
+            grid: Grid, words: *const [u64; PANEL_WORDS], bytes: *const [u8; PANEL_BYTES], columnstore: *const u8,
+            columnstore_bytes: usize, rowstore: *const u8, rowstore_bytes: usize, axis: u32, items: *const u8, items_bytes: usize,
+            low: u32, high: u32, hits: *mut [u32; HITS],
+        ) -> CountAnswer;
+        pub fn palgwern_placements_around(
+            grid: Grid, words: *const [u64; PANEL_WORDS], bytes: *const [u8; PANEL_BYTES], columnstore: *const u8,
+            columnstore_bytes: usize, rowstore: *const u8, rowstore_bytes: usize, axis: u32, items: *const u8, items_bytes: usize,
+            line: i32, hits: *mut [u32; HITS],
+        ) -> CountAnswer;
     }
 }
 
@@ -232,7 +254,7 @@ const _: () = assert!(size_of::<AxisGrid>() == 56 && size_of::<AxisRoom>() == 20
 const _: () = assert!(size_of::<Grid>() == 120 && size_of::<Room>() == 48 && size_of::<State>() == 168);
 const _: () = assert!(size_of::<raw::PanelAnswer>() == 176 && size_of::<raw::CountAnswer>() == 16);
 const _: () = assert!(size_of::<raw::SheetAnswer>() == 184 && size_of::<raw::DisplayAnswer>() == 136);
-const _: () = assert!(size_of::<raw::SizeAnswer>() == 12 && size_of::<raw::NameAnswer>() == 12 && size_of::<raw::PlacementAnswer>() == 32);
+const _: () = assert!(size_of::<raw::SizeAnswer>() == 12 && size_of::<raw::NameAnswer>() == 12 && size_of::<raw::LineAnswer>() == 8 && size_of::<raw::PlacementAnswer>() == 32);
 
 /// A refusal by its word in the table of refusals.
 #[derive(Clone, Copy, Debug, PartialEq, Eq)]
@@ -247,6 +269,7 @@ pub enum Word {
     Crowded = 8,
     ZeroLine = 9,
     Short = 10,
+    Indefinite = 11,
     Overlap = 12,
 }
 
@@ -264,7 +287,7 @@ impl Pair {
     }
 }
 
-/// A refusal: its word and the sheet's line, 0 for a call without a sheet, for a sheet too long and for `Short`. `Overlap` comes with the
+/// A refusal: its word and the sheet's line, 0 for a call without a sheet, for a sheet too long, for `Short` and for `Indefinite`. `Overlap` comes with the
 /// first two areas that share a cell.
 #[derive(Clone, Copy, Debug, PartialEq, Eq)]
 pub struct Refusal {
@@ -286,7 +309,7 @@ impl Refusal {
 }
 
 /// The refusals with their words as they are written.
-const WORDS: [(Word, &str); 11] = [
+const WORDS: [(Word, &str); 12] = [
     (Word::Unread, "unread"),
     (Word::Name, "name"),
     (Word::Value, "value"),
@@ -297,6 +320,7 @@ const WORDS: [(Word, &str); 11] = [
     (Word::Crowded, "crowded"),
     (Word::ZeroLine, "zero line"),
     (Word::Short, "short"),
+    (Word::Indefinite, "indefinite"),
     (Word::Overlap, "overlap"),
 ];
 
@@ -621,6 +645,34 @@ impl Answers {
         counted(answer)
     }
 
+    /// The placements of an axis with both lines within a span of pixels, its ends included, by their indexes, ascending; none where
+    /// `low` lies above `high`. `Word::Value` where an end is no length, `Word::Indefinite` where a track or gutter has no definite size.
+    pub fn within(&self, axis: Axis, low: f32, high: f32) -> Result<impl Iterator<Item = u32>, Refusal> {
+        let (items, mut hits) = (self.items(axis), [0; HITS]);
+        // SAFETY: as in `Panel::read_again`; `hits` is a local of its own.
+        let answer = unsafe {
+            raw::palgwern_placements_within(
+                self.grid, &*self.words, &*self.bytes, self.columnstore.as_ptr(), STORE_BYTES, self.rowstore.as_ptr(), STORE_BYTES,
+                axis as u32, items.as_ptr(), items.len(), low.to_bits(), high.to_bits(), &mut hits,
+            )
+        };
+        counted(answer).map(|count| hits.into_iter().take(count))
+    }
+
+    /// The placements of an axis with a grid line strictly between their own lines, by their indexes, ascending. `Word::ZeroLine` for
+    /// line 0, `Word::Indefinite` where a track or gutter has no definite size.
+    pub fn around(&self, axis: Axis, line: i16) -> Result<impl Iterator<Item = u32>, Refusal> {
+        let (items, mut hits) = (self.items(axis), [0; HITS]);
+        // SAFETY: as in `within`.
+        let answer = unsafe {
+            raw::palgwern_placements_around(
+                self.grid, &*self.words, &*self.bytes, self.columnstore.as_ptr(), STORE_BYTES, self.rowstore.as_ptr(), STORE_BYTES,
+                axis as u32, items.as_ptr(), items.len(), line.into(), &mut hits,
+            )
+        };
+        counted(answer).map(|count| hits.into_iter().take(count))
+    }
+
     /// How many lists of line names an axis has: none, or one for each explicit line.
     pub fn lists(&self, axis: Axis) -> u32 {
         // SAFETY: numbers only.
@@ -712,6 +764,23 @@ impl Answers {
             )
         };
         counted(answer)
+    }
+
+    /// The line of an axis nearest to a cursor in pixels, with the sheet's items, as a grid line; the lower of two as near.
+    pub fn nearest_line(&self, axis: Axis, cursor: f32) -> Result<i32, Refusal> {
+        self.nearest_line_with(axis, self.items(axis), cursor)
+    }
+
+    /// The same, with any items.
+    pub fn nearest_line_with(&self, axis: Axis, items: &[u8], cursor: f32) -> Result<i32, Refusal> {
+        // SAFETY: as in `Panel::read_again`; nothing is written.
+        let answer = unsafe {
+            raw::palgwern_nearest_line(self.grid, &*self.words, axis as u32, items.as_ptr(), items.len(), cursor.to_bits())
+        };
+        match answer.number {
+            0 => Ok(answer.line),
+            number => Err(Refusal::of(number, 0)),
+        }
     }
 
     /// What answers, as the library has it.

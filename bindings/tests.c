@@ -17,6 +17,7 @@ _Static_assert(sizeof(palgwern_display_answer) == 136 && offsetof(palgwern_displ
 _Static_assert(sizeof(palgwern_size_answer) == 12 && sizeof(palgwern_name_answer) == 12, "answers of three numbers");
 _Static_assert(sizeof(palgwern_count_answer) == 16 && offsetof(palgwern_count_answer, count) == 8, "count answer");
 _Static_assert(sizeof(palgwern_placement_answer) == 32, "placement answer");
+_Static_assert(sizeof(palgwern_line_answer) == 8, "line answer");
 
 _Static_assert(PALGWERN_PLACEMENT_RUN == PALGWERN_PLACEMENTS * PALGWERN_PLACEMENT_NUMBERS, "run of placements");
 _Static_assert((int)PALGWERN_LINE_NAME_RUN == (int)PALGWERN_ENTRIES, "run of line names");
@@ -24,6 +25,7 @@ _Static_assert((int)PALGWERN_LINE_NAME_RUN == (int)PALGWERN_ENTRIES, "run of lin
 static palgwern_tables tables, before;
 static uint64_t all[PALGWERN_LARGEST_RECORDS * PALGWERN_RECORD_WORDS], some[30], names[PALGWERN_LINE_NAME_RUN];
 static int32_t numbers[PALGWERN_PLACEMENT_RUN];
+static uint32_t hits[PALGWERN_HITS];
 static char sheet[PALGWERN_SHEET_BYTES + 1];
 static size_t sheet_bytes;
 static palgwern_panel panel;
@@ -66,6 +68,24 @@ static int is_axis(palgwern_axis_grid g, palgwern_axis_room r, const uint64_t n[
         g.implicit.positive == n[7] && g.implicit.spares == n[8] && g.entries == n[9] && g.size.repetitions == n[10] &&
         g.size.explicit_count == n[11] && r.template_counts.components == n[4] && r.template_counts.tracks == n[5] &&
         r.names == n[12] && r.used == n[13] && r.areas == n[14];
+}
+
+/* The lines of a panel of its own: tracks of 20, 100, half of 200 and 20 with gaps of 10, so lines at 0, 30, 140, 250 and 270, the second
+ * the first explicit one; and no track at all in the rows. */
+static void nearest(void) {
+    static palgwern_tables own;
+    static const struct { uint32_t cursor; int32_t line; } lines[] = {{0, -4}, {0x41700000, -4}, {0x41800000, 1}, {0x430c0000, 2},
+        {0x43820000, 3}, {0x43824000, 4}, {0x477fff00, 4}};
+    palgwern_sheet_answer read = palgwern_tables_read(&own, TEXT("axis\tc\t43480000\tmax\tlen\t41200000\n"
+        "track\tc\tlen\t42c80000\tlen\t42c80000\ntrack\tc\tpct\t3f000000\tpct\t3f000000\n"
+        "spare\tc\tlen\t41a00000\tlen\t41a00000\nextra\tc\t1\t1\n"));
+    CHECK(read.number == 0);
+    for (size_t i = 0; i < sizeof lines / sizeof *lines; i++) {
+        palgwern_line_answer answer = palgwern_tables_nearest_line(&own, read.panel.grid, PALGWERN_COLUMNS, lines[i].cursor);
+        CHECK(answer.number == 0 && answer.line == lines[i].line);
+    }
+    palgwern_line_answer alone = palgwern_tables_nearest_line(&own, read.panel.grid, PALGWERN_ROWS, 0x477fff00);
+    CHECK(alone.number == 0 && alone.line == 1);
 }
 
 /* How many words of a region are not 0. */
@@ -164,6 +184,13 @@ static void fill_runs(void) {
     memset(numbers, 7, sizeof numbers);
     memset(names, 7, sizeof names);
     memset(some, 7, sizeof some);
+    memset(hits, 7, sizeof hits);
+}
+
+/* Whether the list from a place on is as it was filled. */
+static int hits_from(size_t place) {
+    for (size_t i = place; i < PALGWERN_HITS; i++) if (hits[i] != 0x07070707) return 0;
+    return 1;
 }
 
 /* Whether the numbers from one on, the names from one on and the records from one on are as they were filled. */
@@ -171,7 +198,7 @@ static int filled_from(size_t number, size_t name, size_t record) {
     for (size_t i = number; i < PALGWERN_PLACEMENT_RUN; i++) if (numbers[i] != 0x07070707) return 0;
     for (size_t i = name; i < PALGWERN_LINE_NAME_RUN; i++) if (names[i] != 0x0707070707070707) return 0;
     for (size_t i = record; i < sizeof some / sizeof *some; i++) if (some[i] != 0x0707070707070707) return 0;
-    return 1;
+    return hits_from(0);
 }
 
 /* A placement of a run is the one that is asked for alone. */
@@ -199,6 +226,49 @@ static void marks(void) {
     CHECK(p.number == 0 && p.axis == PALGWERN_ROWS && p.startnumber == 10002 && p.endnumber == 9 && p.startheld == 1 && p.endheld == 0);
     p = palgwern_tables_placement(&marked, held.grid, 1);
     CHECK(p.number == 0 && p.axis == PALGWERN_COLUMNS && p.startnumber == 7 && p.endnumber == -10002 && p.startheld == 0 && p.endheld == 1);
+}
+
+/* The bits of a position. */
+static uint32_t bits_of(float position) {
+    uint32_t bits;
+    memcpy(&bits, &position, sizeof bits);
+    return bits;
+}
+
+/* Whether a list has these placements from its first place on, and the rest as it was filled; filled again for the next. */
+static int is_list(palgwern_count_answer answer, size_t count, const uint32_t *expected) {
+    int right = is_count(answer, count) && !memcmp(hits, expected, count * sizeof *hits) && hits_from(count);
+    memset(hits, 7, sizeof hits);
+    return right;
+}
+
+/* Lines of the columns at 0, 12, 27, 52, 87 and 94: a negative track of 7, then 10, 20 and 30, and a positive one of 7, with gaps of 5. */
+static const char positions[] =
+    "axis\tc\t-\tmax\tlen\t40a00000\ntrack\tc\tlen\t41200000\tlen\t41200000\ntrack\tc\tlen\t41a00000\tlen\t41a00000\n"
+    "track\tc\tlen\t41f00000\tlen\t41f00000\nspare\tc\tlen\t40e00000\tlen\t40e00000\nextra\tc\t1\t1\n"
+    "place\tc\tline\t-\t1\tline\t-\t3\nplace\tr\tline\t-\t1\tline\t-\t2\nplace\tc\tline\t-\t3\tline\t-\t1\n"
+    "place\tc\tline\t-\t2\tline\t-\t2\nplace\tc\tline\t-\t0\tline\t-\t2\nplace\tc\tline\t-\t1\tauto\t-\t0\n"
+    "place\tc\tline\t-\t-5\tline\t-\t-1\nplace\tc\tline\t-\t5\tline\t-\t5\nplace\tc\tline\t-\t1\tline\t-\t32767\n";
+
+/* Lists: ends of a span included, reversed ends swapped, equal ones one track; line 0, no line and lines off the grid in no list. */
+static palgwern_tables listed;
+static palgwern_grid listed_grid;
+
+static void lists(void) {
+    palgwern_sheet_answer read = palgwern_tables_read(&listed, positions, sizeof positions - 1);
+    palgwern_grid g = listed_grid = read.panel.grid;
+    const palgwern_tables *t = &listed;
+    CHECK(read.number == 0);
+    fill_runs();
+    CHECK(is_list(palgwern_tables_within(t, g, PALGWERN_COLUMNS, bits_of(12), bits_of(52), hits), 3, (const uint32_t[]){0, 2, 3}));
+    CHECK(is_list(palgwern_tables_within(t, g, PALGWERN_COLUMNS, bits_of(12.5f), bits_of(52), hits), 1, (const uint32_t[]){3}));
+    CHECK(is_list(palgwern_tables_within(t, g, PALGWERN_COLUMNS, 0, bits_of(65535), hits), 4, (const uint32_t[]){0, 2, 3, 6}));
+    CHECK(is_list(palgwern_tables_within(t, g, PALGWERN_COLUMNS, bits_of(52), bits_of(12), hits), 0, hits));
+    CHECK(is_list(palgwern_tables_within(t, g, PALGWERN_ROWS, 0, bits_of(65535), hits), 0, hits));
+    CHECK(is_list(palgwern_tables_around(t, g, PALGWERN_COLUMNS, 2, hits), 3, (const uint32_t[]){0, 2, 6}));
+    CHECK(is_list(palgwern_tables_around(t, g, PALGWERN_COLUMNS, -3, hits), 3, (const uint32_t[]){0, 2, 6}));
+    CHECK(is_list(palgwern_tables_around(t, g, PALGWERN_COLUMNS, 1, hits), 1, (const uint32_t[]){6}));
+    CHECK(is_list(palgwern_tables_around(t, g, PALGWERN_COLUMNS, 32767, hits), 0, hits));
 }
 
 /* Of a number of placements that no sheet gives a run answers as many as fit. */
@@ -356,6 +426,23 @@ static void refused_by_stores(size_t column_bytes, size_t row_bytes) {
     }
 }
 
+static int line_refused(palgwern_line_answer answer, uint32_t number) {
+    return answer.number == number && answer.line == 0;
+}
+
+/* The nearest line's: 3 before 4, 4 before 10, 10 before 11. The layout's columns have sizes that are not definite. */
+static void refused_by_cursor(void) {
+    const uint8_t *items = tables.bytes;
+    palgwern_grid forged = panel.grid;
+    forged.columns.implicit.positive = 10001;
+    CHECK(line_refused(palgwern_tables_nearest_line(&tables, panel.grid, 2, 0x477fff01), PALGWERN_VALUE));
+    CHECK(line_refused(palgwern_tables_nearest_line(&tables, panel.grid, PALGWERN_COLUMNS, 0x80000000), PALGWERN_VALUE));
+    CHECK(line_refused(palgwern_tables_nearest_line(&tables, panel.grid, 2, 0x477fff00), PALGWERN_COUNT));
+    CHECK(line_refused(palgwern_nearest_line(forged, tables.words, PALGWERN_COLUMNS, items, 0, 0), PALGWERN_COUNT));
+    CHECK(line_refused(palgwern_nearest_line(panel.grid, tables.words, PALGWERN_COLUMNS, items, 34, 0), PALGWERN_SHORT));
+    CHECK(line_refused(palgwern_nearest_line(panel.grid, tables.words, PALGWERN_COLUMNS, items, 35, 0), PALGWERN_INDEFINITE));
+}
+
 /* Fewer item bytes than tracks, or words for no record. */
 static void refused_by_records(void) {
     const uint8_t *items = tables.bytes;
@@ -364,6 +451,32 @@ static void refused_by_records(void) {
     CHECK(count_refused(palgwern_records(panel.grid, tables.words, PALGWERN_COLUMNS, items, 34, 0, some, 30), PALGWERN_SHORT));
     CHECK(count_refused(palgwern_records(panel.grid, tables.words, PALGWERN_ROWS, items, 24, 0, some, 30), PALGWERN_SHORT));
     CHECK(count_refused(palgwern_records(panel.grid, tables.words, PALGWERN_COLUMNS, items, 0, 71, some, 0), PALGWERN_COUNT));
+}
+
+/* Lists: 3 for an end of a span, 4 for an axis, a count and a line, 9 for line 0, 10 for items and stores, and 11 after all of these. */
+static void refused_lists(void) {
+    const palgwern_tables *t = &tables;
+    const uint8_t *items = tables.bytes, *c = tables.columnstore, *r = tables.rowstore;
+    size_t n = PALGWERN_STORE_BYTES;
+    const uint32_t wide = bits_of(65536), minus = bits_of(-0.0f);
+    palgwern_grid g = panel.grid, forged = panel.grid;
+    forged.columns.size.explicit_count = PALGWERN_TRACKS + 1;
+    CHECK(count_refused(palgwern_tables_within(t, g, PALGWERN_COLUMNS, 0, 0, hits), PALGWERN_INDEFINITE));
+    CHECK(count_refused(palgwern_tables_around(t, g, PALGWERN_ROWS, 1, hits), PALGWERN_INDEFINITE));
+    CHECK(count_refused(palgwern_placements_within(g, t->words, t->bytes, c, n, r, n - 1, 0, items, 35, 0, 0, hits), PALGWERN_SHORT));
+    CHECK(count_refused(palgwern_placements_within(g, t->words, t->bytes, c, n - 1, r, n, 0, items, 35, 0, 0, hits), PALGWERN_SHORT));
+    CHECK(count_refused(palgwern_placements_within(g, t->words, t->bytes, c, n, r, n, 0, items, 34, 0, 0, hits), PALGWERN_SHORT));
+    CHECK(count_refused(palgwern_placements_around(g, t->words, t->bytes, c, n, r, n, 0, items, 34, 1, hits), PALGWERN_SHORT));
+    CHECK(count_refused(palgwern_placements_around(g, t->words, t->bytes, c, 0, r, 0, 0, items, 0, 0, hits), PALGWERN_ZERO_LINE));
+    CHECK(count_refused(palgwern_placements_around(g, t->words, t->bytes, c, 0, r, 0, 0, items, 0, 32768, hits), PALGWERN_COUNT));
+    CHECK(count_refused(palgwern_tables_around(t, g, PALGWERN_COLUMNS, -32769, hits), PALGWERN_COUNT));
+    CHECK(count_refused(palgwern_tables_around(t, forged, PALGWERN_COLUMNS, 0, hits), PALGWERN_COUNT));
+    CHECK(count_refused(palgwern_tables_around(t, g, 2, 0, hits), PALGWERN_COUNT));
+    CHECK(count_refused(palgwern_tables_within(t, g, 2, 0, 0, hits), PALGWERN_COUNT));
+    CHECK(count_refused(palgwern_tables_within(t, g, 2, wide, 0, hits), PALGWERN_VALUE));
+    CHECK(count_refused(palgwern_tables_within(t, forged, PALGWERN_COLUMNS, 0, 0, hits), PALGWERN_COUNT));
+    CHECK(count_refused(palgwern_tables_within(t, forged, PALGWERN_COLUMNS, 0, wide, hits), PALGWERN_VALUE));
+    CHECK(count_refused(palgwern_tables_within(t, g, PALGWERN_COLUMNS, minus, 0, hits), PALGWERN_VALUE));
 }
 
 static void refusals(void) {
@@ -377,6 +490,8 @@ static void refusals(void) {
     refused_by_stores(PALGWERN_STORE_BYTES, PALGWERN_STORE_BYTES - 1);
     refused_by_stores(0, 0);
     refused_by_records();
+    refused_by_cursor();
+    refused_lists();
 }
 
 /* ---- display: what answers is that of the sheet call where that accepts, and areas may share cells */
@@ -452,6 +567,9 @@ static void *call(void *number) {
     case 9: palgwern_tables_placements(&tables, panel.grid, 0, numbers); break;
     case 10: palgwern_tables_names(&tables, panel.grid, 1, names); break;
     case 11: palgwern_tables_display(&tables, sheet, sheet_bytes); break;
+    case 12: palgwern_tables_nearest_line(&tables, panel.grid, 0, 0); break;
+    case 13: palgwern_tables_within(&listed, listed_grid, 0, 0, 0, hits); break;
+    case 14: palgwern_tables_around(&listed, listed_grid, 0, 1, hits); break;
     }
     return NULL;
 }
@@ -473,11 +591,12 @@ static size_t stack_of(int number) {
 
 static void stacks(void) {
     static const char *const names[] = {"", "read_sheet", "enter_name", "explicit_size", "line_count", "record_count",
-        "resolve_placement", "line_name", "records", "resolve_placements", "line_names", "display_sheet"};
-    static const size_t kibibytes[] = {0, 448, 48, 48, 48, 48, 48, 48, 48, 160, 160, 448};
+        "resolve_placement", "line_name", "records", "resolve_placements", "line_names", "display_sheet", "nearest_line",
+        "placements_within", "placements_around"};
+    static const size_t kibibytes[] = {0, 448, 48, 48, 48, 48, 48, 48, 48, 160, 160, 448, 48, 160, 160};
     size_t none = stack_of(0);
     printf("stack in bytes:");
-    for (int i = 1; i < 12; i++) {
+    for (int i = 1; i < 15; i++) {
         size_t used = stack_of(i) - none;
         printf(" %s %zu", names[i], used);
         CHECK(used <= kibibytes[i] * 1024);
@@ -493,8 +612,10 @@ int main(int count, char **words) {
     layout();
     answers();
     records();
+    nearest();
     placements();
     many_placements();
+    lists();
     marks();
     line_names(PALGWERN_COLUMNS);
     refusals();

@@ -110,6 +110,24 @@ fn sources() {
     assert!(records.iter().step_by(2).all(|record| record.gutter && record.source == Source::Gutter));
 }
 
+/// The lines of tracks of 20, 100, half of 200 and 20 with gaps of 10: at 0, 30, 140, 250 and 270, the second the first explicit one.
+#[test]
+fn nearest_lines() {
+    let sheet = b"axis\tc\t43480000\tmax\tlen\t41200000\ntrack\tc\tlen\t42c80000\tlen\t42c80000\n\
+        track\tc\tpct\t3f000000\tpct\t3f000000\nspare\tc\tlen\t41a00000\tlen\t41a00000\nextra\tc\t1\t1\n\
+        track\tr\tpct\t3f000000\tpct\t3f000000\n";
+    let panel = Panel::read(sheet).unwrap();
+    for (cursor, line) in [(0.0, -4), (15.0, -4), (16.0, 1), (140.0, 2), (260.0, 3), (260.5, 4), (65_535.0, 4)] {
+        assert_eq!(panel.nearest_line(Axis::Columns, cursor), Ok(line));
+    }
+    assert_eq!(panel.nearest_line(Axis::Columns, -0.0).err(), refusal(Word::Value, 0));
+    assert_eq!(panel.nearest_line(Axis::Columns, f32::NAN).err(), refusal(Word::Value, 0));
+    assert_eq!(panel.nearest_line(Axis::Columns, 65_536.0).err(), refusal(Word::Value, 0));
+    assert_eq!(panel.nearest_line_with(Axis::Columns, &[0; 3], 0.0).err(), refusal(Word::Short, 0));
+    assert_eq!(panel.nearest_line_with(Axis::Rows, &[], 0.0).err(), refusal(Word::Short, 0));
+    assert_eq!(panel.nearest_line(Axis::Rows, 0.0).err(), refusal(Word::Indefinite, 0));
+}
+
 #[test]
 fn refusals() {
     assert_eq!(Panel::read(&vec![b'x'; 32_769]).err(), refusal(Word::Unread, 0));
@@ -219,6 +237,30 @@ fn marks() {
     let second = Placement { axis: Axis::Columns, start: End::Span(7), end: End::Line(-10002), startheld: false, endheld: true };
     assert_eq!(panel.resolved(), [first, second]);
     assert_eq!((panel.placement(0), panel.placement(1)), (Ok(first), Ok(second)));
+}
+
+/// Lines of the columns at 0, 12, 27, 52, 87 and 94: a negative track of 7, then 10, 20 and 30, and a positive one of 7, with gaps of 5.
+const POSITIONS: &[u8] = b"axis\tc\t-\tmax\tlen\t40a00000\ntrack\tc\tlen\t41200000\tlen\t41200000\n\
+track\tc\tlen\t41a00000\tlen\t41a00000\ntrack\tc\tlen\t41f00000\tlen\t41f00000\nspare\tc\tlen\t40e00000\tlen\t40e00000\nextra\tc\t1\t1\n\
+place\tc\tline\t-\t1\tline\t-\t3\nplace\tr\tline\t-\t1\tline\t-\t2\nplace\tc\tline\t-\t3\tline\t-\t1\nplace\tc\tline\t-\t2\tline\t-\t2\n\
+place\tc\tline\t-\t0\tline\t-\t2\nplace\tc\tline\t-\t-5\tline\t-\t-1\nplace\tc\tline\t-\t5\tline\t-\t5\nplace\tc\tline\t-\t1\tline\t-\t32767\n";
+
+#[test]
+fn lists() {
+    let panel = Panel::read(POSITIONS).unwrap();
+    let within = |axis, low, high| panel.within(axis, low, high).map(|list| list.collect::<Vec<u32>>());
+    let around = |axis, line| panel.around(axis, line).map(|list| list.collect::<Vec<u32>>());
+    assert_eq!(within(Axis::Columns, 12.0, 52.0), Ok(vec![0, 2, 3]));
+    assert_eq!(within(Axis::Columns, 12.5, 52.0), Ok(vec![3]));
+    assert_eq!(within(Axis::Columns, 0.0, 65_535.0), Ok(vec![0, 2, 3, 5]));
+    assert_eq!((within(Axis::Columns, 52.0, 12.0), within(Axis::Rows, 0.0, 9.0)), (Ok(vec![]), Ok(vec![])));
+    assert_eq!((around(Axis::Columns, 2), around(Axis::Columns, -3)), (Ok(vec![0, 2, 5]), Ok(vec![0, 2, 5])));
+    assert_eq!((around(Axis::Columns, 1), around(Axis::Columns, i16::MAX)), (Ok(vec![5]), Ok(vec![])));
+    assert_eq!(within(Axis::Columns, 0.0, f32::NAN).err(), refusal(Word::Value, 0));
+    assert_eq!(around(Axis::Columns, 0).err(), refusal(Word::ZeroLine, 0));
+    let other = Panel::read(LAYOUT).unwrap();
+    assert_eq!(other.within(Axis::Columns, 0.0, 1.0).err(), refusal(Word::Indefinite, 0));
+    assert_eq!(other.around(Axis::Rows, 1).err(), refusal(Word::Indefinite, 0));
 }
 
 #[test]

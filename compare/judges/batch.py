@@ -14,10 +14,11 @@ class Batch:
     def start(self):
         self.process = subprocess.Popen([self.path, "--batch"], stdin=subprocess.PIPE, stdout=subprocess.PIPE)
 
-    def send(self, sheet, calls, word=b"sheet"):
-        """A sheet and calls, each (axis, line, name as bytes)."""
+    def send(self, sheet, calls, word=b"sheet", questions=None):
+        """A sheet and calls, each (axis, line, name as bytes); of what answers them, questions too."""
         rows = b"".join(b"%s\t%d\t%s\n" % (letter.encode(), line, name) for letter, line, name in calls)
-        self.process.stdin.write(b"%s %d\n%senter %d\n%s" % (word, len(sheet), sheet, len(calls), rows))
+        asked = b"" if questions is None else b"ask %d\n" % len(questions) + b"".join(row.encode() + b"\n" for row in questions)
+        self.process.stdin.write(b"%s %d\n%senter %d\n%s%s" % (word, len(sheet), sheet, len(calls), rows, asked))
 
     def read_answer(self):
         """The answer as lines."""

@@ -2,7 +2,9 @@
 import re
 
 import css
+import exact_cursor
 import model
+import questions
 import reader
 import rules
 from batch import Batch, Ended
@@ -261,8 +263,9 @@ def compare(sheet, calls, rust, judged=(), expected=None):
         found = (answer.refused.number, answer.refused.line) if answer.refused else (0, 0)
         if found != expected:
             result.differences.append(f"damage: model {found}, made for {expected}")
+    rows = questions.asked(sheet, answer) if judged else []
     for one in judged:
-        difference = first_difference(one.name, one.expected(sheet, answer), one.ask(sheet, calls))
+        difference = first_difference(one.name, one.expected(sheet, answer, rows), one.ask(sheet, calls, rows))
         result.differences += [difference] if difference else []
     return result
 
@@ -305,6 +308,8 @@ def compare_accepted(answer, rust, sheet):
     differences = [first_difference("Rust", full, lines)]
     if not differences[0]:
         differences.append(calls_difference(answer, sheet, lines))
+    rows = questions.made(sheet, state)
+    differences.append(exact_cursor.difference(state, answer.output, rows, questions.answer_lines(state, rows)))
     css_found, demanded = css_differences(state)
     kind = "accepted" + (", an invalid template" if invalid_letters(state.panel) else "") + (", third demand's conditions hold" if demanded else "")
     return Comparison(kind, differences + css_found)

@@ -6,6 +6,7 @@ import subprocess
 
 import build
 import model
+import questions
 from batch import Batch, Ended
 from build import CannotCompare
 
@@ -27,12 +28,12 @@ class Program:
             raise CannotCompare(f"no comparison: the panel program {path} can't be run")
         self.path = path
 
-    def expected(self, sheet, answer):
+    def expected(self, sheet, answer, rows):
         """The model's output before any entry call, cut at line feeds."""
         plain = model.Answer(sheet) if answer.calls and not answer.refused else answer
         return plain.output + [""]
 
-    def ask(self, sheet, calls):
+    def ask(self, sheet, calls, rows):
         return self.sheet_answer(sheet, calls)
 
     def sheet_answer(self, sheet, calls):
@@ -45,27 +46,29 @@ class Program:
         pass
 
 
-def whole_answer(answer):
-    return answer.full_answer() + ([] if answer.refused else model.count_lines(answer.state))
+def whole_answer(answer, rows):
+    if answer.refused:
+        return answer.full_answer()
+    return answer.full_answer() + model.count_lines(answer.state) + questions.answer_lines(answer.state, rows)
 
 
 class Library(Batch):
     """The static library: a running process that makes its calls."""
     name = "library"
 
-    def expected(self, sheet, answer):
-        """The model's whole answer: entry calls, output, names, the pair of areas that share a cell and the number of entries; then that
-        of the display call."""
-        return whole_answer(answer) + [DISPLAYED] + whole_answer(model.displayed(sheet, answer))
+    def expected(self, sheet, answer, rows):
+        """The model's whole answer: entry calls, output, names, the pair of areas that share a cell, the number of entries and the answers
+        to questions; then that of the display call."""
+        return whole_answer(answer, rows) + [DISPLAYED] + whole_answer(model.displayed(sheet, answer), rows)
 
-    def ask(self, sheet, calls):
+    def ask(self, sheet, calls, rows):
         """Its whole answer, and that of its display call."""
-        return self.sheet_answer(sheet, calls) + [DISPLAYED] + self.sheet_answer(sheet, [], b"display")
+        return self.sheet_answer(sheet, calls, rows) + [DISPLAYED] + self.sheet_answer(sheet, [], rows, b"display")
 
-    def sheet_answer(self, sheet, calls, word=b"sheet"):
+    def sheet_answer(self, sheet, calls, rows=(), word=b"sheet"):
         """The answer of one call on a sheet; where it ended, how, and it is started again."""
         try:
-            self.send(sheet, calls, word)
+            self.send(sheet, calls, word, rows)
             return self.read_answer()
         except (Ended, BrokenPipeError):
             status = self.process.wait()

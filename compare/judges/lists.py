@@ -8,7 +8,7 @@ import re
 import browser_sheets
 import build
 
-REPLAYED = ("cases", "limits", "areas", "short", "entries", "accepted", "refused", "large", "differences", "lines")
+REPLAYED = ("cases", "limits", "areas", "short", "entries", "accepted", "refused", "large", "differences", "cursor", "lines")
 WRONG = "wrong"  # replayed after them: what is wrong on purpose
 DIFFERENCES = os.path.join(build.REPOSITORY, "docs", "DIFFERENCES.md")
 VECTORS = os.path.join(build.REPOSITORY, "crates", "vectors")
@@ -50,8 +50,14 @@ class Block:
         self.display = word == b"display"
         self.sheet = reading.part(size)
         self.rows = [reading.line() for _ in range(int(reading.head()[1]))]
-        self.asked = reading.data[start:reading.at]
+        self.questions = []
+        asked = reading.at
         self.word, size = reading.head()
+        if self.word == b"ask":
+            self.questions = [reading.line() for _ in range(int(size))]
+            asked = reading.at
+            self.word, size = reading.head()
+        self.asked = reading.data[start:asked]
         self.lines = reading.part(size).decode().splitlines()
 
     def written(self, name, lines):
@@ -122,6 +128,7 @@ def totals():
     counts = {
         "blocks": len(read),
         "calls": sum(len(block.rows) for block in read),
+        "questions": sum(len(block.questions) for block in read),
         "rows": sum(len(rows) for _, _, rows in found),
         "different": len(differs),
     }

@@ -322,6 +322,36 @@ class Maker:
         lines = [areas.line(str(number), area) for number, area in enumerate(drawn)] + [areas.line("more", more)]
         return lines + self.placement_lines(), [], (number, 65)
 
+    def cursor_template(self, letter):
+        """Components whose tracks all have a definite size beside an inner size."""
+        lines = [line for _ in range(self.below(5)) for line in self.name_lines(letter, 0.3) + self.plain_lines(letter, 0.2)]
+        if self.chance(0.5):
+            lines += self.automatic_lines(letter, 0.2)
+        return lines + self.name_lines(letter, 0.3)
+
+    def cursor_axis(self, letter):
+        """Spare sizes that are definite too, implicit tracks and items."""
+        lines = [f"spare\t{letter}\t{self.track(True)}" for _ in range(self.random.randint(1, 3))]
+        lines.append(f"extra\t{letter}\t{self.below(4)}\t{self.below(4)}")
+        return lines + [f"item\t{letter}\t{self.below(10)}" for _ in range(self.random.randrange(5))]
+
+    def cursor_end(self):
+        if self.chance(0.6):
+            return f"line\t-\t{self.random.randint(-7, 7)}"
+        return self.end()
+
+    def cursor(self):
+        """Panels whose tracks mostly have definite sizes, small whole ones or any, with many placements on lines of the grid."""
+        self.whole = self.chance(0.7)
+        records = []
+        for letter in "cr":
+            inner = "-" if self.chance(0.08) else bits(float(self.pick([0, 1, 5, 10, 20, 50, 100, 300]))) if self.whole else self.length()
+            gap = "len\t" + bits(float(self.pick([0, 0, 1, 2, 5]))) if self.chance(0.8) else self.fixed_size()
+            records.append(f"axis\t{letter}\t{inner}\t{self.pick(['max', 'min'])}\t{gap}")
+        runs = [run(letter) for letter in "cr" for run in (self.cursor_template, self.cursor_axis)]
+        placements = [f"place\t{self.pick('ccr')}\t{self.cursor_end()}\t{self.cursor_end()}" for _ in range(self.random.randrange(14))]
+        return records + self.area_lines() + self.mixed(*runs, placements), self.calls(), None
+
     def tie(self):
         """A template whose repetitions depend on each rounding, found by search."""
         letter = self.pick("cr")
@@ -546,7 +576,7 @@ class Maker:
         return damage.spoiled(self.random, self.sheet_lines()), self.calls(), None
 
 
-WEIGHTS = {"general": 600, "touching": 30, "overlap": 50, "invalid": 60, "tie": 100, "thin": 100, "large": 8, "over": 5, "far": 5, "writing_out": 12, "full": 12, "store": 2, "long": 3,
+WEIGHTS = {"general": 600, "touching": 30, "overlap": 50, "invalid": 60, "tie": 100, "thin": 100, "cursor": 60, "large": 8, "over": 5, "far": 5, "writing_out": 12, "full": 12, "store": 2, "long": 3,
            "damaged": 220, "spoiled": 60, "grouped": 0}  # asked for by name alone: the sheets of a seed stay
 
 

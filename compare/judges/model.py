@@ -1,6 +1,7 @@
 """The second judge: a sheet and direct entry calls, answered from the words of documents 01 and 02 alone."""
 from functools import cached_property
 
+import cursor
 import reader
 import rules
 
@@ -26,6 +27,16 @@ class State:
     def records(self):
         """The records of each axis, which no entry changes."""
         return {letter: rules.records(self.panel.axes[letter], self.explicit[letter]) for letter in LETTERS}
+
+    @cached_property
+    def cursors(self):
+        return {}
+
+    def cursor(self, letter):
+        """The lines of an axis for the cursor, which no entry changes."""
+        if letter not in self.cursors:
+            self.cursors[letter] = cursor.Axis(self, letter)
+        return self.cursors[letter]
 
     def names(self, letter):
         return rules.Names(self.entries[letter], self.panel.areas, letter, self.explicit[letter])

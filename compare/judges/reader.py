@@ -17,6 +17,7 @@ ITEMS = (0, 29999)
 REPEAT_COUNTS = (0, 65535)
 
 UNREAD, NAME, VALUE, COUNT, AREA, TWICE, LATE, CROWDED, ZERO_LINE, SHORT = range(1, 11)
+INDEFINITE = 11
 OVERLAP = 12
 # Which of the faults of a line is given: document 02 puts 12 after 6 and 7 and before 8.
 FAULT_ORDER = (UNREAD, NAME, VALUE, COUNT, AREA, TWICE, LATE, OVERLAP, CROWDED)
@@ -172,9 +173,7 @@ class Fields:
             self.faults.add(UNREAD)
             return Size(kind, 0)
         bits = int(text, 16)
-        largest = LARGEST_OF_KIND.get(kind, LARGEST_LENGTH)
-        # A comparison with a NaN is false; minus zero has its own bits.
-        if bits == 0x80000000 or not 0.0 <= binary32.from_bits(bits) <= largest:
+        if not in_range(bits, LARGEST_OF_KIND.get(kind, LARGEST_LENGTH)):
             self.faults.add(VALUE)
         return Size(kind, bits)
 
@@ -198,6 +197,11 @@ class Fields:
             return End(kind, name, self.whole(*SPANS))
         self.exactly(b"0")
         return End(kind, name, 0)
+
+
+def in_range(bits, largest):
+    """Whether bits are those of a value from 0 to the largest; a comparison with a NaN is false, and minus zero has its own bits."""
+    return bits != 0x80000000 and 0.0 <= binary32.from_bits(bits) <= largest
 
 
 def share_a_cell(one, other):

@@ -5,12 +5,14 @@ import random
 import sys
 
 import build
+import cursor_edges
 import damage
 import differences
 import edges
 import lists
 import maker
 import model
+import questions
 import reader
 import rules
 import wrong_blocks
@@ -28,6 +30,8 @@ LONGEST_WRITTEN_OUT = 12000
 # Sheets of the family `grouped` in `large`, and the longest block that is kept.
 GROUPED = 40
 LONGEST_GROUPED = 15000
+# Sheets of the family `cursor` with questions.
+ASKED = 20
 # Sheets of each family in `areas`, each once more for the display call.
 DISPLAYED = {"touching": 20, "overlap": 60, "general": 20, "damaged": 20}
 CUT = {"large": 60, "far": 40, "over": 12, "writing_out": 20, "full": 4}
@@ -66,6 +70,10 @@ class Case:
         lines = [rules.with_source(line, beside) for line, beside in zip(lines, own, strict=True)]
         return [model.entry_line(number) for number in self.answer.numbers] + lines + self.answer.marks + self.answer.pair
 
+    def question_lines(self):
+        """The answers to the questions made for it."""
+        return questions.answer_lines(self.answer.state, questions.made(self.sheet, self.answer.state))
+
     def block(self, cut=False):
         lines = cut_lines(self.lines) if cut else self.lines
         expected = model.text_of(lines).encode()
@@ -85,6 +93,40 @@ def cut_lines(lines):
     """The lines without records and without empty name lists."""
     return [line for line in lines
             if not line[0].isdigit() and not (line.startswith("names") and line.count("\t") == 2)]
+
+
+def questions_block(name, sheet, calls, rows, display=False):
+    """A block with questions, which are answered after the entry calls, and nothing else but these and the pair of areas."""
+    answer = model.Answer(sheet, calls, display)
+    lines = [model.entry_line(number) for number in answer.numbers] + questions.answer_lines(answer.state, rows) + answer.pair
+    expected = model.text_of(lines).encode()
+    word = "display" if display else "sheet"
+    return (f"case {name}\n{word} {len(sheet)}\n".encode() + sheet + f"enter {len(calls)}\n".encode() + b"".join(map(call_line, calls))
+            + f"ask {len(rows)}\n".encode() + model.text_of(rows).encode() + f"expect {len(expected)}\n".encode() + expected)
+
+
+def edge_block(rust, name, lines, asked):
+    """Questions whose answers are written by hand."""
+    case = Case(name, damage.sheet_of(lines), [], rust)
+    rows = [row for row, _ in asked]
+    if questions.answer_lines(case.answer.state, rows) != [answer for _, answer in asked]:
+        raise build.CannotCompare(f"not recorded: {name} is answered otherwise than its edge says")
+    return questions_block(name, case.sheet, [], rows)
+
+
+def made_questions(rust):
+    """Sheets of the family `cursor` on which something is answered, with the questions made for each and its entry calls."""
+    answered = lambda case: not case.refused and any(not line.startswith("refused") for line in case.question_lines())
+    for case in taken(made_cases("cursor", rust, SEED + 7), ASKED, answered):
+        yield questions_block(case.name, case.sheet, case.calls, questions.made(case.sheet, case.answer.state))
+
+
+def write_cursor(rust):
+    """Questions of the cursor: the edges, one of them displayed, and made ones."""
+    blocks = [edge_block(rust, *edge) for edge in cursor_edges.edges()]
+    shared = damage.sheet_of(cursor_edges.SHARED)
+    blocks.append(questions_block("over areas that share a cell, displayed", shared, [], cursor_edges.SHARED_ROWS, display=True))
+    keep("cursor", blocks + list(made_questions(rust)))
 
 
 def keep(name, blocks):
@@ -364,6 +406,7 @@ def main():
     write_refused(rust)
     write_cut(rust)
     write_differences(rust)
+    write_cursor(rust)
     rust.close()
     write_wrong()
     lists.write_replayed()

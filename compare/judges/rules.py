@@ -488,21 +488,26 @@ def sources(axis, explicit):
     return ["n"] * axis.negative + template + ["g"] * (explicit - len(template)) + ["p"] * axis.positive
 
 
-def records(axis, explicit):
-    """The lines of the 2N + 1 records."""
+def record_sizes(axis, explicit):
+    """The sizes of the 2N + 1 records, a gutter first and then a track and a gutter in turn; None where one is collapsed."""
     tracks = all_tracks(axis, explicit)
-    source = sources(axis, explicit)
     collapsed = [fit and not holds_item(axis, place) for place, (_, fit) in enumerate(tracks)]
     gutters = collapsed_gutters(tracks, collapsed)
-    # One text for each track of the sheet, however often it is written.
-    texts = {key: sizes_text(False, track) for key, track in {id(track): track for track, _ in tracks}.items()}
-    gap = sizes_text(False, Track(axis.gap, axis.gap))
-    none = sizes_text(True, None)
-    lines = [f"0\tgutter\t{none if gutters[0] else gap}\t-"]
+    gap = Track(axis.gap, axis.gap)
+    sizes = [None if gutters[0] else gap]
     for place, (track, _) in enumerate(tracks):
-        lines.append(f"{2 * place + 1}\ttrack\t{none if collapsed[place] else texts[id(track)]}\t{source[place]}")
-        lines.append(f"{2 * place + 2}\tgutter\t{none if gutters[place + 1] else gap}\t-")
-    return lines
+        sizes += [None if collapsed[place] else track, None if gutters[place + 1] else gap]
+    return sizes
+
+
+def records(axis, explicit):
+    """The lines of the 2N + 1 records."""
+    source = sources(axis, explicit)
+    sizes = record_sizes(axis, explicit)
+    # One text for each track of the sheet, however often it is written.
+    texts = {key: sizes_text(track is None, track) for key, track in {id(track): track for track in sizes}.items()}
+    return [f"{index}\ttrack\t{texts[id(track)]}\t{source[index // 2]}" if index % 2 else f"{index}\tgutter\t{texts[id(track)]}\t-"
+            for index, track in enumerate(sizes)]
 
 
 def sizes_text(collapsed, track):

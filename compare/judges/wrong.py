@@ -5,6 +5,7 @@ from dataclasses import replace
 from unittest import mock
 
 import binary32
+import cursor
 import model
 import reader
 import rules
@@ -532,6 +533,155 @@ FOUND_BY_THE_LIBRARY = {
     "the marks swapped": (Names, "marks", marks_swapped),
     "a written line without its mark": (rules, "conversion_mark", no_conversion_mark),
     "a mark for each line past the explicit end": (Names, "line_mark", marked_past_the_end),
+}
+
+
+# Readings of the cursor: found by the edges whose answers are written by hand.
+
+def last_least(distances):
+    return len(distances) - 1 - distances[::-1].index(min(distances))
+
+
+def held_lines(settled, explicit):
+    """Lines held again."""
+    lines = right_own_lines(settled, explicit)
+    return lines and tuple(map(rules.held, lines))
+
+
+def line_0_is_line_1(settled, explicit):
+    return right_own_lines([(kind, number or 1) if kind == "line" else (kind, number) for kind, number in settled], explicit)
+
+
+def ends_left_out(position, low, high):
+    return low < position < high
+
+
+def span_ends_swapped(position, low, high):
+    return min(low, high) <= position <= max(low, high)
+
+
+def on_an_end_too(start, line, end):
+    return start <= line <= end
+
+
+def not_swapped(start, end):
+    return (start, start + 1) if start == end else (start, end)
+
+
+def equal_span_nothing(start, end):
+    return min(start, end), max(start, end)
+
+
+def equal_span_back(start, end):
+    """Equal lines span the track before them."""
+    return (start - 1, start) if start == end else (min(start, end), max(start, end))
+
+
+def explicit_lines_alone(self, line):
+    return 0 <= line <= self.explicit
+
+
+def ends_of_tracks_before(starts):
+    """A line at the end of the track before it."""
+    return starts[0:-1:2]
+
+
+def gutters_have_no_width(axis, explicit):
+    return [0.0 if index % 2 == 0 else measured for index, measured in enumerate(right_record_measures(axis, explicit))]
+
+
+def collapsed_as_written(axis, explicit):
+    with mock.patch.object(rules, "holds_item", lambda axis, place: True):
+        return right_record_measures(axis, explicit)
+
+
+def percentage_of_nothing(size, inner):
+    return rules.definite(size, 0.0 if inner is None else inner)
+
+
+def limit_has_a_size(size, inner):
+    return size.value() if size.kind == "fitl" else right_cursor_definite(size, inner)
+
+
+def minimum_alone(track, inner):
+    return cursor.definite(track.minimum, inner)
+
+
+def thin_is_one(track, inner):
+    measured = right_cursor_measure(track, inner)
+    return None if measured is None else max(measured, rules.THINNEST)
+
+
+def distance_exact(position, at):
+    return abs(position - at)
+
+
+def indefinite_first(self, items, stores=()):
+    return reader.INDEFINITE if self.positions is None else right_refusal(self, items, stores)
+
+
+def stores_not_looked_at(self, items, stores=()):
+    return right_refusal(self, items)
+
+
+def items_not_looked_at(self, items, stores=()):
+    return right_refusal(self, self.tracks, stores)
+
+
+def every_axis_listed(state, letter, axis, is_hit):
+    """Placements of the other axis too."""
+    names = state.names(letter)
+    lines = [cursor.own_lines(names.resolve(placement), axis.explicit) for placement in state.panel.placements]
+    return [number for number, own in enumerate(lines) if own and all(map(axis.has, own)) and is_hit(*own)]
+
+
+def numbered_within_the_axis(state, letter, axis, is_hit):
+    own = [number for number, placement in enumerate(state.panel.placements) if placement.axis == letter]
+    return [own.index(number) for number in right_listed(state, letter, axis, is_hit)]
+
+
+def any_bits(bits):
+    return True
+
+
+def minus_zero_too(bits):
+    return bits == 0x80000000 or right_is_length(bits)
+
+
+right_own_lines = cursor.own_lines
+right_record_measures = cursor.record_measures
+right_cursor_definite = cursor.definite
+right_cursor_measure = cursor.measure
+right_refusal = cursor.Axis.refusal
+right_listed = cursor.listed
+right_is_length = cursor.is_length
+
+FOUND_BY_EDGES = {
+    "the higher line on a tie": (cursor, "first_least", last_least),
+    "lines held again": (cursor, "own_lines", held_lines),
+    "line 0 taken as line 1": (cursor, "own_lines", line_0_is_line_1),
+    "the ends of a span left out": (cursor, "lies_within", ends_left_out),
+    "the ends of a span swapped": (cursor, "lies_within", span_ends_swapped),
+    "a given line on an end listed": (cursor, "lies_between", on_an_end_too),
+    "reversed lines in no list": (cursor, "in_order", not_swapped),
+    "equal lines spanning nothing": (cursor, "in_order", equal_span_nothing),
+    "equal lines spanning the track before": (cursor, "in_order", equal_span_back),
+    "only explicit lines on the grid": (cursor.Axis, "has", explicit_lines_alone),
+    "a line at the end of the track before it": (cursor, "line_positions", ends_of_tracks_before),
+    "gutters without width": (cursor, "record_measures", gutters_have_no_width),
+    "collapsed tracks as written": (cursor, "record_measures", collapsed_as_written),
+    "a percentage without an inner size as 0": (cursor, "definite", percentage_of_nothing),
+    "a fit-content limit as a size": (cursor, "definite", limit_has_a_size),
+    "a track measured by its minimum": (cursor, "measure", minimum_alone),
+    "thin tracks measured as 1": (cursor, "measure", thin_is_one),
+    "distances that are not rounded": (cursor, "distance", distance_exact),
+    "11 before 10": (cursor.Axis, "refusal", indefinite_first),
+    "short stores not refused": (cursor.Axis, "refusal", stores_not_looked_at),
+    "short items not refused": (cursor.Axis, "refusal", items_not_looked_at),
+    "placements of both axes listed": (cursor, "listed", every_axis_listed),
+    "placements numbered within their axis": (cursor, "listed", numbered_within_the_axis),
+    "any cursor answered": (cursor, "is_length", any_bits),
+    "minus zero a length": (cursor, "is_length", minus_zero_too),
 }
 
 

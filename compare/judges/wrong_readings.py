@@ -1,8 +1,11 @@
 """Puts each wrong reading into the model and shows that the comparison finds it."""
 
 import build
+import cursor_edges
+import damage
 import maker
 import model
+import questions
 import wrong
 from compare import Rust, compare, first_difference
 from judged import LIBRARY, Library, build_library, find
@@ -18,6 +21,9 @@ FROM_CSS = ("CSS",)
 NOT_BY_THE_LIBRARY = {"the gaps of tracks past 10,000 counted": "a panel of more than 10,000 tracks is refused by 4"}
 
 
+EVERY = (wrong.FOUND_BY_THE_RUST, wrong.FOUND_BY_DAMAGE, wrong.FOUND_BY_RECOUNT, wrong.FOUND_BY_CSS, wrong.FOUND_BY_EDGES, wrong.FOUND_BY_THE_LIBRARY)
+
+
 class Remembered:
     """A process that is asked once for each sheet."""
 
@@ -25,10 +31,10 @@ class Remembered:
         self.process = process
         self.known = {}
 
-    def ask(self, sheet, calls):
+    def ask(self, sheet, calls, *rows):
         key = (sheet, tuple(calls))
         if key not in self.known:
-            lines = self.process.ask(sheet, calls)
+            lines = self.process.ask(sheet, calls, *rows)
             if len(lines) > 2000:
                 return lines
             self.known[key] = lines
@@ -53,13 +59,32 @@ class ByTheLibrary:
     starts = (Library.name,)
     shrinks = False
 
-    def __init__(self, process):
+    def __init__(self, process, sheets):
         self.process = process
         self.remembered = Remembered(process)
+        # Made before any reading is put in place.
+        self.rows = {sheet: questions.asked(sheet, model.Answer(sheet)) for sheet, *_ in sheets}
 
     def found(self, sheet, calls, expected):
-        own = self.process.expected(sheet, model.Answer(sheet, calls))
-        difference = first_difference(Library.name, own, self.remembered.ask(sheet, calls))
+        rows = self.rows[sheet]
+        own = self.process.expected(sheet, model.Answer(sheet, calls), rows)
+        difference = first_difference(Library.name, own, self.remembered.ask(sheet, calls, rows))
+        return [difference] if difference else []
+
+
+def by_hand():
+    """The edges: each with the answers that are written by hand."""
+    return [(damage.sheet_of(lines), rows, None) for _, lines, rows in cursor_edges.edges()]
+
+
+class ByHand:
+    """The difference of one edge from its answers that are written by hand."""
+    starts = ("edge",)
+    shrinks = False
+
+    def found(self, sheet, rows, expected):
+        own = questions.answer_lines(model.Answer(sheet).state, [row for row, _ in rows])
+        difference = first_difference("edge", own, [answer for _, answer in rows])
         return [difference] if difference else []
 
 
@@ -114,10 +139,10 @@ def try_library(sheets):
     print("found by the library's answers:")
     for name, reason in NOT_BY_THE_LIBRARY.items():
         print(f"  none | {name} | {reason}")
-    readings = {**wrong.FOUND_BY_THE_RUST, **wrong.FOUND_BY_DAMAGE, **wrong.FOUND_BY_RECOUNT, **wrong.FOUND_BY_CSS, **wrong.FOUND_BY_THE_LIBRARY}
+    readings = {name: reading for readings in EVERY for name, reading in readings.items()}
     asked = {name: reading for name, reading in readings.items() if name not in NOT_BY_THE_LIBRARY}
     library = Library(build_library(archive))
-    missed = try_all(asked, sheets, ByTheLibrary(library))
+    missed = try_all(asked, sheets, ByTheLibrary(library, sheets))
     library.close()
     return missed
 
@@ -132,9 +157,10 @@ def main():
     missed += try_all(wrong.FOUND_BY_DAMAGE, sheets, ByTheJudges(asked, FROM_A_DAMAGE))
     missed += try_all(wrong.FOUND_BY_RECOUNT, sheets, ByTheJudges(asked, FROM_THE_RECOUNT))
     missed += try_all(wrong.FOUND_BY_CSS, sheets, ByTheJudges(asked, FROM_CSS))
+    missed += try_all(wrong.FOUND_BY_EDGES, by_hand(), ByHand())
     rust.close()
     missed += try_library(sheets)
-    count = sum(map(len, (wrong.FOUND_BY_THE_RUST, wrong.FOUND_BY_DAMAGE, wrong.FOUND_BY_RECOUNT, wrong.FOUND_BY_CSS, wrong.FOUND_BY_THE_LIBRARY)))
+    count = sum(map(len, EVERY))
     print(f"{count} wrong readings, {missed} not found")
     return 1 if missed else 0
 

@@ -53,6 +53,12 @@ pub fn calls(input: &mut impl BufRead) -> Vec<Call> {
     (0..count).map(|_| call(&line(input).expect("an entry is due"))).collect()
 }
 
+/// The questions of a head `ask COUNT`, each a line.
+pub fn questions(input: &mut impl BufRead) -> Vec<String> {
+    let count = number(input, "ask").expect("the questions are due");
+    (0..count).map(|_| String::from_utf8(line(input).expect("a question is due")).expect("a question is text")).collect()
+}
+
 /// The sheets of a recorded list with their calls.
 pub fn recorded(mut input: impl BufRead) -> Vec<(Vec<u8>, Vec<Call>)> {
     let mut found = Vec::new();

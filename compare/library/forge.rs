@@ -2,6 +2,7 @@
 use crate::blocks::recorded;
 use crate::calls::Numbers;
 use crate::chance::Chance;
+use crate::cursor;
 use crate::forging::{Forged, Sheets, KINDS};
 use crate::lent::{ITEMS, RUN, TEXT};
 use crate::palgwern::Grid;
@@ -18,10 +19,10 @@ const SHOWN: u64 = 20;
 /// Seconds after which a call is said not to end.
 const PATIENCE: u64 = 120;
 /// Calls of each panel, by name; those that look at the tables are made more often.
-const CALLS: [&str; 19] = [
+const CALLS: [&str; 24] = [
     "read_sheet", "display_sheet", "enter_name", "enter_name", "explicit_size", "line_count", "record_count", "resolve_placement", "resolve_placement",
     "resolve_placement", "resolve_placement", "line_name", "line_name", "line_name", "line_name", "records", "records",
-    "resolve_placements", "line_names",
+    "resolve_placements", "line_names", "nearest_line", "placements_within", "placements_within", "placements_around", "placements_around",
 ];
 static CALLS_MADE: AtomicU64 = AtomicU64::new(0);
 
@@ -102,6 +103,10 @@ fn lend(call: &str, chance: &mut Chance, sheets: &Sheets, forged: &mut Forged, n
         "enter_name" => forged.lent.bytes[TEXT].fill_with(&a_name(chance)),
         "records" => lend_records(chance, forged, numbers),
         "resolve_placements" | "line_names" => runs::lend_run(call, &mut forged.lent),
+        "nearest_line" | "placements_within" | "placements_around" => {
+            lend_records(chance, forged, numbers);
+            cursor::lend_hits(&mut forged.lent);
+        }
         _ => (),
     }
 }
@@ -120,6 +125,9 @@ fn make(call: &str, forged: &Forged, numbers: Numbers) -> (u32, Promises) {
         "line_name" => promises::line_name(lent, state.grid, numbers),
         "resolve_placements" => runs::resolve_placements(lent, state.grid, numbers),
         "line_names" => runs::line_names(lent, state.grid, numbers),
+        "nearest_line" => cursor::nearest(lent, state.grid, cursor::numbers(call, numbers)),
+        "placements_within" => cursor::within(lent, state.grid, cursor::numbers(call, numbers)),
+        "placements_around" => cursor::around(lent, state.grid, cursor::numbers(call, numbers)),
         _ => promises::records(lent, state.grid, numbers),
     }
 }

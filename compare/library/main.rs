@@ -5,6 +5,7 @@ mod batch;
 mod blocks;
 mod calls;
 mod chance;
+mod cursor;
 mod forge;
 mod forging;
 mod lent;
@@ -12,6 +13,7 @@ mod lent;
 mod palgwern;
 mod planted;
 mod promises;
+mod questions;
 mod runs;
 
 fn number(word: &str) -> u64 {

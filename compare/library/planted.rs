@@ -5,7 +5,7 @@ use crate::palgwern::{raw, AREA_NAMES_START, PLACEMENT_NUMBERS};
 use std::sync::atomic::{AtomicUsize, Ordering};
 
 /// The faults, from 1 on.
-pub const FAULTS: [&str; 41] = [
+pub const FAULTS: [&str; 46] = [
     "a refused sheet changes a word",
     "a word that the tables held reaches the panel",
     "a sheet writes past the words",
@@ -47,6 +47,11 @@ pub const FAULTS: [&str; 41] = [
     "a display has another grid",
     "a display has no pair",
     "a refused display has a pair",
+    "a refused cursor has a line",
+    "a cursor outside a length's range is answered",
+    "a placement is listed twice",
+    "placements are listed on a refusal",
+    "a list goes on past its count",
 ];
 
 /// The fault in place, 0 for none.
@@ -153,6 +158,24 @@ pub fn in_placements(lent: &mut Lent, answer: &mut raw::CountAnswer) {
         21 if answer.count > 0 => lent.words[RUN].content_mut()[PLACEMENT_NUMBERS / 2 * answer.count as usize - 1] ^= 1,
         28 if answer.number == 0 => lent.words[RUN].write_past(7),
         29 if answer.number == 10 => answer.number = 0,
+        _ => (),
+    }
+}
+
+pub fn in_nearest(answer: &mut raw::LineAnswer) {
+    match planted() {
+        42 if answer.number != 0 => answer.line = 1,
+        43 if answer.number == 3 => (answer.number, answer.line) = (0, 1),
+        _ => (),
+    }
+}
+
+pub fn in_hits(lent: &mut Lent, answer: &mut raw::CountAnswer) {
+    let words = lent.words[RUN].content_mut();
+    match planted() {
+        44 if answer.count == 2 => words[0] &= 0xffff_ffff,
+        45 if answer.number == 11 => words[0] = 0,
+        46 if answer.number == 0 && answer.count < 250 => words[127] = 0,
         _ => (),
     }
 }

@@ -17,6 +17,7 @@ unread = 1
 abbrev pub name : ℕ
 name = 2
 
+-- a size outside its range; since document 02, Req 12, also an axis that lacks what a least resize is asked of
 abbrev pub value : ℕ
 value = 3
 
@@ -41,6 +42,10 @@ zeroLine = 9
 abbrev pub short : ℕ
 short = 10
 
--- document 02, request 03: two areas with a common cell
+-- document 02, Req 01: "refuses a track or gutter with no definite size by 11, after all older checks"
+abbrev pub indefinite : ℕ
+indefinite = 11
+
+-- document 02, Req 03: two areas with a common cell
 abbrev pub overlap : ℕ
 overlap = 12

@@ -1,4 +1,4 @@
-// The refusals of document 01's table and of document 02's requests, by number.
+// The refusals of document 01's table, and those that document 02 adds, by number.
 ghost use mathlib.Core.Path.{_≡_};
 ghost use Rattle.coordinates.specs.Refusals.{noRefusal, refusalOf};
 
@@ -6,7 +6,7 @@ ghost use Rattle.coordinates.specs.Refusals.{noRefusal, refusalOf};
 pub const UNREAD: u32 = 1;
 // name: outside the name range
 pub const NAME: u32 = 2;
-// value: a size outside its range
+// value: a size outside its range, or an axis that has no least resize to ask for
 pub const VALUE: u32 = 3;
 // count: a whole number outside its range
 pub const COUNT: u32 = 4;
@@ -22,6 +22,8 @@ pub const CROWDED: u32 = 8;
 pub const ZERO_LINE: u32 = 9;
 // short: a lent run or store that is too short
 pub const SHORT: u32 = 10;
+// indefinite: a track or gutter with no definite size (document 02, Req 01)
+pub const INDEFINITE: u32 = 11;
 // overlap: an area that shares a cell with an earlier one
 pub const OVERLAP: u32 = 12;
 

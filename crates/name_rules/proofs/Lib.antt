@@ -3,6 +3,7 @@ pub mod Tally
 pub mod Lines
 pub mod Names
 pub mod Resolve
+pub mod CssOrder
 pub mod Unique
 pub mod Held
 pub mod Exists

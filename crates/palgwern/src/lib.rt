@@ -10,6 +10,10 @@ ghost use Rattle.palgwern.specs.Names.{ShowsName};
 ghost use Rattle.library_numbers.specs.Records.{WrittenRun, recordsWritten};
 ghost use Rattle.library_names.specs.Lists.{listsWritten};
 ghost use Rattle.panel_resolving.specs.Placements.{WrittenNumbers, placementsWritten};
+
+mod cursor;
+mod hits;
+
 use axis_tables::layout::AXIS_BYTES;
 use coordinates::axis::axis_of;
 use coordinates::refusal::COUNT;

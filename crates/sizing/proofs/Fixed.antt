@@ -7,11 +7,7 @@ use Rattle.sizing.specs.declared.Sizing.the-variants.{Length, Percent, F
 use Rattle.sizing.specs.declared.MinMax.{MinMax}
 use Rattle.sizing.specs.declared.DefiniteSize.{DefiniteSize}
 use Rattle.sizing.specs.declared.DefiniteSize.the-variants.{Definite, Indefinite}
-use Rattle.sizing.specs.Definite.{definiteOf, raisedOr, trackValueOf, isFixed, fixedTrack}
-
-abbrev pub isDefinite : DefiniteSize → Bool
-isDefinite (Definite v) = true
-isDefinite Indefinite = false
+use Rattle.sizing.specs.Definite.{definiteOf, isDefinite, raisedOr, trackValueOf, isFixed, fixedTrack}
 
 pub fixed-definite : (size : Sizing) (inner : Float) → isDefinite (definiteOf size inner) ≡ isFixed size
 fixed-definite (Length v) inner = refl

@@ -141,7 +141,7 @@ sum-within (x ∷ xs) k t h p q =
     less : (k n : ℕ) → k + suc n < 16777216 → suc k < 16777216
     less k n h = omega arith
 
-sum-fits : (xs : List Float) (t : Float) → T (fits binary32 t) → T (fits binary32 (sumFrom t xs))
+pub sum-fits : (xs : List Float) (t : Float) → T (fits binary32 t) → T (fits binary32 (sumFrom t xs))
 unfolding sumFrom
 sum-fits [] t h = h
 sum-fits (x ∷ xs) t h = sum-fits xs (add binary32 t x) (add-fits binary32 t x)

@@ -19,6 +19,10 @@ definiteOf MaxContent inner = Indefinite
 definiteOf (FitContentLength v) inner = Indefinite
 definiteOf (FitContentPercent p) inner = Indefinite
 
+abbrev pub isDefinite : DefiniteSize → Bool
+isDefinite (Definite v) = true
+isDefinite Indefinite = false
+
 -- a maximum raised to a minimum
 abbrev pub raisedTo : Float → Float → Float
 raisedTo maximum minimum = cond (lt maximum minimum) minimum maximum

@@ -1,7 +1,7 @@
 // What a size measures in a definite inner size.
 ghost use mathlib.Core.Path.{_≡_};
 ghost use Rattle.sizing.specs.Words.{sizingOf, minMaxOf};
-ghost use Rattle.sizing.specs.Definite.{definiteOf, trackValueOf, gapOf};
+ghost use Rattle.sizing.specs.Definite.{definiteOf, raisedOr, trackValueOf, gapOf};
 use crate::DefiniteSize;
 use crate::Sizing;
 use crate::word::length_of;
@@ -37,13 +37,11 @@ pub fn definite_of_word(word: u64, inner: f32) -> DefiniteSize
     definite_value(size, inner)
 }
 
-// The definite maximum raised to the definite minimum, else the minimum, from the words of the two. The Rust's is `max.max(min)`:
-// at equal values either is the same bits, since no size in range is a NaN or minus zero (the law `neither-less`).
-pub fn track_definite_value(min: u64, max: u64, inner: f32) -> DefiniteSize
-    ensures { λ r. ⌜ r ≡ trackValueOf (minMaxOf min max) inner ⌝ }
+// The definite maximum raised to the definite minimum, else the minimum. The Rust's is `max.max(min)`: at equal values either is the
+// same bits, since no size in range is a NaN or minus zero (the law `neither-less`).
+pub fn raised(maximum: DefiniteSize, minimum: DefiniteSize) -> DefiniteSize
+    ensures { λ r. ⌜ r ≡ raisedOr maximum minimum ⌝ }
 {
-    let minimum = definite_of_word(min, inner);
-    let maximum = definite_of_word(max, inner);
     let DefiniteSize::Definite(high) = maximum else {
         return minimum;
     };
@@ -51,6 +49,15 @@ pub fn track_definite_value(min: u64, max: u64, inner: f32) -> DefiniteSize
         return maximum;
     };
     if high < low { minimum } else { maximum }
+}
+
+// What a track measures, from the words of its minimum and its maximum.
+pub fn track_definite_value(min: u64, max: u64, inner: f32) -> DefiniteSize
+    ensures { λ r. ⌜ r ≡ trackValueOf (minMaxOf min max) inner ⌝ }
+{
+    let minimum = definite_of_word(min, inner);
+    let maximum = definite_of_word(max, inner);
+    raised(maximum, minimum)
 }
 
 // A gap's length, or its percentage times the inner size; 0 for a kind that has no definite size.

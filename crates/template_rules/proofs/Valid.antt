@@ -10,8 +10,8 @@ use lib.Dec.{eqb}
 use borrow.Author.Tests.{eqb-true}
 use lib.ListN.{length, getD}
 use lib.Ieee.{Float}
-use Rattle.sizing.specs.Definite.{isFixed, fixedTrack, trackValueOf}
-use Rattle.sizing.proofs.Fixed.{isDefinite, fixed-track-definite}
+use Rattle.sizing.specs.Definite.{isDefinite, isFixed, fixedTrack, trackValueOf}
+use Rattle.sizing.proofs.Fixed.{fixed-track-definite}
 use Rattle.sizing.specs.declared.MinMax.{MinMax}
 use Rattle.template_rules.specs.Template.{Component}
 use Rattle.template_rules.specs.Counts.{isAutomatic, isEmpty, automaticCount, anyEmpty, allFixed, everyFixed}

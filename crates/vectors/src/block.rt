@@ -4,6 +4,7 @@ use crate::calls::call_lines;
 use crate::calls::lent;
 use crate::expected::seen_pair;
 use crate::expected::seen_refusal;
+use crate::input::ASK;
 use crate::input::CUT;
 use crate::input::DISPLAY;
 use crate::input::Head;
@@ -16,6 +17,7 @@ use crate::input::line_at;
 use crate::input::number_of;
 use crate::marks::seen_marks;
 use crate::names::seen_names;
+use crate::questions::seen_questions;
 use panel_tables::Grid;
 use panel_tables::Panel;
 use panel_tables::region::PANEL_BYTES;
@@ -24,7 +26,7 @@ use sheet_rules::DisplayAnswer;
 use sheet_rules::SheetAnswer;
 
 // Where the parts of a block lie: whether the lengths of stores are given, and these; whether the sheet is only displayed; the sheet, the
-// calls and the expected text.
+// calls, the questions where there are any, and the expected text.
 pub struct Block {
     pub given: bool,
     pub columnbytes: u32,
@@ -34,6 +36,9 @@ pub struct Block {
     pub sheetend: usize,
     pub calls: usize,
     pub callcount: u32,
+    pub asked: bool,
+    pub questions: usize,
+    pub questioncount: u32,
     pub cut: bool,
     pub text: usize,
     pub end: usize,
@@ -58,8 +63,29 @@ fn sheet_head(input: &[u8], stores: Head, first: usize) -> Head {
     head_at(input, first)
 }
 
+// The `ask` line, or the one of the expected text where there is none, after the calls.
+fn ask_head(input: &[u8], calls: Head) -> Head {
+    head_at(input, after_lines(input, calls.next, calls.number))
+}
+
+// How many questions there are.
+fn question_count(ask: Head) -> u32 {
+    if ask.word == ASK {
+        return ask.number;
+    }
+    0
+}
+
+// The line of the expected text, after the questions where there are any.
+fn text_head(input: &[u8], ask: Head) -> Head {
+    if ask.word == ASK {
+        return head_at(input, after_lines(input, ask.next, ask.number));
+    }
+    ask
+}
+
 // The expected text of a block.
-fn expected_of(input: &[u8], block: Block) -> &[u8] {
+pub fn expected_of(input: &[u8], block: Block) -> &[u8] {
     between(input, block.text, block.end)
 }
 
@@ -72,7 +98,8 @@ pub fn block_at(input: &[u8], at: usize) -> Block {
     let sheethead = sheet_head(input, stores, first);
     let sheetend = further(input, sheethead.next, sheethead.number);
     let calls = head_at(input, sheetend);
-    let texthead = head_at(input, after_lines(input, calls.next, calls.number));
+    let ask = ask_head(input, calls);
+    let texthead = text_head(input, ask);
     Block {
         given,
         columnbytes: number_of(text::part(lengths, 32, 1)),
@@ -82,6 +109,9 @@ pub fn block_at(input: &[u8], at: usize) -> Block {
         sheetend,
         calls: calls.next,
         callcount: calls.number,
+        asked: ask.word == ASK,
+        questions: ask.next,
+        questioncount: question_count(ask),
         cut: texthead.word == CUT,
         text: texthead.next,
         end: further(input, texthead.next, texthead.number),
@@ -128,7 +158,7 @@ fn display_block(
     )
 }
 
-// The answers of what was read or displayed: the place up to which the expected text is seen.
+// The answers of what was read or displayed, or the answers to questions: the place up to which the expected text is seen.
 fn seen_grid<'a>(
     input: &[u8],
     block: Block,
@@ -141,6 +171,18 @@ fn seen_grid<'a>(
 ) -> usize {
     let expected = expected_of(input, block);
     let cut = block.cut;
+    if block.asked {
+        return seen_questions(
+            input,
+            block,
+            seen,
+            grid,
+            words,
+            bytes,
+            columnstore,
+            rowstore,
+        );
+    }
     let last = seen_answer(
         expected,
         seen,

@@ -31,7 +31,7 @@ pub fn lent(store: &[u8], given: bool, count: u32) -> usize
     store.len()
 }
 
-fn axis_of(field: &[u8]) -> Axis {
+pub fn axis_of(field: &[u8]) -> Axis {
     if text::equal(field, b"c") {
         return Axis::Column;
     }

@@ -8,15 +8,17 @@ const MOST_NAMED: u64 = 64;
 pub struct Counts {
     pub blocks: u64,
     pub calls: u64,
+    pub questions: u64,
     pub rows: u64,
     pub different: u64,
 }
 
 // One block more.
-pub fn more_blocks(counts: Counts, calls: u32, same: bool) -> Counts {
+pub fn more_blocks(counts: Counts, calls: u32, questions: u32, same: bool) -> Counts {
     let mut after = counts;
     after.blocks = wrapping_add_u64(counts.blocks, 1);
     after.calls = wrapping_add_u64(counts.calls, calls as u64);
+    after.questions = wrapping_add_u64(counts.questions, questions as u64);
     if same {
         return after;
     }
@@ -41,6 +43,7 @@ fn print_count(word: &[u8], count: u64) {
 pub fn print_counts(counts: Counts) {
     print_count(b"blocks\t", counts.blocks);
     print_count(b"calls\t", counts.calls);
+    print_count(b"questions\t", counts.questions);
     print_count(b"rows\t", counts.rows);
     print_count(b"different\t", counts.different);
 }

@@ -24,6 +24,11 @@ pub fn seen_refusal(expected: &[u8], seen: usize, refusal: Refusal) -> usize {
     seen_part(expected, seen, &line[..count])
 }
 
+// The same for a question that is refused by a number.
+pub fn seen_refused(expected: &[u8], seen: usize, number: u32) -> usize {
+    seen_refusal(expected, seen, Refusal { number, line: 0 })
+}
+
 // The same for the pair of areas that share a cell, which has a line where it is not zeros.
 pub fn seen_pair(expected: &[u8], seen: usize, earlier: u32, later: u32) -> usize {
     if earlier == 0 {

@@ -1,6 +1,7 @@
 // The text of the lists: lines, their first words, and parts that are as long as a number says.
 ghost use Prim.Native.Nat.{_≤_};
 ghost use lib.ListN.{length};
+use text::Bits;
 use text::Count;
 
 // The first words of lines, by number.
@@ -11,6 +12,8 @@ pub const CUT: usize = 5;
 pub const LINES: usize = 6;
 
 pub const DISPLAY: usize = 7;
+
+pub const ASK: usize = 8;
 
 // A line that starts with a word and a number: both, and where the next line starts.
 pub struct Head {
@@ -61,6 +64,14 @@ pub fn number_of(field: &[u8]) -> u32 {
     }
 }
 
+// The bits that a field writes, all ones where it writes none.
+pub fn bits_of(field: &[u8]) -> u32 {
+    match text::read_bits(field) {
+        Bits::Unread => 4294967295,
+        Bits::Value(n) => n,
+    }
+}
+
 // The line at a place, without its line feed.
 pub fn line_at(input: &[u8], at: usize) -> &[u8] {
     between(input, at, text::find(input, at, 10))
@@ -70,7 +81,7 @@ pub fn line_at(input: &[u8], at: usize) -> &[u8] {
 pub fn head_at(input: &[u8], at: usize) -> Head {
     let line = line_at(input, at);
     let word = text::find_part(
-        b"case\nstores\nsheet\nenter\nexpect\ncut\nlines\ndisplay",
+        b"case\nstores\nsheet\nenter\nexpect\ncut\nlines\ndisplay\nask",
         10,
         text::part(line, 32, 0),
     );

@@ -1,4 +1,4 @@
-// Replays recorded lists from standard input. A block is a sheet, read or only displayed, entry calls and the expected answers; a row
+// Replays recorded lists from standard input. A block is a sheet, read or only displayed, entry calls, questions and the expected answers; a row
 // is the conversion of a grid line and back. Prints the first lines of those that differ, how many there are, and how many differ. Some
 // are wrong on purpose, and say so.
 mod answers;
@@ -8,9 +8,12 @@ mod calls;
 mod conversions;
 mod counts;
 mod expected;
+mod hits;
 mod input;
 mod marks;
 mod names;
+mod nearest;
+mod questions;
 mod replay;
 
 use counts::print_counts;

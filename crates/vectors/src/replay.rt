@@ -48,7 +48,7 @@ fn replay_block(
         print_different(counts, line_at(input, at));
     }
     Replayed {
-        counts: more_blocks(counts, block.callcount, same),
+        counts: more_blocks(counts, block.callcount, block.questioncount, same),
         next: block.end,
     }
 }
@@ -81,6 +81,7 @@ pub fn replay_all(
     let mut counts = Counts {
         blocks: 0,
         calls: 0,
+        questions: 0,
         rows: 0,
         different: 0,
     };

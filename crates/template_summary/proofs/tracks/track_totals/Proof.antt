@@ -3,11 +3,11 @@ use mathlib.Core.Path.{_≡_, sym, ap, _∙_}
 use mathlib.Core.Bool.{true, false}
 use lib.Ieee.{Float}
 use Rattle.sizing.specs.Words.{zero32, minMaxOf}
-use Rattle.sizing.specs.Definite.{trackValueOf, fixedTrack}
+use Rattle.sizing.specs.Definite.{isDefinite, trackValueOf, fixedTrack}
 use Rattle.sizing.specs.declared.MinMax.{MinMax}
 use Rattle.sizing.specs.declared.DefiniteSize.{DefiniteSize}
 use Rattle.sizing.specs.declared.DefiniteSize.the-variants.{Definite, Indefinite}
-use Rattle.sizing.proofs.Fixed.{isDefinite, fixed-track-definite}
+use Rattle.sizing.proofs.Fixed.{fixed-track-definite}
 use Rattle.template_rules.specs.Steps.{ofTrack}
 use borrow.Author.Needs.{needs}
 use Rattle.template_summary.proofs.tracks.track_totals.Statement.{statement}

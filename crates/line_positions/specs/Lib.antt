@@ -1,0 +1,3 @@
+-- What the contracts on positions of lines cite.
+pub mod Positions
+pub mod Steps

@@ -1,0 +1,6 @@
+-- Laws of the cursor on the lines of a panel.
+pub mod Carrying
+pub mod Places
+pub mod Answers
+pub mod Ranges
+pub mod Theorem
