@@ -26,7 +26,7 @@ extern "C" {
 enum palgwern_refusal {
     PALGWERN_UNREAD = 1,    /* unread: sheet too long, or a line of no form */
     PALGWERN_NAME = 2,      /* name: outside the name range */
-    PALGWERN_VALUE = 3,     /* value: a size outside its range */
+    PALGWERN_VALUE = 3,     /* value: a size outside its range; also an axis without what a least resize is asked of */
     PALGWERN_COUNT = 4,     /* count: a whole number outside its range; also a number that is no axis, placement or record */
     PALGWERN_AREA = 5,      /* area: an area start not below its end */
     PALGWERN_TWICE = 6,     /* twice: an area name or axis record again */
@@ -205,6 +205,7 @@ typedef struct palgwern_size_answer { uint32_t number; uint32_t repetitions; uin
 typedef struct palgwern_count_answer { uint32_t number; uint64_t count; } palgwern_count_answer;
 typedef struct palgwern_line_answer { uint32_t number; int32_t line; } palgwern_line_answer;
 typedef struct palgwern_name_answer { uint32_t number; uint32_t offset; uint32_t length; } palgwern_name_answer;
+typedef struct palgwern_resize_answer { uint32_t number; uint32_t found; uint32_t size; } palgwern_resize_answer;
 /* A mark is 1 where the line of its end was held within -10,000..10,000 of the first explicit line, or a line on the way to it was: a
  * written line, the line of a name, the line beside a named span. 0 says that it would be the same if lines were never held. */
 typedef struct palgwern_placement_answer {
@@ -316,6 +317,13 @@ palgwern_count_answer palgwern_placements_around(
     const uint8_t *columnstore, size_t columnstore_bytes, const uint8_t *rowstore, size_t rowstore_bytes,
     uint32_t axis, const uint8_t *items, size_t items_bytes, int32_t line, uint32_t hits[PALGWERN_HITS]);
 
+/* The least resize that matters: of the whole inner sizes 0 to 65,535 the nearest to the size now at which the automatic repeat of an
+ * axis is written out another number of times, the wider of two. `found` is 1 and `size` that size, not the change; both are 0 where
+ * the count is the same at every size. Refuses by 4 (no axis), then by 3: the template counts as none or has no automatic repeat,
+ * the axis has no inner size or none in whole pixels, or its gap is no length. Every size may have to be tried: bench/README.md says
+ * how long that takes. */
+palgwern_resize_answer palgwern_least_resize(palgwern_grid grid, const uint64_t words[PALGWERN_PANEL_WORDS], uint32_t axis);
+
 /* ---- all that is lent, in one struct, and the calls on it */
 
 typedef struct palgwern_tables {
@@ -350,6 +358,10 @@ static inline palgwern_count_answer palgwern_tables_placements(const palgwern_ta
     int32_t numbers[PALGWERN_PLACEMENT_RUN]) {
     return palgwern_resolve_placements(grid, t->words, t->bytes, t->columnstore, sizeof t->columnstore, t->rowstore,
         sizeof t->rowstore, first, numbers);
+}
+
+static inline palgwern_resize_answer palgwern_tables_resize(const palgwern_tables *t, palgwern_grid grid, uint32_t axis) {
+    return palgwern_least_resize(grid, t->words, axis);
 }
 
 static inline palgwern_count_answer palgwern_tables_names(const palgwern_tables *t, palgwern_grid grid, uint32_t axis,

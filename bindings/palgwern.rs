@@ -187,6 +187,14 @@ pub mod raw {
 
     #[repr(C)]
     #[derive(Clone, Copy, Debug, PartialEq, Eq)]
+    pub struct ResizeAnswer {
+        pub number: u32,
+        pub found: u32,
+        pub size: u32,
+    }
+
+    #[repr(C)]
+    #[derive(Clone, Copy, Debug, PartialEq, Eq)]
     pub struct PlacementAnswer {
         pub number: u32,
         pub axis: u32,
@@ -247,6 +255,7 @@ pub mod raw {
             columnstore_bytes: usize, rowstore: *const u8, rowstore_bytes: usize, axis: u32, items: *const u8, items_bytes: usize,
             line: i32, hits: *mut [u32; HITS],
         ) -> CountAnswer;
+        pub fn palgwern_least_resize(grid: Grid, words: *const [u64; PANEL_WORDS], axis: u32) -> ResizeAnswer;
     }
 }
 
@@ -255,6 +264,7 @@ const _: () = assert!(size_of::<Grid>() == 120 && size_of::<Room>() == 48 && siz
 const _: () = assert!(size_of::<raw::PanelAnswer>() == 176 && size_of::<raw::CountAnswer>() == 16);
 const _: () = assert!(size_of::<raw::SheetAnswer>() == 184 && size_of::<raw::DisplayAnswer>() == 136);
 const _: () = assert!(size_of::<raw::SizeAnswer>() == 12 && size_of::<raw::NameAnswer>() == 12 && size_of::<raw::LineAnswer>() == 8 && size_of::<raw::PlacementAnswer>() == 32);
+const _: () = assert!(size_of::<raw::ResizeAnswer>() == 12);
 
 /// A refusal by its word in the table of refusals.
 #[derive(Clone, Copy, Debug, PartialEq, Eq)]
@@ -779,6 +789,19 @@ impl Answers {
         };
         match answer.number {
             0 => Ok(answer.line),
+            number => Err(Refusal::of(number, 0)),
+        }
+    }
+
+    /// The least resize that matters: of the whole inner sizes 0 to 65,535 the nearest to the size now at which the automatic repeat of
+    /// an axis is written out another number of times, the wider of two; none where the count is the same at every size.
+    /// `Word::Value` for an axis whose template counts as none, or that lacks the repeat, an inner size in whole pixels or a gap that is
+    /// a length.
+    pub fn least_resize(&self, axis: Axis) -> Result<Option<u32>, Refusal> {
+        // SAFETY: as in `Panel::read_again`; nothing is written.
+        let answer = unsafe { raw::palgwern_least_resize(self.grid, &*self.words, axis as u32) };
+        match answer.number {
+            0 => Ok((answer.found != 0).then_some(answer.size)),
             number => Err(Refusal::of(number, 0)),
         }
     }

@@ -15,6 +15,7 @@ _Static_assert(sizeof(palgwern_panel_answer) == 176 && offsetof(palgwern_panel_a
 _Static_assert(sizeof(palgwern_sheet_answer) == 184 && offsetof(palgwern_sheet_answer, panel) == 16, "sheet answer");
 _Static_assert(sizeof(palgwern_display_answer) == 136 && offsetof(palgwern_display_answer, grid) == 16, "display answer");
 _Static_assert(sizeof(palgwern_size_answer) == 12 && sizeof(palgwern_name_answer) == 12, "answers of three numbers");
+_Static_assert(sizeof(palgwern_resize_answer) == 12, "resize answer");
 _Static_assert(sizeof(palgwern_count_answer) == 16 && offsetof(palgwern_count_answer, count) == 8, "count answer");
 _Static_assert(sizeof(palgwern_placement_answer) == 32, "placement answer");
 _Static_assert(sizeof(palgwern_line_answer) == 8, "line answer");
@@ -552,6 +553,43 @@ static void entries(void) {
     CHECK(entry_refused(palgwern_tables_enter(&tables, panel, PALGWERN_ROWS, 1, TEXT("a")), PALGWERN_CROWDED));
 }
 
+#define REPEAT_LINES(kind, bits) "repeat\tc\tfill\ntrack\tc\t" kind "\t" bits "\t" kind "\t" bits "\nend\tc\n"
+#define LENGTH_LINE(bits) "track\tc\tlen\t" bits "\tlen\t" bits "\n"
+#define SIZE_LINE(bits) "axis\tc\t" bits "\tmax\tlen\t00000000\n"
+
+/* Sheets and the least resize of their columns: a number that refuses, or whether there is one and its size. */
+static const struct { const char *text; uint32_t number, found, size; } resized_sheets[] = {
+    {SIZE_LINE("41200000") REPEAT_LINES("len", "3f800000"), 0, 1, 11},                               /* 1 wide at 10 */
+    {SIZE_LINE("41200000") REPEAT_LINES("len", "40400000"), 0, 1, 12},                               /* 3 wide: 12 before 8 */
+    {SIZE_LINE("41a00000") REPEAT_LINES("len", "41200000"), 0, 1, 19},                               /* 10 wide at 20: narrower */
+    {SIZE_LINE("42c80000") REPEAT_LINES("len", "46ffff00"), 0, 1, 65535},                            /* 32,767.5 wide at 100 */
+    {SIZE_LINE("42c80000") LENGTH_LINE("3f800000") REPEAT_LINES("len", "477fff00"), 0, 0, 0},        /* once at every size */
+    {SIZE_LINE("41000000") REPEAT_LINES("pct", "3e4ccccd"), 0, 1, 9},                                /* 20 %: 5 at 8, 4 at 9 */
+    {SIZE_LINE("41280000") REPEAT_LINES("len", "3f800000"), PALGWERN_VALUE, 0, 0},                   /* 10.5 is not whole */
+    {AXIS_LINE REPEAT_LINES("len", "3f800000"), PALGWERN_VALUE, 0, 0},                               /* no inner size */
+    {"axis\tc\t41200000\tmax\tpct\t3c23d70a\n" REPEAT_LINES("len", "3f800000"), PALGWERN_VALUE, 0, 0}, /* a gap in percent */
+    {SIZE_LINE("41200000") LENGTH_LINE("3f800000"), PALGWERN_VALUE, 0, 0},                           /* no repeat */
+    {SIZE_LINE("41200000") REPEAT_LINES("len", "3f800000") "repeat\tc\t0\n" LENGTH_LINE("3f800000") "end\tc\n", PALGWERN_VALUE, 0, 0}, /* counts as none */
+};
+
+static int is_resize(palgwern_resize_answer a, uint32_t number, uint32_t found, uint32_t size) {
+    return a.number == number && a.found == found && a.size == size;
+}
+
+static void resizes(void) {
+    for (size_t i = 0; i < sizeof resized_sheets / sizeof *resized_sheets; i++) {
+        const char *text = resized_sheets[i].text;
+        palgwern_sheet_answer read = palgwern_tables_read(&tables, text, strlen(text));
+        CHECK(read.number == 0);
+        before = tables;
+        palgwern_resize_answer a = palgwern_tables_resize(&tables, read.panel.grid, PALGWERN_COLUMNS);
+        CHECK(is_resize(a, resized_sheets[i].number, resized_sheets[i].found, resized_sheets[i].size));
+        CHECK(is_resize(palgwern_tables_resize(&tables, read.panel.grid, PALGWERN_ROWS), PALGWERN_VALUE, 0, 0));
+        CHECK(is_resize(palgwern_tables_resize(&tables, read.panel.grid, 2), PALGWERN_COUNT, 0, 0));
+        CHECK(!memcmp(&tables, &before, sizeof tables));
+    }
+}
+
 /* The calls, one for each number. */
 static void *call(void *number) {
     switch (*(int *)number) {
@@ -570,6 +608,7 @@ static void *call(void *number) {
     case 12: palgwern_tables_nearest_line(&tables, panel.grid, 0, 0); break;
     case 13: palgwern_tables_within(&listed, listed_grid, 0, 0, 0, hits); break;
     case 14: palgwern_tables_around(&listed, listed_grid, 0, 1, hits); break;
+    case 15: palgwern_tables_resize(&tables, panel.grid, 0); break;
     }
     return NULL;
 }
@@ -592,11 +631,11 @@ static size_t stack_of(int number) {
 static void stacks(void) {
     static const char *const names[] = {"", "read_sheet", "enter_name", "explicit_size", "line_count", "record_count",
         "resolve_placement", "line_name", "records", "resolve_placements", "line_names", "display_sheet", "nearest_line",
-        "placements_within", "placements_around"};
-    static const size_t kibibytes[] = {0, 448, 48, 48, 48, 48, 48, 48, 48, 160, 160, 448, 48, 160, 160};
+        "placements_within", "placements_around", "least_resize"};
+    static const size_t kibibytes[] = {0, 448, 48, 48, 48, 48, 48, 48, 48, 160, 160, 448, 48, 160, 160, 48};
     size_t none = stack_of(0);
     printf("stack in bytes:");
-    for (int i = 1; i < 15; i++) {
+    for (int i = 1; i < 16; i++) {
         size_t used = stack_of(i) - none;
         printf(" %s %zu", names[i], used);
         CHECK(used <= kibibytes[i] * 1024);
@@ -624,6 +663,7 @@ int main(int count, char **words) {
     placements();
     line_names(PALGWERN_ROWS);
     stacks();
+    resizes();
     puts(failed ? "C: failed" : "C: right");
     return failed;
 }

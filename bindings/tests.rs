@@ -263,6 +263,35 @@ fn lists() {
     assert_eq!(other.around(Axis::Rows, 1).err(), refusal(Word::Indefinite, 0));
 }
 
+/// A sheet of columns with a fill of one track, `kind` its kind and `bits` those of its size.
+fn filled(axis: &str, kind: &str, bits: &str) -> String {
+    format!("axis\tc\t{axis}\nrepeat\tc\tfill\ntrack\tc\t{kind}\t{bits}\t{kind}\t{bits}\nend\tc\n")
+}
+
+#[test]
+fn resizes() {
+    let resize = |sheet: &str| Panel::read(sheet.as_bytes()).unwrap().least_resize(Axis::Columns);
+    let at = |size: &str| format!("{size}\tmax\tlen\t00000000");
+    assert_eq!(resize(&filled(&at("41200000"), "len", "3f800000")), Ok(Some(11)));
+    assert_eq!(resize(&filled(&at("41200000"), "len", "40400000")), Ok(Some(12)));
+    assert_eq!(resize(&filled(&at("41a00000"), "len", "41200000")), Ok(Some(19)));
+    assert_eq!(resize(&filled(&at("42c80000"), "len", "46ffff00")), Ok(Some(65535)));
+    assert_eq!(resize(&filled(&at("41000000"), "pct", "3e4ccccd")), Ok(Some(9)));
+    let once = filled(&at("42c80000"), "len", "477fff00") + "track\tc\tlen\t3f800000\tlen\t3f800000\n";
+    assert_eq!(resize(&once), Ok(None));
+    let none = filled(&at("41200000"), "len", "3f800000") + "repeat\tc\t0\ntrack\tc\tlen\t3f800000\tlen\t3f800000\nend\tc\n";
+    let broken = filled(&at("41280000"), "len", "3f800000");
+    let unsized_axis = filled(&at("-"), "len", "3f800000");
+    let percent = filled("41200000\tmax\tpct\t3c23d70a", "len", "3f800000");
+    for sheet in [none, broken, unsized_axis, percent, String::new()] {
+        assert_eq!(resize(&sheet).err(), refusal(Word::Value, 0));
+    }
+    let panel = Panel::read(LAYOUT).unwrap();
+    // SAFETY: the words are an initialized array; nothing is written.
+    let answer = unsafe { raw::palgwern_least_resize(panel.grid(), &[0; PANEL_WORDS], 2) };
+    assert_eq!(answer, raw::ResizeAnswer { number: 4, found: 0, size: 0 });
+}
+
 #[test]
 fn empty_sheet() {
     let panel = Panel::read(b"").unwrap();

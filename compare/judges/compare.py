@@ -1,11 +1,13 @@
 """Holds the judges against each other on one sheet with its entry calls."""
 import re
+from dataclasses import replace
 
 import css
 import exact_cursor
 import model
 import questions
 import reader
+import resize
 import rules
 from batch import Batch, Ended
 from build import CannotCompare
@@ -220,6 +222,19 @@ def css_sources(state, letter, records):
     return None
 
 
+def css_resize(axis):
+    """The least resize in whole numbers: the count at its size differs, and no closer one's does, of the nearest 200."""
+    if not resize.is_asked(axis) or css.whole_repetitions(axis) is None or not resize.is_near(axis):
+        return None
+    size = resize.least_resize(axis)[1]
+    counted = lambda inner: css.whole_repetitions(replace(axis, inner=float(inner)))
+    now, near = int(axis.inner), abs(size - int(axis.inner))
+    closer = [other for other in range(now - near, now + near + 1) if other in range(65536) and (abs(other - now) < near or other > size)]
+    if counted(size) == counted(now) or any(counted(other) not in (None, counted(now)) for other in closer[-200:]):
+        return f"CSS: the least resize from {now} to {size}"
+    return None
+
+
 def css_repetitions(axis):
     """The rule's repetitions against whole-number arithmetic."""
     if axis.inner is None or not css.template_is_valid(axis) or not any(c.automatic() for c in axis.components):
@@ -233,6 +248,7 @@ def css_repetitions(axis):
 def css_differences(state):
     """Every comparison with CSS's counting that applies, and whether the third demand's does."""
     differences = [css_repetitions(state.panel.axes[letter]) for letter in model.LETTERS]
+    differences += [css_resize(state.panel.axes[letter]) for letter in model.LETTERS]
     differences += [css_any_placement(state, letter) for letter in model.LETTERS]
     differences += [css_invalid(state, letter) for letter in model.LETTERS]
     differences += [None if css.gutters_fall_into_one(state.records[letter]) else f"CSS: gutters of {letter}"

@@ -63,7 +63,7 @@ def difference(state, output, rows, answers):
     lines = {letter: Lines(answered, letter, state.panel.axes[letter].negative) for letter in answered.records}
     for row, answer in zip(rows, answers):
         word, letter, *fields = row.split("\t")
-        if answer.startswith("refused") or not lines[letter].known:
+        if word == "resize" or answer.startswith("refused") or not lines[letter].known:
             continue
         exact = getattr(lines[letter], word)(*fields)
         if exact is not None and [word, *exact] != answer.split("\t"):

@@ -352,6 +352,32 @@ class Maker:
         placements = [f"place\t{self.pick('ccr')}\t{self.cursor_end()}\t{self.cursor_end()}" for _ in range(self.random.randrange(14))]
         return records + self.area_lines() + self.mixed(*runs, placements), self.calls(), None
 
+    def resize_size(self):
+        """A length or a percentage for a repeat that is written a few times."""
+        if self.chance(0.5):
+            share = self.pick([0.01, 0.025, 0.04, 0.05, 0.1, 0.2, 0.25, 0.3, 0.5, self.random.uniform(0, 0.6)])
+            return "pct\t" + bits(binary32.rounded(share))
+        return "len\t" + bits(binary32.rounded(self.pick([1.0, 3.0, 10.0, float(self.random.randint(1, 60)), self.random.uniform(0, 60)])))
+
+    def resize_track(self):
+        size = self.resize_size()
+        return self.pick([f"{size}\t{size}", f"{size}\t{size}", f"{size}\t{self.resize_size()}", f"{size}\t{self.free_maximum()}", f"{self.keyword()}\t{size}"])
+
+    def resize_lines(self, letter, count, tracks):
+        return [f"repeat\t{letter}\t{count}"] + [f"track\t{letter}\t{self.resize_track()}" for _ in range(tracks)] + [f"end\t{letter}"]
+
+    def resize(self):
+        """An automatic repeat in a whole size, with lengths and percentages in it and beside it, for questions of the least resize."""
+        letter = self.pick("cr")
+        inner = float(self.random.randrange(self.pick([40, 400, 65536])))
+        gap = bits(float(self.pick([0, 0, 1, 2, 5])))
+        parts = [self.resize_lines(letter, self.pick(["fill", "fit"]), self.pick([1, 1, 2, 3]))]
+        parts += [[f"track\t{letter}\t{self.resize_track()}"] for _ in range(self.below(3))]
+        parts += [self.resize_lines(letter, self.pick([1, 2, 3]), 1) for _ in range(self.below(2))]
+        self.random.shuffle(parts)
+        record = f"axis\t{letter}\t{bits(inner)}\t{self.pick(['max', 'min'])}\tlen\t{gap}"
+        return [record] + [line for part in parts for line in part], [], None
+
     def tie(self):
         """A template whose repetitions depend on each rounding, found by search."""
         letter = self.pick("cr")
@@ -576,7 +602,7 @@ class Maker:
         return damage.spoiled(self.random, self.sheet_lines()), self.calls(), None
 
 
-WEIGHTS = {"general": 600, "touching": 30, "overlap": 50, "invalid": 60, "tie": 100, "thin": 100, "cursor": 60, "large": 8, "over": 5, "far": 5, "writing_out": 12, "full": 12, "store": 2, "long": 3,
+WEIGHTS = {"general": 600, "touching": 30, "overlap": 50, "invalid": 60, "tie": 100, "thin": 100, "cursor": 60, "resize": 30, "large": 8, "over": 5, "far": 5, "writing_out": 12, "full": 12, "store": 2, "long": 3,
            "damaged": 220, "spoiled": 60, "grouped": 0}  # asked for by name alone: the sheets of a seed stay
 
 

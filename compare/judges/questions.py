@@ -5,6 +5,7 @@ import zlib
 import binary32
 import cursor
 import model
+import resize as resizing
 
 MARKS = 30000  # the item bytes of an axis
 FULL = (MARKS, model.STORE_BYTES, model.STORE_BYTES)
@@ -24,6 +25,10 @@ def around(letter, line, lent=FULL):
     return "\t".join(["around", letter, str(line), *map(str, lent)])
 
 
+def resize(letter):
+    return f"resize\t{letter}"
+
+
 # Answers.
 
 def nearest_answer(state, letter, bits, items):
@@ -39,11 +44,16 @@ def around_answer(state, letter, line, *lent):
     return cursor.placements_around(state, letter, int(line), *map(int, lent))
 
 
-ANSWERS = {"nearest": nearest_answer, "within": within_answer, "around": around_answer}
+def resize_answer(state, letter):
+    number, size = resizing.least_resize(state.panel.axes[letter])
+    return number, ["-" if size is None else size]
+
+
+ANSWERS = {"nearest": nearest_answer, "within": within_answer, "around": around_answer, "resize": resize_answer}
 
 
 def answer_line(state, row):
-    """The line of an answer: the question's word, then the line or the placements that are listed; or the refusal."""
+    """The line of an answer: the question's word, then the line, the placements that are listed or the size; or the refusal."""
     word, *fields = row.split("\t")
     number, found = ANSWERS[word](state, *fields)
     return model.refusal_line(number, 0) if number else "\t".join([word, *map(str, found)])
@@ -111,7 +121,13 @@ class Asking:
     def several(self, letter):
         """More where the axis has an answer."""
         count = 4 if self.state.cursor(letter).positions is not None else 1
-        return [self.one(letter) for _ in range(count)]
+        return [self.one(letter) for _ in range(count)] + self.resizes(letter)
+
+    def resizes(self, letter):
+        """The least resize, where its answer is soon found, and now and then where it is not."""
+        axis = self.state.panel.axes[letter]
+        wanted = self.chance(0.03) if not resizing.is_asked(axis) else resizing.is_near(axis) or self.chance(0.03)
+        return [resize(letter)] if wanted else []
 
 
 def asked(sheet, answer):

@@ -14,6 +14,8 @@ import maker
 import model
 import questions
 import reader
+import resize as resizing
+import resize_edges
 import rules
 import wrong_blocks
 from answer import calls_of
@@ -32,6 +34,8 @@ GROUPED = 40
 LONGEST_GROUPED = 15000
 # Sheets of the family `cursor` with questions.
 ASKED = 20
+# Sheets of the family `resize`.
+RESIZED = 40
 # Sheets of each family in `areas`, each once more for the display call.
 DISPLAYED = {"touching": 20, "overlap": 60, "general": 20, "damaged": 20}
 CUT = {"large": 60, "far": 40, "over": 12, "writing_out": 20, "full": 4}
@@ -114,11 +118,20 @@ def edge_block(rust, name, lines, asked):
     return questions_block(name, case.sheet, [], rows)
 
 
-def made_questions(rust):
-    """Sheets of the family `cursor` on which something is answered, with the questions made for each and its entry calls."""
+def made_questions(family, rust, count):
+    """Sheets of a family on which something is answered, with the questions made for each and its entry calls."""
     answered = lambda case: not case.refused and any(not line.startswith("refused") for line in case.question_lines())
-    for case in taken(made_cases("cursor", rust, SEED + 7), ASKED, answered):
+    for case in taken(made_cases(family, rust, SEED + 7), count, answered):
         yield questions_block(case.name, case.sheet, case.calls, questions.made(case.sheet, case.answer.state))
+
+
+def write_resize(rust):
+    """Questions of the least resize: the edges, and sheets made for it, where it is asked of both axes."""
+    blocks = [edge_block(rust, *edge) for edge in resize_edges.edges()]
+    small = lambda case: not case.refused and resizing.is_near(case.answer.state.panel.axes[case.sheet.decode().split("\t")[1]])
+    cases = taken(made_cases("resize", rust, SEED + 8), RESIZED, small)
+    rows = [questions.resize(letter) for letter in model.LETTERS]
+    keep("resize", blocks + [questions_block(case.name, case.sheet, [], rows) for case in cases])
 
 
 def write_cursor(rust):
@@ -126,7 +139,7 @@ def write_cursor(rust):
     blocks = [edge_block(rust, *edge) for edge in cursor_edges.edges()]
     shared = damage.sheet_of(cursor_edges.SHARED)
     blocks.append(questions_block("over areas that share a cell, displayed", shared, [], cursor_edges.SHARED_ROWS, display=True))
-    keep("cursor", blocks + list(made_questions(rust)))
+    keep("cursor", blocks + list(made_questions("cursor", rust, ASKED)))
 
 
 def keep(name, blocks):
@@ -407,6 +420,7 @@ def main():
     write_cut(rust)
     write_differences(rust)
     write_cursor(rust)
+    write_resize(rust)
     rust.close()
     write_wrong()
     lists.write_replayed()

@@ -8,6 +8,7 @@ import binary32
 import cursor
 import model
 import reader
+import resize
 import rules
 from reader import Size, Track
 from rules import FURTHEST, Names
@@ -683,6 +684,84 @@ FOUND_BY_EDGES = {
     "any cursor answered": (cursor, "is_length", any_bits),
     "minus zero a length": (cursor, "is_length", minus_zero_too),
 }
+
+
+# Readings of the least resize: found by the edges too.
+
+def narrower_first(size):
+    for change in range(1, 65536):
+        yield from (other for other in (size - change, size + change) if other in resize.SIZES)
+
+
+def wider_only(size):
+    return range(size + 1, 65536)
+
+
+def largest_left_out(size):
+    return (other for other in right_outward(size) if other != 65535)
+
+
+def at_percentages_of_now(axis, size):
+    """Percentages of the size now."""
+    fix = lambda size: Size("len", binary32.to_bits(binary32.multiply(size.value(), axis.inner))) if size.kind == "pct" else size
+    fixed = lambda component: replace(component, tracks=[Track(fix(track.minimum), fix(track.maximum)) for track in component.tracks])
+    return right_count_at(replace(axis, components=list(map(fixed, axis.components))), size)
+
+
+def as_if_rising(axis, sizes):
+    """Wider sizes looked at for a higher count alone, narrower ones for a lower one."""
+    now, counts = resize.count_at(axis, int(axis.inner)), ((size, resize.count_at(axis, size)) for size in sizes)
+    return next((size for size, count in counts if count != now and (count > now) == (size > axis.inner)), None)
+
+
+def refused_sizes_left_out(axis, sizes):
+    """Sizes at which the explicit count would be above 10,000 left out."""
+    return right_first_other(axis, (size for size in sizes if rules.template_count(replace(axis, inner=float(size))) <= FURTHEST))
+
+
+def the_change(axis):
+    number, size = right_least_resize(axis)
+    return number, size if size is None else abs(size - int(axis.inner))
+
+
+def asked_if(**others):
+    """An axis asked as if it had other fields, None for what it has."""
+    def is_asked(axis):
+        return right_is_asked(replace(axis, **{name: change(axis) for name, change in others.items()}))
+    return is_asked
+
+
+def any_gap(axis):
+    return rules.ZERO
+
+
+def whole_part_of(axis):
+    return None if axis.inner is None else float(math.floor(axis.inner))
+
+
+def without_empty(axis):
+    """A written count of 0 and a repeat of no tracks passed over."""
+    return [component for component in axis.components if component.tracks and component.count != 0]
+
+
+right_outward = resize.outward
+right_count_at = resize.count_at
+right_first_other = resize.first_other
+right_least_resize = resize.least_resize
+right_is_asked = resize.is_asked
+
+FOUND_BY_EDGES.update({
+    "narrower first": (resize, "outward", narrower_first),
+    "wider only": (resize, "outward", wider_only),
+    "size 65,535 left out": (resize, "outward", largest_left_out),
+    "percentages of the size now": (resize, "count_at", at_percentages_of_now),
+    "the count as if it rose with the size": (resize, "first_other", as_if_rising),
+    "sizes at which the panel would be refused left out": (resize, "first_other", refused_sizes_left_out),
+    "the change answered instead of the size": (resize, "least_resize", the_change),
+    "a percent gap accepted": (resize, "is_asked", asked_if(gap=any_gap)),
+    "a size cut to whole": (resize, "is_asked", asked_if(inner=whole_part_of)),
+    "a template that counts as none accepted": (resize, "is_asked", asked_if(components=without_empty)),
+})
 
 
 @contextlib.contextmanager

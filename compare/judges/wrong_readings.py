@@ -6,6 +6,7 @@ import damage
 import maker
 import model
 import questions
+import resize_edges
 import wrong
 from compare import Rust, compare, first_difference
 from judged import LIBRARY, Library, build_library, find
@@ -74,7 +75,8 @@ class ByTheLibrary:
 
 def by_hand():
     """The edges: each with the answers that are written by hand."""
-    return [(damage.sheet_of(lines), rows, None) for _, lines, rows in cursor_edges.edges()]
+    written = [*cursor_edges.edges(), *resize_edges.edges()]
+    return [(damage.sheet_of(lines), rows, None) for _, lines, rows in written]
 
 
 class ByHand:

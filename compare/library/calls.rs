@@ -79,6 +79,13 @@ pub fn record_count(grid: Grid, numbers: Numbers) -> raw::CountAnswer {
     answer
 }
 
+pub fn least_resize(lent: &Lent, grid: Grid, numbers: Numbers) -> raw::ResizeAnswer {
+    // SAFETY: as in `read_sheet`; nothing is written.
+    let mut answer = unsafe { raw::palgwern_least_resize(grid, lent.words[PANEL].array(), numbers.axis) };
+    planted::in_resize(&mut answer);
+    answer
+}
+
 pub fn resolve_placement(lent: &mut Lent, grid: Grid, numbers: Numbers) -> raw::PlacementAnswer {
     let (columnstore, rowstore) = (lent.bytes[COLUMN_STORE].content(), lent.bytes[ROW_STORE].content());
     // SAFETY: as in `read_sheet`; nothing is written.

@@ -19,10 +19,11 @@ const SHOWN: u64 = 20;
 /// Seconds after which a call is said not to end.
 const PATIENCE: u64 = 120;
 /// Calls of each panel, by name; those that look at the tables are made more often.
-const CALLS: [&str; 24] = [
+const CALLS: [&str; 25] = [
     "read_sheet", "display_sheet", "enter_name", "enter_name", "explicit_size", "line_count", "record_count", "resolve_placement", "resolve_placement",
     "resolve_placement", "resolve_placement", "line_name", "line_name", "line_name", "line_name", "records", "records",
     "resolve_placements", "line_names", "nearest_line", "placements_within", "placements_within", "placements_around", "placements_around",
+    "least_resize",
 ];
 static CALLS_MADE: AtomicU64 = AtomicU64::new(0);
 
@@ -125,6 +126,7 @@ fn make(call: &str, forged: &Forged, numbers: Numbers) -> (u32, Promises) {
         "line_name" => promises::line_name(lent, state.grid, numbers),
         "resolve_placements" => runs::resolve_placements(lent, state.grid, numbers),
         "line_names" => runs::line_names(lent, state.grid, numbers),
+        "least_resize" => promises::least_resize(lent, state.grid, numbers),
         "nearest_line" => cursor::nearest(lent, state.grid, cursor::numbers(call, numbers)),
         "placements_within" => cursor::within(lent, state.grid, cursor::numbers(call, numbers)),
         "placements_around" => cursor::around(lent, state.grid, cursor::numbers(call, numbers)),

@@ -5,7 +5,7 @@ use crate::palgwern::{raw, AREA_NAMES_START, PLACEMENT_NUMBERS};
 use std::sync::atomic::{AtomicUsize, Ordering};
 
 /// The faults, from 1 on.
-pub const FAULTS: [&str; 46] = [
+pub const FAULTS: [&str; 48] = [
     "a refused sheet changes a word",
     "a word that the tables held reaches the panel",
     "a sheet writes past the words",
@@ -52,6 +52,8 @@ pub const FAULTS: [&str; 46] = [
     "a placement is listed twice",
     "placements are listed on a refusal",
     "a list goes on past its count",
+    "a refused resize has a size",
+    "a resize beyond the sizes",
 ];
 
 /// The fault in place, 0 for none.
@@ -166,6 +168,14 @@ pub fn in_nearest(answer: &mut raw::LineAnswer) {
     match planted() {
         42 if answer.number != 0 => answer.line = 1,
         43 if answer.number == 3 => (answer.number, answer.line) = (0, 1),
+        _ => (),
+    }
+}
+
+pub fn in_resize(answer: &mut raw::ResizeAnswer) {
+    match planted() {
+        47 if answer.number == 3 => answer.size = 1,
+        48 if answer.found == 1 => answer.size += 65_536,
         _ => (),
     }
 }

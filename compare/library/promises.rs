@@ -215,6 +215,16 @@ pub fn records(lent: &Lent, grid: Grid, numbers: Numbers) -> (u32, Promises) {
     (answer.number, promises)
 }
 
+pub fn least_resize(lent: &Lent, grid: Grid, numbers: Numbers) -> (u32, Promises) {
+    let Twice { answer, after, mut promises } = twice(lent, |lent| calls::least_resize(lent, grid, numbers));
+    promises.extend(of_refusal(answer.number, &[3, 4], (answer.found, answer.size) == (0, 0), after.has_contents_of(lent)));
+    promises.push(("what is no axis is refused by 4", numbers.axis < 2 || answer.number == 4));
+    let is_size = if answer.found == 0 { answer.size == 0 } else { answer.found == 1 && answer.size <= 65_535 };
+    promises.push(("a resize is a size up to 65,535, or none", is_size));
+    promises.push(("a question changes nothing", after.has_contents_of(lent)));
+    (answer.number, promises)
+}
+
 /// The tracks of an axis, by its record count.
 pub fn tracks(grid: Grid, numbers: Numbers) -> u64 {
     calls::record_count(grid, numbers).count / 2

@@ -1,5 +1,5 @@
 //! Questions to a panel, each a row, asked on lent buffers; the answers in the form of the lists.
-use crate::calls::Numbers;
+use crate::calls::{self, Numbers};
 use crate::cursor;
 use crate::lent::*;
 use crate::palgwern::Grid;
@@ -29,11 +29,23 @@ fn hits(lent: &Lent, count: u64) -> Vec<i64> {
     cursor::hits(lent).take(count as usize).map(i64::from).collect()
 }
 
-/// One question, on a copy of what is lent.
+/// The least resize of an axis; `-` where no size differs.
+fn print_resize(out: &mut Vec<u8>, lent: &Lent, grid: Grid, axis: u32) {
+    let answer = calls::least_resize(lent, grid, Numbers { axis, line: 0, place: 0 });
+    match (answer.number, answer.found) {
+        (0, 0) if answer.size == 0 => out.extend_from_slice(b"resize\t-\n"),
+        _ => print_found(out, "resize", answer.number, &[i64::from(answer.size)]),
+    }
+}
+
+/// One question of the cursor, on a copy of what is lent.
 fn print_question(out: &mut Vec<u8>, lent: &Lent, grid: Grid, row: &str) {
     let fields: Vec<&str> = row.split('\t').collect();
     let bits = |field: &str| u32::from_str_radix(field, 16).expect("bits");
     let axis = if fields[1] == "c" { 0 } else { 1 };
+    if fields[0] == "resize" {
+        return print_resize(out, lent, grid, axis);
+    }
     let arguments = if fields[0] == "within" { 2 } else { 1 };
     let lengths: Vec<usize> = fields[2 + arguments..].iter().map(|field| field.parse().expect("a length")).collect();
     let mut lent = lent.clone();

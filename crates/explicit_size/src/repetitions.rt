@@ -3,6 +3,7 @@ ghost use mathlib.Core.Path.{_≡_};
 ghost use Prim.Native.Nat.{_+_, _-_, _*_, _≤_, _<_, min};
 ghost use Rattle.template_rules.specs.Space.{whole32};
 ghost use Rattle.template_rules.specs.Repetitions.{firstSpace, furtherSpace, wholeOf, oneMore, fittingOf, heldOf, repetitionsOf};
+ghost use Rattle.explicit_size.specs.Steps.{fitBy};
 use sizing::Sizing;
 use template_rules::AutoRepeatStrategy;
 use template_rules::InnerSize;
@@ -30,7 +31,7 @@ fn gaps_of_first_repetition(summary: TemplateSummary) -> f32
 }
 
 // The tracks outside the repeat, one repetition, and the gaps between them.
-fn first_repetition_space(summary: TemplateSummary, gap: f32) -> f32
+pub(crate) fn first_repetition_space(summary: TemplateSummary, gap: f32) -> f32
     requires { ⌜ (0 < summary .repeated) × (summary .repeated ≤ 65535) ⌝ }
     ensures { λ r. ⌜ r ≡ firstSpace summary gap ⌝ }
 {
@@ -41,7 +42,7 @@ fn first_repetition_space(summary: TemplateSummary, gap: f32) -> f32
 }
 
 // One more repetition with its gaps.
-fn further_repetition_space(summary: TemplateSummary, gap: f32) -> f32
+pub(crate) fn further_repetition_space(summary: TemplateSummary, gap: f32) -> f32
     requires { ⌜ summary .repeated ≤ 65535 ⌝ }
     ensures { λ r. ⌜ r ≡ furtherSpace summary gap ⌝ }
 {
@@ -68,7 +69,17 @@ fn one_more(n: u32) -> u32
     n
 }
 
-// The repetitions that an inner size asks for: 1 where the first overflows.
+// The repetitions that fit an inner size, from the space of the first and of each further one: 1 where the first overflows.
+pub(crate) fn fit_in(strategy: AutoRepeatStrategy, inner: f32, first: f32, further: f32) -> u32
+    ensures { λ r. ⌜ r ≡ fitBy strategy inner first further ⌝ }
+{
+    if first > inner {
+        return 1;
+    }
+    one_more(whole_by(strategy, (inner - first) / further))
+}
+
+// The repetitions that an inner size asks for.
 fn repetitions_that_fit(
     strategy: AutoRepeatStrategy,
     inner: f32,
@@ -79,15 +90,12 @@ fn repetitions_that_fit(
     ensures { λ r. ⌜ r ≡ fittingOf strategy inner gap summary ⌝ }
 {
     let first = first_repetition_space(summary, gap);
-    if first > inner {
-        return 1;
-    }
     let further = further_repetition_space(summary, gap);
-    one_more(whole_by(strategy, (inner - first) / further))
+    fit_in(strategy, inner, first, further)
 }
 
 // Held to the repetitions that begin within 10,000 tracks, and to 1; 0 where the tracks before the repeat fill the grid.
-fn held_repetitions(before: u64, repeated: u64, repetitions: u64) -> u64
+pub(crate) fn held_repetitions(before: u64, repeated: u64, repetitions: u64) -> u64
     requires { ⌜ (0 < repeated) × (repeated ≤ 65535) ⌝ }
     ensures { λ r. ⌜ (r ≡ heldOf before repeated repetitions) × (r ≤ 10000) ⌝ }
 {

@@ -16,10 +16,10 @@ use template_rules::TemplateSummary;
 use template_summary::summary::template_summary;
 
 // As many steps as a template of any words can have: 64 components, each of at most 65,535 tracks.
-const EVERY_STEP: u64 = 64 * 0x1_0000;
+pub(crate) const EVERY_STEP: u64 = 64 * 0x1_0000;
 
 // Whether a template has no repeat of no tracks or of count 0, and at most one automatic repeat, which stands among fixed tracks only.
-fn is_valid(summary: TemplateSummary) -> bool
+pub(crate) fn is_valid(summary: TemplateSummary) -> bool
     ensures { λ r. ⌜ r ≡ validOf summary ⌝ }
 {
     !summary.empty & ((summary.automatic == 0) | ((summary.automatic == 1) & summary.fixed))

@@ -2,3 +2,4 @@
 pub mod Names
 pub mod Cursor
 pub mod Hits
+pub mod Resize

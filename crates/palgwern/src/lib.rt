@@ -13,6 +13,7 @@ ghost use Rattle.panel_resolving.specs.Placements.{WrittenNumbers, placementsWr
 
 mod cursor;
 mod hits;
+pub mod resize;
 
 use axis_tables::layout::AXIS_BYTES;
 use coordinates::axis::axis_of;

@@ -15,6 +15,7 @@ mod names;
 mod nearest;
 mod questions;
 mod replay;
+mod resizes;
 
 use counts::print_counts;
 use panel_tables::region::PANEL_BYTES;

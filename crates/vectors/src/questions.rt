@@ -5,6 +5,7 @@ use crate::hits::seen_hits;
 use crate::input::after_line;
 use crate::input::line_at;
 use crate::nearest::seen_nearest;
+use crate::resizes::seen_resize;
 use panel_tables::Grid;
 use panel_tables::region::PANEL_BYTES;
 use panel_tables::region::PANEL_WORDS;
@@ -22,6 +23,9 @@ fn seen_question(
 ) -> usize {
     if text::equal(text::part(question, 9, 0), b"nearest") {
         return seen_nearest(expected, seen, question, grid, words, bytes);
+    }
+    if text::equal(text::part(question, 9, 0), b"resize") {
+        return seen_resize(expected, seen, question, grid, words);
     }
     seen_hits(
         expected,
