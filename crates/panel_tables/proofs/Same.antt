@@ -39,7 +39,7 @@ put-pad all b n h =
     rw (x, y) (pad-puts all n b h)
 
 -- ---- areas
-area-words : (list : List Area) (a : Area) → length list < 64
+pub area-words : (list : List Area) (a : Area) → length list < 64
     → set (set (areaWords list) (length list) (edgesWord (a .edges))) (64 + length list) (nameWord 0 0 (length (areaBytesOf list)) (length (a .name))) ≡ areaWords (list ++ (a ∷ []))
 unfolding areaWords areaRegions
 area-words list a h =
@@ -51,7 +51,7 @@ area-words list a h =
     ∙ lay-put (joined rs 0 x) 1 (areaNameWord a p) n (64 + n) (length-words areaNameWord areaNameOf 0 list) h (omega arith)
     ∙ sym (rw (map-append areaEdgesWord list (a ∷ []), words-more areaNameWord areaNameOf 0 list a p (omega arith)))
 
-area-store : (list : List Area) (a : Area) → length (areaBytesOf list) + length (a .name) ≤ 2048
+pub area-store : (list : List Area) (a : Area) → length (areaBytesOf list) + length (a .name) ≤ 2048
     → putBytes (areaStore list) (length (areaBytesOf list)) (a .name) ≡ areaStore (list ++ (a ∷ []))
 unfolding areaStore
 area-store list a h = put-pad 2048 (areaBytesOf list) (a .name) h ∙ ap (pad 2048) (sym (bytes-more areaNameWord areaNameOf list a))

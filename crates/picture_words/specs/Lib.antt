@@ -1,0 +1,4 @@
+-- What the contracts on the words of a `row` line cite.
+pub mod Words
+pub mod Runs
+pub mod Faults
