@@ -38,7 +38,7 @@ returns-2 c =
     let asked = lists-asked (a .grid) (axisWordsIn (a .axis) (a .words .now)) (a .store .now) (a .bytes) (a .out .now) (p .now) e (m .lists-refusal .result) (m .lists-refusal .ensures) (c .before .before .before .if1 .left) (axis-long (a .axis) (a .words .now)) in
     lists-written (a .grid) (axisWordsIn (a .axis) (a .words .now)) (a .store .now) (a .bytes) (a .out .now) (p .now) e (m .lists-refusal .result) (m .lists-refusal .ensures)
     _ (c .counted .result) _ (c .before .before .before .if1 .left)
-    (listed-in-range (a .grid .size .explicit) (p .now) (a .store .now) (a .out .now) _ (c .before .detailed-line-names .result) (asked .0) (asked .1 .0) (omega (arith, asked, m .before .before .before .before .pre)) (c .before .detailed-line-names .ensures)) (c .counted .ensures)
+    (listed-in-range (a .grid .size .explicit) (p .now) (a .store .now) (a .out .now) _ (c .before .detailed-line-names .result) (asked .0) (asked .1 .0) (omega (arith, asked)) (c .before .detailed-line-names .ensures)) (c .counted .ensures)
 
 pub write-on-spec : {M : Type 1} → statement M
 write-on-spec =
