@@ -49,3 +49,15 @@ indefinite = 11
 -- document 02, Req 03: two areas with a common cell
 abbrev pub overlap : ℕ
 overlap = 12
+
+-- document 02, Req 07: "rows of unequal width"
+abbrev pub unequal : ℕ
+unequal = 13
+
+-- "a name whose cells are no rectangle"
+abbrev pub broken : ℕ
+broken = 14
+
+-- document 02, Req 10: an item that can't be placed
+abbrev pub unplaced : ℕ
+unplaced = 15

@@ -26,6 +26,12 @@ pub const SHORT: u32 = 10;
 pub const INDEFINITE: u32 = 11;
 // overlap: an area that shares a cell with an earlier one
 pub const OVERLAP: u32 = 12;
+// unequal: a row of a picture with another width than its first (document 02, Req 07)
+pub const UNEQUAL: u32 = 13;
+// broken: a name of a picture whose cells are no rectangle
+pub const BROKEN: u32 = 14;
+// unplaced: a cell for which no place is free, or whose lines leave the columns or the rows (document 02, Req 10)
+pub const UNPLACED: u32 = 15;
 
 // A refusal: its number, 0 where nothing is refused, and its place, the sheet's line, 0 for a call without a sheet.
 pub struct Refusal {
