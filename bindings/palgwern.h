@@ -35,7 +35,10 @@ enum palgwern_refusal {
     PALGWERN_ZERO_LINE = 9, /* zero line: line 0, which no placement is around */
     PALGWERN_SHORT = 10,    /* short: lent records, item bytes or a line-name store too short */
     PALGWERN_INDEFINITE = 11, /* indefinite: a track or gutter with no definite size */
-    PALGWERN_OVERLAP = 12   /* overlap: an area that shares a cell with an earlier one */
+    PALGWERN_OVERLAP = 12,  /* overlap: an area that shares a cell with an earlier one */
+    PALGWERN_UNEQUAL = 13,  /* unequal: a row of a picture that is not as wide as the first one */
+    PALGWERN_BROKEN = 14,   /* broken: a picture in which the cells of a name form no filled rectangle */
+    PALGWERN_UNPLACED = 15  /* unplaced: a cell without a place in the grid; no call answers it yet */
 };
 
 /* Limits, by document 01. */
@@ -45,7 +48,8 @@ enum palgwern_limit {
     PALGWERN_COMPONENTS = 64,         /* components of an axis */
     PALGWERN_REPEAT_TRACKS = 32,      /* tracks in a repeat */
     PALGWERN_SPARES = 64,             /* spare sizes of an axis */
-    PALGWERN_AREAS = 64,              /* drawn areas */
+    PALGWERN_AREAS = 64,              /* drawn areas, those of a picture too */
+    PALGWERN_ROW_WORDS = 10000,       /* words of a row of a picture */
     PALGWERN_PLACEMENTS = 256,        /* placements */
     PALGWERN_ENTRIES = 4096,          /* name entries of an axis, repeats written out */
     PALGWERN_ENTERED_LINE = 20000,    /* an entered line is 1 to 20,000 */
@@ -219,7 +223,7 @@ typedef struct palgwern_placement_answer {
     uint32_t endheld;
 } palgwern_placement_answer;
 
-/* The panel that a sheet describes. Refuses by 1 to 8 and 12 with the line (0: too long; the line after the last: what the whole
+/* The panel that a sheet describes. Refuses by 1 to 8 and 12 to 14 with the line (0: too long; the line after the last: what the whole
  * sheet says), then by 10 for a short store. */
 palgwern_sheet_answer palgwern_read_sheet(
     const uint8_t *sheet, size_t sheet_bytes, uint64_t words[PALGWERN_PANEL_WORDS], uint8_t bytes[PALGWERN_PANEL_BYTES],

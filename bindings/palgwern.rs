@@ -281,6 +281,9 @@ pub enum Word {
     Short = 10,
     Indefinite = 11,
     Overlap = 12,
+    Unequal = 13,
+    Broken = 14,
+    Unplaced = 15,
 }
 
 /// Two areas that share a cell, numbered from 1 in sheet order.
@@ -319,7 +322,7 @@ impl Refusal {
 }
 
 /// The refusals with their words as they are written.
-const WORDS: [(Word, &str); 12] = [
+const WORDS: [(Word, &str); 15] = [
     (Word::Unread, "unread"),
     (Word::Name, "name"),
     (Word::Value, "value"),
@@ -332,6 +335,9 @@ const WORDS: [(Word, &str); 12] = [
     (Word::Short, "short"),
     (Word::Indefinite, "indefinite"),
     (Word::Overlap, "overlap"),
+    (Word::Unequal, "unequal"),
+    (Word::Broken, "broken"),
+    (Word::Unplaced, "unplaced"),
 ];
 
 impl fmt::Display for Refusal {

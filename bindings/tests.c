@@ -349,6 +349,13 @@ static const struct { const char *text; uint32_t number, line; } refused_sheets[
     {AXIS_LINE AXIS_LINE, PALGWERN_TWICE, 2},
     {"name\tc\tx\nname\tc\ty\n" AXIS_LINE, PALGWERN_LATE, 3},
     {EIGHT(EIGHT(SPARE_LINE)) SPARE_LINE, PALGWERN_CROWDED, 65},
+    {"row\n", PALGWERN_UNREAD, 1},
+    {"row\ta\t\n", PALGWERN_NAME, 1},
+    {"row\ta\narea\ta\t1\t2\t1\t2\n", PALGWERN_TWICE, 2},
+    {"row\ta\narea\tb\t1\t2\t1\t2\n", PALGWERN_LATE, 2},
+    {"area\tb\t1\t2\t1\t2\nrow\ta\n", PALGWERN_LATE, 2},
+    {"row\ta\tb\nrow\ta\nrow\ta\tb\n", PALGWERN_UNEQUAL, 2},
+    {"row\ta\t.\ta\nrow\tb\tb\tb\nnone\n", PALGWERN_BROKEN, 2},
 };
 
 static void refused_by_sheet(void) {
@@ -371,6 +378,20 @@ static void refused_by_overlap(void) {
     CHECK(read.number == PALGWERN_OVERLAP && read.line == 4 && read.earlier == 2 && read.later == 3 && same(read.panel, no_panel) && untouched());
     CHECK(display_refused(palgwern_tables_display(&tables, TEXT(AXIS_LINE APART_LINE SHARING_LINES "none\n")), PALGWERN_UNREAD, 5));
     CHECK(sheet_refused(palgwern_tables_read(&tables, TEXT("area\ta\t1\t3\t1\t3\narea\ta\t1\t3\t1\t3\n")), PALGWERN_TWICE, 2));
+}
+
+/* A picture: areas in order of first cell with their edges and names, and its rows and width as explicit counts. */
+static void picture(void) {
+    static palgwern_tables own;
+    palgwern_sheet_answer read = palgwern_tables_read(&own, TEXT("row\tb\tb\ta\t...\nrow\t.\t.\ta\t.\nrow\t.\t.\t.\t.\n"
+                                                                 "place\tc\tnamed\ta\t0\tauto\t-\t0\nplace\tr\tauto\t-\t0\tnamed\ta\t0\n"));
+    CHECK(read.number == 0 && read.line == 0 && read.panel.grid.areas == 2 && read.panel.room.areabytes == 2);
+    CHECK(!memcmp(own.bytes + PALGWERN_AREA_NAMES_START, "ba", 2));
+    CHECK(palgwern_explicit_size(read.panel.grid, PALGWERN_COLUMNS).explicit_count == 4);
+    CHECK(palgwern_explicit_size(read.panel.grid, PALGWERN_ROWS).explicit_count == 3);
+    CHECK(palgwern_tables_placement(&own, read.panel.grid, 0).startnumber == 3);
+    CHECK(palgwern_tables_placement(&own, read.panel.grid, 1).endnumber == 3);
+    CHECK(palgwern_tables_display(&own, TEXT("row\t.\t.\n")).grid.columns.size.explicit_count == 2);
 }
 
 /* Refused for a name, or for a number that is no axis, line, placement or record. */
@@ -485,6 +506,7 @@ static void refusals(void) {
     fill_runs();
     refused_by_sheet();
     refused_by_overlap();
+    picture();
     refused_by_numbers();
     refused_by_count();
     refused_by_stores(PALGWERN_STORE_BYTES - 1, PALGWERN_STORE_BYTES);

@@ -170,6 +170,23 @@ fn overlap() {
     assert!(Panel::read(touching.as_bytes()).is_ok());
 }
 
+/// Rows of unequal width, a name whose cells form no filled rectangle, and a picture with its counts.
+#[test]
+fn picture() {
+    let mut panel = Panel::read(LAYOUT).unwrap();
+    let before = panel.clone();
+    let unequal = panel.read_again(b"row\ta\tb\nrow\ta\nrow\ta\tb\n").unwrap_err();
+    assert_eq!(unequal, refusal(Word::Unequal, 2).unwrap());
+    assert_eq!(format!("{unequal}"), "refused by 13 (unequal) at line 2");
+    let broken = panel.read_again(b"row\ta\t.\ta\nrow\tb\tb\tb\nnone\n").unwrap_err();
+    assert_eq!((broken.word, broken.number(), broken.line, broken.pair), (Word::Broken, 14, 2, None));
+    assert!(panel == before);
+    let panel = Panel::read(b"row\tb\tb\ta\t...\nrow\t.\t.\ta\t.\nrow\t.\t.\t.\t.\nplace\tr\tnamed\ta\t0\tnamed\ta\t0\n").unwrap();
+    assert_eq!((panel.grid().areas, panel.size(Axis::Columns).explicit, panel.size(Axis::Rows).explicit), (2, 4, 3));
+    assert_eq!((panel.placement(0).unwrap().start, panel.placement(0).unwrap().end), (End::Line(1), End::Line(3)));
+    assert_eq!(Display::read(b"row\t.\t.\n").unwrap().size(Axis::Columns).explicit, 2);
+}
+
 /// What the sheet call accepts is displayed alike; areas that share cells are displayed with the first pair.
 #[test]
 fn display() {

@@ -2,15 +2,18 @@
 use crate::fields::Fault;
 use crate::forms::order_of;
 use crate::limits;
-use crate::sheet::{Area, Sheet};
-use crate::text::{quoted, Line};
+use crate::sheet::{areas_of, Area, Row, Sheet};
+use crate::text::{counted, grouped, quoted, Line};
 
 const UNREAD: u32 = 1;
+const COUNT: u32 = 4;
 const AREA: u32 = 5;
 const TWICE: u32 = 6;
 const LATE: u32 = 7;
 const CROWDED: u32 = 8;
 const OVERLAP: u32 = 12;
+const UNEQUAL: u32 = 13;
+const BROKEN: u32 = 14;
 
 /// What one axis has so far.
 #[derive(Default)]
@@ -27,6 +30,7 @@ struct AxisBefore {
 pub struct Before {
     axes: [AxisBefore; 2],
     areas: Vec<Area>,
+    picture: Vec<Row>,
     placements: usize,
     /// The line that is latest in the order of kinds, and its word.
     latest: Option<(usize, Vec<u8>)>,
@@ -38,16 +42,27 @@ fn axis_of(line: &Line) -> Option<usize> {
 
 /// The area of a line.
 fn area_of(line: &Line) -> Option<Area> {
+    if line.word() != b"area" {
+        return None;
+    }
     let text = line.fields.join(&b'\t');
     let mut area = Sheet::read(&text).areas.pop()?;
     area.line = line.number;
     Some(area)
 }
 
+/// The row of a picture of a line.
+fn row_of(line: &Line) -> Option<Row> {
+    let mut row = Sheet::read(&line.fields.join(&b'\t')).picture.pop()?;
+    row.line = line.number;
+    Some(row)
+}
+
 impl Before {
     /// One good line more.
     pub fn add(&mut self, line: &Line) {
         self.areas.extend(area_of(line));
+        self.picture.extend(row_of(line));
         self.placements += usize::from(line.word() == b"place");
         if self.latest.as_ref().is_none_or(|(_, word)| order_of(word) < order_of(line.word())) {
             self.latest = Some((line.number, line.word().to_vec()));
@@ -71,9 +86,11 @@ impl Before {
         let mut found = self.nesting(line);
         if let Some(area) = area_of(line) {
             found.extend(reversed(&area));
+            let drawn = areas_of(&self.picture);
             found.extend(
                 self.areas
                     .iter()
+                    .chain(&drawn)
                     .find(|one| one.name == area.name)
                     .map(|one| (TWICE, format!("field 2, the name: the area '{}' stands already, at line {}", area.name, one.line))),
             );
@@ -82,10 +99,25 @@ impl Before {
                 other.map(|one| (OVERLAP, format!("area '{}' shares a cell with area '{}' of line {}", area.name, one.name, one.line))),
             );
         }
+        found.extend(row_of(line).map_or(vec![], |row| self.row_faults(row)));
         let twice = axis_of(line).filter(|_| line.word() == b"axis").and_then(|at| self.axes[at].axis_line);
         found.extend(twice.map(|at| (TWICE, format!("field 2, the axis: {} has its line already, line {at}", quoted(line.fields[1])))));
         found.extend(self.late(line));
         found.extend(self.crowded(line).map(|words| (CROWDED, words)));
+        found
+    }
+
+    /// The faults of a row beside those before it.
+    fn row_faults(&self, row: Row) -> Vec<Fault> {
+        let mut found = vec![];
+        let (width, most) = (row.words.len(), limits::ROW_WORDS);
+        found.extend((width > most).then(|| (COUNT, format!("the row has {} words, and {} are the most", grouped(width as i64), grouped(most as i64)))));
+        if let Some(first) = self.picture.first().filter(|first| first.words.len() != width) {
+            let (own, other) = (counted(width, "word"), counted(first.words.len(), "word"));
+            found.push((UNEQUAL, format!("the row has {own}, and the first row, line {}, has {other}", first.line)));
+        }
+        let picture: Vec<Row> = self.picture.iter().cloned().chain([row]).collect();
+        found.extend(broken(&picture));
         found
     }
 
@@ -103,9 +135,15 @@ impl Before {
 
     fn late(&self, line: &Line) -> Option<Fault> {
         let (at, word) = self.latest.as_ref()?;
-        let order = "first all 'axis' lines, then all 'area' lines, then the rest";
-        let words = || format!("the {} line {at} stands before it: {order}", quoted(word));
-        (order_of(line.word()) < order_of(word)).then(|| (LATE, words()))
+        let order = "first all 'axis' lines, then all 'area' or 'row' lines, then the rest";
+        let both = "areas are drawn by 'area' lines or by 'row' lines, not by both";
+        let words = |rule: &str| format!("the {} line {at} stands before it: {rule}", quoted(word));
+        let other_kind = order_of(line.word()) == order_of(word) && order_of(word) == order_of(b"row") && line.word() != word;
+        if order_of(line.word()) < order_of(word) {
+            Some((LATE, words(order)))
+        } else {
+            other_kind.then(|| (LATE, words(both)))
+        }
     }
 
     /// The limit that a line would pass.
@@ -114,6 +152,7 @@ impl Before {
             |number: usize, most: usize, what: &str| (number >= most).then(|| format!("{most} {what} are the most, and this is one more"));
         match line.word() {
             b"area" => return full(self.areas.len(), limits::AREAS, "drawn areas"),
+            b"row" => return self.crowded_row(line),
             b"place" => return full(self.placements, limits::PLACEMENTS, "placements"),
             _ => {}
         }
@@ -126,10 +165,31 @@ impl Before {
         }
     }
 
+    /// The name of a row that is one too many.
+    fn crowded_row(&self, line: &Line) -> Option<String> {
+        let picture: Vec<Row> = self.picture.iter().cloned().chain(row_of(line)).collect();
+        let more = areas_of(&picture).into_iter().nth(limits::AREAS)?;
+        Some(format!("{} drawn areas are the most, and '{}' is one more", limits::AREAS, more.name))
+    }
+
     /// The repeats that are open after the last line, by their lines.
     pub fn open(&self) -> Vec<usize> {
         self.axes.iter().filter_map(|axis| axis.open.map(|(line, _)| line)).collect()
     }
+}
+
+/// The first name of a picture whose cells form no filled rectangle, and a cell between them that has another word.
+fn broken(picture: &[Row]) -> Option<Fault> {
+    for area in areas_of(picture) {
+        for row in &picture[area.rows.0 as usize - 1..area.rows.1 as usize - 1] {
+            let words = row.words.iter().enumerate().take(area.columns.1 as usize - 1).skip(area.columns.0 as usize - 1);
+            if let Some((column, word)) = words.into_iter().find(|(_, word)| **word != area.name) {
+                let between = format!("{} stands between them, at line {}, field {}", quoted(word.as_bytes()), row.line, column + 2);
+                return Some((BROKEN, format!("the cells of '{}' form no filled rectangle: {between}", area.name)));
+            }
+        }
+    }
+    None
 }
 
 /// An area whose start is not below its end.

@@ -2,16 +2,21 @@
 use crate::css_rules::Wrong;
 use crate::css_values::Value;
 use crate::limits;
-use crate::sheet::Area;
+use crate::sheet::{Area, Row};
 
 /// The most cells that are written as a picture.
 const MOST_CELLS: u64 = 1_000_000;
 
-/// Areas in the order of their first cells, and the rows and columns of the picture.
+/// Areas in the order of their first cells, and the rows of the picture.
 pub struct Picture {
     pub areas: Vec<Area>,
-    pub rows: usize,
-    pub columns: usize,
+    pub rows: Vec<Row>,
+}
+
+impl Picture {
+    pub fn columns(&self) -> usize {
+        self.rows.first().map_or(0, |row| row.words.len())
+    }
 }
 
 /// Reads the rows of a picture.
@@ -36,7 +41,7 @@ pub fn read(value: &mut Value) -> Result<Picture, Wrong> {
             areas.push(rectangle(&cells, name).ok_or_else(|| value.wrong(&format!("the cells of '{name}' are no filled rectangle")))?);
         }
     }
-    Ok(Picture { areas, rows: cells.len(), columns: cells.first().map_or(0, Vec::len) })
+    Ok(Picture { areas, rows: cells.into_iter().map(|words| Row { line: 0, words }).collect() })
 }
 
 fn is_cell(cell: &str) -> bool {
@@ -61,11 +66,24 @@ fn rectangle(cells: &[Vec<String>], name: &str) -> Option<Area> {
     (places.len() == (bottom - top) * (right - left)).then_some(area)
 }
 
+fn bad_name(line: usize, name: &str) -> Wrong {
+    (line, format!("a picture of areas can't hold the name '{name}': letters, digits, '-' and '_'"))
+}
+
+/// The rows of a picture that a sheet draws.
+pub fn write_rows(rows: &[Row]) -> Result<Vec<String>, Wrong> {
+    let bad = |row: &Row| row.names().find(|(_, name)| !is_area_name(name)).map(|(_, name)| bad_name(row.line, name));
+    match rows.iter().find_map(bad) {
+        Some(wrong) => Err(wrong),
+        None => Ok(rows.iter().map(|row| row.words.join(" ")).collect()),
+    }
+}
+
 /// The rows of a picture of these areas, or the line and the reason why there is none.
 pub fn write(areas: &[Area]) -> Result<Vec<String>, Wrong> {
     for (at, area) in areas.iter().enumerate() {
         if !is_area_name(&area.name) {
-            return Err((area.line, format!("a picture of areas can't hold the name '{}': letters, digits, '-' and '_'", area.name)));
+            return Err(bad_name(area.line, &area.name));
         }
         if let Some(other) = areas[..at].iter().find(|other| other.meets(area)) {
             return Err((

@@ -28,7 +28,7 @@ const ITEM: &[&str] = &["grid-column", "grid-row"];
 /// The panel and its items, as far as they are read.
 struct Reading {
     sheet: Sheet,
-    picture: Option<(usize, Picture)>,
+    picture: Option<Picture>,
     sized: [bool; 2],
 }
 
@@ -89,7 +89,7 @@ impl Reading {
             "grid-template-columns" | "grid-template-rows" if value.is_word("none") => self.axis(axis).template = vec![],
             "grid-template-columns" | "grid-template-rows" => self.axis(axis).template = value.template(false)?,
             "grid-template-areas" if value.is_word("none") => self.picture = None,
-            "grid-template-areas" => self.picture = Some((declaration.line, css_areas::read(&mut value)?)),
+            "grid-template-areas" => self.picture = Some(css_areas::read(&mut value)?),
             "grid-auto-columns" | "grid-auto-rows" => self.axis(axis).spares = value.tracks()?,
             "gap" => self.gaps(&mut value)?,
             "row-gap" | "column-gap" => self.axis(axis).gap = gap(&mut value)?,
@@ -157,28 +157,31 @@ impl Reading {
         Ok(())
     }
 
-    /// The sheet as text, which the library has to accept, and whose grid has to be as large as the picture of areas.
+    /// The sheet as text, which the library has to accept: areas by their edges, or by rows where dots make the grid larger.
     fn finished(mut self) -> Result<String, Wrong> {
-        if let Some((_, picture)) = &self.picture {
-            self.sheet.areas = picture.areas.clone();
+        let Some(picture) = self.picture else { return Ok(accepted(&self.sheet)?.0) };
+        self.sheet.areas = picture.areas.clone();
+        let (text, answer) = accepted(&self.sheet)?;
+        if is_covered(&answer, &picture) {
+            return Ok(text);
         }
-        let text = self.sheet.write();
-        let answer = Answer::read(text.as_bytes())
-            .map_err(|refusal| (0, format!("the sheet would be refused, at its {}", faults::words(text.as_bytes(), refusal))))?;
-        match &self.picture {
-            Some((line, picture)) if !is_covered(&answer, picture) => Err((
-                *line,
-                "grid-template-areas: a sheet can't say rows or columns of dots after the last area that no track is written for"
-                    .to_string(),
-            )),
-            _ => Ok(text),
-        }
+        self.sheet.picture = picture.rows;
+        Ok(accepted(&self.sheet)?.0)
+    }
+}
+
+/// A sheet as text, and the library's answer to it.
+fn accepted(sheet: &Sheet) -> Result<(String, Answer), Wrong> {
+    let text = sheet.write();
+    match Answer::read(text.as_bytes()) {
+        Ok(answer) => Ok((text, answer)),
+        Err(refusal) => Err((0, format!("the sheet would be refused, at its {}", faults::words(text.as_bytes(), refusal)))),
     }
 }
 
 fn is_covered(answer: &Answer, picture: &Picture) -> bool {
     let explicit = |axis: Axis| answer.axis(axis).lines.explicit as usize;
-    explicit(Axis::Rows) >= picture.rows && explicit(Axis::Columns) >= picture.columns
+    explicit(Axis::Rows) >= picture.rows.len() && explicit(Axis::Columns) >= picture.columns()
 }
 
 fn gap(value: &mut Value) -> Result<Size, Wrong> {

@@ -23,7 +23,7 @@ pub fn write(sheet: &Sheet) -> Result<String, Wrong> {
         let template = template(&sheet.axis(axis).template)?;
         lines.extend((!template.is_empty()).then(|| format!("grid-template-{}: {template}", words(axis).0)));
     }
-    let rows = css_areas::write(&sheet.areas)?;
+    let rows = if sheet.picture.is_empty() { css_areas::write(&sheet.areas)? } else { css_areas::write_rows(&sheet.picture)? };
     let picture: String = rows.iter().map(|row| format!("\n    \"{row}\"")).collect();
     lines.extend((!rows.is_empty()).then(|| format!("grid-template-areas:{picture}")));
     lines.extend(gaps(sheet));

@@ -47,7 +47,7 @@ fn too_long(sheet: &[u8]) -> Option<Fault> {
 /// The faults of a line: its form, its fields, and what stands before it.
 fn of_line(line: &Line, before: &Before) -> Vec<Fault> {
     let mut found: Vec<Fault> = of_form(line).into_iter().map(|words| (UNREAD, words)).collect();
-    if let Some(form) = form_of(line.word()).filter(|form| found.is_empty() && form.fields.len() + 1 == line.fields.len()) {
+    if let Some(form) = form_of(line.word()).filter(|form| found.is_empty() && form.has_fields(line.fields.len())) {
         found.extend(of_fields(line, form));
         found.extend(before.faults(line));
     }
@@ -58,13 +58,14 @@ fn of_line(line: &Line, before: &Before) -> Vec<Fault> {
 
 /// The faults of the fields of a line, each with the field's number and what it is called.
 fn of_fields(line: &Line, form: &Form) -> Vec<Fault> {
-    let of = |(at, (label, field)): (usize, &(&str, _))| {
-        let (number, words) = fault(&line.fields, at + 1, *field)?;
+    let of = |at: usize| {
+        let (label, field) = form.field(at);
+        let (number, words) = fault(&line.fields, at + 1, field)?;
         let returned = line.fields[at + 1].ends_with(b"\r") && !words.contains("carriage return");
         let also = if returned { "; it ends in a carriage return, and lines end in a line feed alone" } else { "" };
         Some((number, format!("field {}, the {label}: {words}{also}", at + 2)))
     };
-    form.fields.iter().enumerate().filter_map(of).collect()
+    (0..line.fields.len() - 1).filter_map(of).collect()
 }
 
 /// A line of no form: empty, of an unknown word, or with fields too few or too many.
@@ -77,7 +78,8 @@ fn of_form(line: &Line) -> Option<String> {
     let labels: Vec<&str> = form.fields.iter().map(|(label, _)| *label).collect();
     let expected = format!("'{}' and then {}", form.word, labels.join(", "));
     let count_words = format!("the line has {count} fields, and {} are expected: {expected}", labels.len() + 1);
-    (count != labels.len() + 1).then_some(count_words)
+    let no_words = "the row has no word: names and dots are expected, one for each cell".to_string();
+    (!form.has_fields(count)).then_some(if form.is_row() { no_words } else { count_words })
 }
 
 fn unknown(line: &Line) -> String {
@@ -116,7 +118,7 @@ fn after_the_last(sheet: &[u8], before: &Before) -> Vec<Fault> {
 /// The sheet without the lines of the other axis.
 fn without_other(sheet: &[u8], axis: Axis) -> Vec<u8> {
     let other = if axis == Axis::Columns { b"r" } else { b"c" };
-    let kept = lines(sheet).into_iter().filter(|line| line.word() == b"area" || line.fields.get(1) != Some(&&other[..]));
+    let kept = lines(sheet).into_iter().filter(|line| matches!(line.word(), b"area" | b"row") || line.fields.get(1) != Some(&&other[..]));
     kept.flat_map(|line| [line.fields.join(&b'\t'), b"\n".to_vec()].concat()).collect()
 }
 

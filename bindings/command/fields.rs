@@ -20,6 +20,8 @@ pub fn fault(fields: &[&[u8]], at: usize, form: Field) -> Option<Fault> {
     match form {
         Field::Word(words) => word(text, words),
         Field::Name => name(text),
+        Field::Cell if !text.is_empty() && text.iter().all(|&byte| byte == b'.') => None,
+        Field::Cell => name(text),
         Field::Whole(low, high) => whole_number(text, low, high),
         Field::Size => size(text, fields[at - 1]),
         Field::Inner if text == b"-" => None,

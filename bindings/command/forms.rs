@@ -7,6 +7,8 @@ pub enum Field {
     /// One of these words.
     Word(&'static [&'static str]),
     Name,
+    /// A name, or dots.
+    Cell,
     /// A whole number in a range.
     Whole(i64, i64),
     /// A size of the kind that the field before it says.
@@ -22,10 +24,30 @@ pub enum Field {
 }
 use Field::*;
 
-/// The form of a line: its first word, and the fields after it.
+/// The form of a line: its first word, and the fields after it; the one field of a row stands once or more.
 pub struct Form {
     pub word: &'static str,
     pub fields: &'static [(&'static str, Field)],
+}
+
+impl Form {
+    /// Whether a line has as many fields as its form.
+    pub fn has_fields(&self, count: usize) -> bool {
+        if self.is_row() {
+            count > 1
+        } else {
+            count == self.fields.len() + 1
+        }
+    }
+
+    pub fn is_row(&self) -> bool {
+        self.word == "row"
+    }
+
+    /// What the field at a place after the word is called, and what it may hold.
+    pub fn field(&self, at: usize) -> (&'static str, Field) {
+        self.fields[if self.is_row() { 0 } else { at }]
+    }
 }
 
 pub const MINIMUM_KINDS: &[&str] = &["len", "pct", "auto", "min", "max"];
@@ -43,6 +65,7 @@ pub const FORMS: &[Form] = &[
         fields: &[AXIS, ("inner size", Inner), ("rule", Word(&["max", "min"])), ("gap kind", Word(&["len", "pct"])), ("gap", Size)],
     },
     Form { word: "area", fields: &[("name", Name), ("row start", EDGE), ("row end", EDGE), ("column start", EDGE), ("column end", EDGE)] },
+    Form { word: "row", fields: &[("word", Cell)] },
     Form { word: "name", fields: &[AXIS, ("name", Name)] },
     Form { word: "track", fields: TRACK },
     Form { word: "repeat", fields: &[AXIS, ("count", Times)] },
@@ -69,11 +92,11 @@ pub fn form_of(word: &[u8]) -> Option<&'static Form> {
     FORMS.iter().find(|form| form.word.as_bytes() == word)
 }
 
-/// The order of kinds: `axis` lines, then `area` lines, then the rest.
+/// The order of kinds: `axis` lines, then `area` lines or `row` lines, then the rest.
 pub fn order_of(word: &[u8]) -> usize {
     match word {
         b"axis" => 0,
-        b"area" => 1,
+        b"area" | b"row" => 1,
         _ => 2,
     }
 }

@@ -6,6 +6,8 @@ pub const COMPONENTS: usize = 64;
 pub const REPEAT_TRACKS: usize = 32;
 pub const SPARES: usize = 64;
 pub const AREAS: usize = 64;
+/// The most words of a row of a picture.
+pub const ROW_WORDS: usize = 10_000;
 pub const PLACEMENTS: usize = 256;
 pub const ENTRIES: usize = palgwern::ENTRIES;
 /// The most explicit tracks of an axis, and the most of each implicit count.

@@ -8,12 +8,14 @@ const REFUSALS: &[(u32, &str, &str)] = &[
     (4, "count", "a whole number is outside its range"),
     (5, "area", "an area's start is not below its end"),
     (6, "twice", "an area name or an axis line stands already"),
-    (7, "late", "the line is earlier in kind than one before it: axis lines, then area lines, then the rest"),
+    (7, "late", "the line is earlier in kind than one before it: axis lines, then area lines or rows, then the rest"),
     (8, "crowded", "one more would pass a limit"),
     (9, "zero line", "line 0 is no line of a grid"),
     (10, "short", "the memory that was lent is too short"),
     (11, "indefinite", "a track or a gutter has no definite size"),
     (12, "overlap", "two areas share a cell"),
+    (13, "unequal", "a row of a picture is not as wide as its first one"),
+    (14, "broken", "the cells of a name in a picture form no filled rectangle"),
 ];
 
 /// The word of a number.

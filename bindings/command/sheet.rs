@@ -63,9 +63,18 @@ pub struct Place {
     pub end: Written,
 }
 
+/// A row of a picture of areas, by its words.
+#[derive(Clone, Debug)]
+pub struct Row {
+    pub line: usize,
+    pub words: Vec<String>,
+}
+
+/// A sheet; the areas of a picture stand beside it.
 #[derive(Clone, Debug)]
 pub struct Sheet {
     pub axes: [AxisSheet; 2],
+    pub picture: Vec<Row>,
     pub areas: Vec<Area>,
     pub places: Vec<Place>,
 }
@@ -92,6 +101,28 @@ impl Area {
     }
 }
 
+impl Row {
+    /// The names that stand in it, each with its column from 1.
+    pub fn names(&self) -> impl Iterator<Item = (u32, &str)> {
+        (1..).zip(self.words.iter().map(String::as_str)).filter(|(_, word)| !word.bytes().all(|byte| byte == b'.'))
+    }
+}
+
+/// The areas of a picture in the order of their first cells: each around all cells of its name.
+pub fn areas_of(picture: &[Row]) -> Vec<Area> {
+    let mut areas: Vec<Area> = vec![];
+    for (row, (column, name), line) in (1..).zip(picture).flat_map(|(row, words)| words.names().map(move |cell| (row, cell, words.line))) {
+        match areas.iter_mut().find(|area| area.name == name) {
+            Some(area) => {
+                area.rows.1 = row + 1;
+                area.columns = (area.columns.0.min(column), area.columns.1.max(column + 1));
+            }
+            None => areas.push(Area { line, name: name.to_string(), rows: (row, row + 1), columns: (column, column + 1) }),
+        }
+    }
+    areas
+}
+
 impl Written {
     /// The name that it looks for.
     pub fn name(&self) -> Option<&str> {
@@ -104,7 +135,7 @@ impl Written {
 
 impl Sheet {
     pub fn empty() -> Sheet {
-        Sheet { axes: [AxisSheet::empty(), AxisSheet::empty()], areas: vec![], places: vec![] }
+        Sheet { axes: [AxisSheet::empty(), AxisSheet::empty()], picture: vec![], areas: vec![], places: vec![] }
     }
 
     pub fn axis(&self, axis: Axis) -> &AxisSheet {

@@ -1,5 +1,5 @@
 //! A sheet read from text that the library accepts.
-use crate::sheet::{Area, AxisSheet, Part, Place, Sheet, Times, Track, Written};
+use crate::sheet::{areas_of, Area, AxisSheet, Part, Place, Row, Sheet, Times, Track, Written};
 use crate::text;
 use crate::values::{self, whole};
 use palgwern::Axis;
@@ -16,6 +16,9 @@ impl Sheet {
         let mut reader = Reader { sheet: Sheet::empty(), open: [false, false] };
         for line in text::lines(bytes) {
             reader.line(line.number, &line.fields);
+        }
+        if !reader.sheet.picture.is_empty() {
+            reader.sheet.areas = areas_of(&reader.sheet.picture);
         }
         reader.sheet
     }
@@ -61,6 +64,10 @@ impl Reader {
             let edge = |at: usize| Some(whole(fields.get(at)?)?.clamp(0, i64::from(u32::MAX)) as u32);
             let (rows, columns) = ((edge(2)?, edge(3)?), (edge(4)?, edge(5)?));
             self.sheet.areas.push(Area { line: number, name: name_of(fields.get(1)?), rows, columns });
+            return Some(());
+        }
+        if fields[0] == b"row" {
+            self.sheet.picture.push(Row { line: number, words: fields[1..].iter().map(|field| name_of(field)).collect() });
             return Some(());
         }
         let axis = match *fields.get(1)? {

@@ -4,10 +4,12 @@ use crate::values::{bits, fields};
 use palgwern::Size;
 
 impl Sheet {
-    /// The sheet in its own order: axes, areas, the lines of the columns, those of the rows, placements.
+    /// The sheet in its own order: axes, the picture or else the areas, the lines of the columns, those of the rows, placements.
     pub fn write(&self) -> String {
         let mut lines: Vec<String> = AXES.iter().filter_map(|&axis| axis_line(self.axis(axis), letter(axis))).collect();
-        lines.extend(self.areas.iter().map(|area| {
+        lines.extend(self.picture.iter().map(|row| format!("row\t{}", row.words.join("\t"))));
+        let areas = if self.picture.is_empty() { &self.areas[..] } else { &[] };
+        lines.extend(areas.iter().map(|area| {
             let ((top, bottom), (left, right)) = (area.rows, area.columns);
             format!("area\t{}\t{top}\t{bottom}\t{left}\t{right}", area.name)
         }));

@@ -167,6 +167,29 @@ fn area(fields: &[&str]) -> GridTemplateArea<String> {
     }
 }
 
+/// A row of a picture, numbered from 0: each name's area is around all its cells, areas in order of first cell.
+fn draw_row(areas: &mut Vec<GridTemplateArea<String>>, row: u16, words: &[&str]) {
+    for (column, word) in (1..).zip(words) {
+        if word.bytes().all(|byte| byte == b'.') {
+            continue;
+        }
+        match areas.iter_mut().find(|area| area.name == *word) {
+            Some(area) => {
+                area.row_end = row + 2;
+                area.column_start = area.column_start.min(column);
+                area.column_end = area.column_end.max(column + 1);
+            }
+            None => areas.push(GridTemplateArea {
+                name: word.to_string(),
+                row_start: row + 1,
+                row_end: row + 2,
+                column_start: column,
+                column_end: column + 1,
+            }),
+        }
+    }
+}
+
 fn placement(fields: &[&str]) -> GridPlacement<String> {
     let (name, number) = (fields[1].to_string(), fields[2]);
     match fields[0] {
@@ -184,11 +207,18 @@ pub(crate) fn read(text: &str) -> Input {
     let mut columns = AxisInput::new();
     let mut rows = AxisInput::new();
     let mut areas = Vec::new();
+    let mut picture = None;
     let mut placements = Vec::new();
     for line in text.lines() {
         let fields: Vec<&str> = line.split('\t').collect();
         if fields[0] == "area" {
             areas.push(area(&fields[1..]));
+            continue;
+        }
+        if fields[0] == "row" {
+            let drawn = picture.map_or(0, |(rows, _)| rows);
+            draw_row(&mut areas, drawn, &fields[1..]);
+            picture = Some((drawn + 1, (fields.len() - 1) as u16));
             continue;
         }
         let (axis, input) = match fields[1] {
@@ -217,18 +247,64 @@ pub(crate) fn read(text: &str) -> Input {
             _ => panic!("no such record"),
         }
     }
-    let style = PanelStyle::new(&mut columns, &mut rows, areas);
+    let style = PanelStyle::new(&mut columns, &mut rows, areas, picture);
     let raised = style.raised(columns.inner, rows.inner);
     Input { style, raised, columns, rows, placements }
 }
 
+/// Calls that go to the style within.
+macro_rules! of_the_style_within {
+    () => {
+        type Repetition<'a> = <Style<String> as GridContainerStyle>::Repetition<'a>;
+        type TemplateTrackList<'a> = <Style<String> as GridContainerStyle>::TemplateTrackList<'a>;
+        type AutoTrackList<'a> = <Style<String> as GridContainerStyle>::AutoTrackList<'a>;
+        type TemplateLineNames<'a> = <Style<String> as GridContainerStyle>::TemplateLineNames<'a>;
+        type GridTemplateAreas<'a> = <Style<String> as GridContainerStyle>::GridTemplateAreas<'a>;
+        fn grid_template_rows(&self) -> Option<Self::TemplateTrackList<'_>> {
+            GridContainerStyle::grid_template_rows(&self.0)
+        }
+        fn grid_template_columns(&self) -> Option<Self::TemplateTrackList<'_>> {
+            GridContainerStyle::grid_template_columns(&self.0)
+        }
+        fn grid_auto_rows(&self) -> Self::AutoTrackList<'_> {
+            GridContainerStyle::grid_auto_rows(&self.0)
+        }
+        fn grid_auto_columns(&self) -> Self::AutoTrackList<'_> {
+            GridContainerStyle::grid_auto_columns(&self.0)
+        }
+        fn grid_template_areas(&self) -> Option<Self::GridTemplateAreas<'_>> {
+            GridContainerStyle::grid_template_areas(&self.0)
+        }
+        fn grid_template_column_names(&self) -> Option<Self::TemplateLineNames<'_>> {
+            GridContainerStyle::grid_template_column_names(&self.0)
+        }
+        fn grid_template_row_names(&self) -> Option<Self::TemplateLineNames<'_>> {
+            GridContainerStyle::grid_template_row_names(&self.0)
+        }
+        fn gap(&self) -> Size<LengthPercentage> {
+            GridContainerStyle::gap(&self.0)
+        }
+    };
+}
+
 /// A `Style` whose areas' extent is read by the defaults of the trait, as document 01 asks;
 /// every other call goes to the `Style` within.
-pub(crate) struct PanelStyle(Style<String>);
+struct DrawnStyle(Style<String>);
+
+impl CoreStyle for DrawnStyle {
+    type CustomIdent = String;
+}
+
+impl GridContainerStyle for DrawnStyle {
+    of_the_style_within! {}
+}
+
+/// The same, but that the rows of a picture and its width are given as the areas' counts (document 02, Req 07).
+pub(crate) struct PanelStyle(DrawnStyle, Option<(u16, u16)>);
 
 impl PanelStyle {
-    fn new(columns: &mut AxisInput, rows: &mut AxisInput, areas: Vec<GridTemplateArea<String>>) -> Self {
-        Self(Style {
+    fn new(columns: &mut AxisInput, rows: &mut AxisInput, areas: Vec<GridTemplateArea<String>>, picture: Option<(u16, u16)>) -> Self {
+        let style = Style {
             gap: Size { width: columns.gap, height: rows.gap },
             grid_template_columns: std::mem::take(&mut columns.components),
             grid_template_rows: std::mem::take(&mut rows.components),
@@ -238,15 +314,18 @@ impl PanelStyle {
             grid_auto_rows: std::mem::take(&mut rows.spares),
             grid_template_areas: Some(GridTemplateAreas { areas, row_count: 0, column_count: 0 }),
             ..Style::DEFAULT
-        })
+        };
+        Self(DrawnStyle(style), picture)
     }
 
     fn raised(&self, columns: Option<f32>, rows: Option<f32>) -> Self {
-        Self(Style {
-            grid_template_columns: raised(&self.0.grid_template_columns, columns),
-            grid_template_rows: raised(&self.0.grid_template_rows, rows),
-            ..self.0.clone()
-        })
+        let style = &self.0 .0;
+        let raised = Style {
+            grid_template_columns: raised(&style.grid_template_columns, columns),
+            grid_template_rows: raised(&style.grid_template_rows, rows),
+            ..style.clone()
+        };
+        Self(DrawnStyle(raised), self.1)
     }
 }
 
@@ -255,34 +334,12 @@ impl CoreStyle for PanelStyle {
 }
 
 impl GridContainerStyle for PanelStyle {
-    type Repetition<'a> = <Style<String> as GridContainerStyle>::Repetition<'a>;
-    type TemplateTrackList<'a> = <Style<String> as GridContainerStyle>::TemplateTrackList<'a>;
-    type AutoTrackList<'a> = <Style<String> as GridContainerStyle>::AutoTrackList<'a>;
-    type TemplateLineNames<'a> = <Style<String> as GridContainerStyle>::TemplateLineNames<'a>;
-    type GridTemplateAreas<'a> = <Style<String> as GridContainerStyle>::GridTemplateAreas<'a>;
+    of_the_style_within! {}
 
-    fn grid_template_rows(&self) -> Option<Self::TemplateTrackList<'_>> {
-        GridContainerStyle::grid_template_rows(&self.0)
+    fn grid_template_area_row_count(&self) -> u16 {
+        self.1.map_or_else(|| self.0.grid_template_area_row_count(), |(rows, _)| rows)
     }
-    fn grid_template_columns(&self) -> Option<Self::TemplateTrackList<'_>> {
-        GridContainerStyle::grid_template_columns(&self.0)
-    }
-    fn grid_auto_rows(&self) -> Self::AutoTrackList<'_> {
-        GridContainerStyle::grid_auto_rows(&self.0)
-    }
-    fn grid_auto_columns(&self) -> Self::AutoTrackList<'_> {
-        GridContainerStyle::grid_auto_columns(&self.0)
-    }
-    fn grid_template_areas(&self) -> Option<Self::GridTemplateAreas<'_>> {
-        GridContainerStyle::grid_template_areas(&self.0)
-    }
-    fn grid_template_column_names(&self) -> Option<Self::TemplateLineNames<'_>> {
-        GridContainerStyle::grid_template_column_names(&self.0)
-    }
-    fn grid_template_row_names(&self) -> Option<Self::TemplateLineNames<'_>> {
-        GridContainerStyle::grid_template_row_names(&self.0)
-    }
-    fn gap(&self) -> Size<LengthPercentage> {
-        GridContainerStyle::gap(&self.0)
+    fn grid_template_area_column_count(&self) -> u16 {
+        self.1.map_or_else(|| self.0.grid_template_area_column_count(), |(_, columns)| columns)
     }
 }

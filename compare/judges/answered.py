@@ -26,6 +26,10 @@ class Answered:
         elif fields[0] == "names":
             self.names[fields[1]].append(fields[3:])
 
+    def refuses_picture(self):
+        """Whether it is a refusal of rows of unequal width, or of a name whose cells form no filled rectangle."""
+        return self.refused is not None and self.refused.startswith(("refused\t13\t", "refused\t14\t"))
+
     def tracks(self, letter):
         """The number of tracks of an axis, implicit ones too."""
         return len(self.records[letter]) // 2

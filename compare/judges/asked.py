@@ -9,8 +9,14 @@ class Asked:
         self.number = number
         self.sheet, self.calls, self.family = made
         self.state = model.Answer(self.sheet, self.calls).state
-        self.panel = self.state.panel
+        # None where it is refused, as a broken picture is.
+        self.panel = self.state and self.state.panel
         self.answered = Answered(lines)
+
+    def rows(self):
+        """The rows of a picture, as the sheet has them."""
+        lines = [line.split("\t") for line in self.sheet.decode("latin-1").splitlines()]
+        return [fields[1:] for fields in lines if fields[0] == "row"]
 
     def book(self, letter):
         """The names of an axis with their lines: the sheet's, repeats written out, then the accepted entries."""

@@ -2,13 +2,17 @@
 import collections
 
 import browser_own
+import comparable
 import drawing
 import seen
 from model import LETTERS
 
 
 def drawings(asked):
-    """The grids of a panel, none where it is refused: its lines, then each axis's tracks as the sheet and as the records have them."""
+    """The grids of a panel, none where it is refused: its lines, then each axis's tracks as the sheet and as the records have them. Of a
+    picture that may be broken, that alone."""
+    if asked.family == comparable.BROKEN:
+        return [drawing.picture_drawing(asked)]
     if asked.answered.refused:
         return []
     drawn = [drawing.lines_drawing(asked)]
@@ -20,6 +24,8 @@ def drawings(asked):
 
 def findings(asked, shown, with_names):
     """Every question that a browser answers by what it shows of a panel's drawings."""
+    if asked.family == comparable.BROKEN:
+        return seen.picture_findings(asked, shown[0])
     if asked.answered.refused:
         return [seen.Finding("answer", "", None, asked.answered.refused, "a panel")]
     found = seen.line_findings(asked, shown[0], with_names)

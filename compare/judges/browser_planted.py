@@ -13,7 +13,7 @@ FEW = 100
 def modelled(number, made):
     """A panel with the model's answer."""
     answer = model.Answer(*made[:2])
-    return Asked(number, made, answer.full_answer() + model.count_lines(answer.state))
+    return Asked(number, made, answer.full_answer() + ([] if answer.refused else model.count_lines(answer.state)))
 
 
 def first_found(reading, made, drawn_by, finders):

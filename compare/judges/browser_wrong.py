@@ -33,7 +33,11 @@ SHARED = [
     "tracks of areas after the positive ones",
     "the gutter before trailing collapsed tracks stays",
     "items counted from the first explicit track",
+    "the width of a picture not counted",
+    "the rows of a picture not counted",
 ]
+# Readings of pictures that CSS's own words find there.
+PICTURED = ["the box around a name's cells, filled or not", "a name again after a gap of rows", "rows and columns of a picture swapped"]
 
 
 # In the answers.
@@ -136,6 +140,11 @@ def area_one_on(panel, way):
     return right_areas(replace(panel, areas=moved), way)
 
 
+def rows_turned(rows, way):
+    """Each row of a picture from its end on."""
+    return right_picture([words[::-1] for words in rows], way)
+
+
 def index_left_out(one):
     return right_end(replace(one, number=0) if one.kind == "named" else one)
 
@@ -181,6 +190,7 @@ right_span_from = Names.span_from
 right_item_between = answered.item_between
 right_repeat = css_text.repeat
 right_areas = css_text.areas
+right_picture = css_text.picture
 right_end = css_text.end
 right_spares = css_text.spares
 right_track = css_text.track
@@ -191,6 +201,7 @@ right_tracks_with_items = drawing.tracks_with_items
 # Each wrong reading: where it is put, and what.
 READINGS = {
     **{name: wrong.FOUND_BY_THE_RUST[name] for name in SHARED},
+    **{name: wrong.FOUND_BY_CSS[name] for name in PICTURED},
     "ceiling also for rule max": (rules, "whole_part", ceiling_by_max),
     "gaps left out of the count": (rules, "gap_size", gaps_left_out),
     "one gap more beside one repetition": (rules, "first_used", one_gap_more),
@@ -209,6 +220,7 @@ READINGS = {
     "drawn with a count one less": (css_text, "repeat", once_less),
     "drawn without gaps": (drawing, "tracks_drawing", no_gap),
     "drawn with rule max for min": (drawing, "inner_style", least_as_size),
+    "drawn with a picture's rows turned": (css_text, "picture", rows_turned),
     "drawn with areas one column on": (css_text, "areas", area_one_on),
     "drawn without the index": (css_text, "end", index_left_out),
     "drawn without the sign": (css_text, "end", sign_left_out),

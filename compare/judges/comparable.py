@@ -9,6 +9,8 @@ import damage
 import exact_repeats
 import maker
 import model
+import pictures
+import reader
 import rules
 from answered import position_of
 from compare import demand_lines
@@ -31,6 +33,8 @@ UNITS = (64, 60)
 # Numbers that lead to lines around 10,000, and how far below it.
 FAR = rules.FURTHEST
 NEAR_FAR = 14
+# The family of pictures of which most are refused.
+BROKEN = "broken"
 
 
 class Comparable(maker.Maker):
@@ -137,6 +141,22 @@ class Comparable(maker.Maker):
             records.append(record)
             runs += loose
         return records + self.area_lines() + self.mixed(*runs, self.placement_lines())
+
+    def picture(self):
+        """A picture of areas as its rows are written, beside all else."""
+        lines = self.general()
+        first = sum(line.startswith(("axis", "area")) for line in lines)
+        records = [line for line in lines[:first] if line.startswith("axis")]
+        return records + pictures.lines(self.good_picture()) + lines[first:]
+
+    def broken(self):
+        """A picture alone that is changed: most are refused, and a browser has to drop just those."""
+        rows = self.good_picture()
+        for _ in range(self.pick([1, 1, 2, 3])):
+            rows = pictures.changed(self.random, rows)
+        if self.chance(0.15):
+            rows[self.random.randrange(len(rows))].append(self.pick([".", "a"]))
+        return pictures.lines(rows)
 
     def invalid(self):
         """A template that CSS drops on one axis or both, beside areas, names, placements and, where areas make tracks, entries."""
@@ -258,6 +278,8 @@ FAMILIES = {
     "general": Family(780, [as_css]),
     "thin": Family(100, [as_css]),
     "invalid": Family(60, [as_css, some_invalid]),
+    "picture": Family(60, [as_css]),
+    BROKEN: Family(60, []),
     "fine": Family(50, [as_css, exact_in_one]),
     "far": Family(8, [as_css, all_unheld]),
     "many": Family(2, [as_css, all_unheld], FAR),
@@ -265,7 +287,10 @@ FAMILIES = {
 
 
 def comparable(answer, family):
-    """Whether a panel of the family is accepted, meets its conditions and has no more tracks than its panels may have."""
+    """Whether a panel of the family is accepted, meets its conditions and has no more tracks than its panels may have; a picture that may
+    be broken is accepted, or refused for that."""
+    if family is FAMILIES[BROKEN]:
+        return not answer.refused or answer.refused.number in (reader.UNEQUAL, reader.BROKEN)
     if answer.refused or not all(condition(answer.state) for condition in family.conditions):
         return False
     axes = answer.state.panel.axes
@@ -283,6 +308,6 @@ def make(seed, number, only=None):
         answer = model.Answer(sheet)
         if not comparable(answer, family):
             continue
-        calls = one.calls_on(answer.state)
+        calls = one.calls_on(answer.state) if name != BROKEN else []
         if not calls or comparable(model.Answer(sheet, calls), family):
             return sheet, calls, name

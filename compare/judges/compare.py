@@ -119,6 +119,38 @@ def css_pair(state):
     return f"CSS: cells in common of {first}, accepted with {state.pair}"
 
 
+def picture_up_to(sheet, line):
+    """The rows of the lines up to this one, from the sheet's text, and which of the lines they are."""
+    lines = [text.decode("latin-1").split("\t") for text in sheet.split(b"\n")[:line]]
+    return [fields[1:] for fields in lines if fields[0] == "row"], [place for place, fields in enumerate(lines, start=1) if fields[0] == "row"]
+
+
+def css_picture(state, sheet):
+    """The areas of an accepted picture against CSS's, in order of first cell."""
+    rows, _ = picture_up_to(sheet, len(sheet))
+    if not rows:
+        return None
+    drawn = {name: (area.row_start, area.row_end, area.column_start, area.column_end) for name, area in state.panel.areas.items()}
+    own = css.picture_areas(rows) if len(set(map(len, rows))) == 1 else None
+    if own is None or list(own.items()) != list(drawn.items()):
+        return f"CSS: the picture has areas {own}, the rule {drawn}"
+    if any(state.explicit[letter] < css.area_tracks(state.panel, letter) for letter in model.LETTERS):
+        return "CSS: the explicit grid is smaller than the picture"
+    return None
+
+
+def css_broken(sheet, refused):
+    """A refusal by 13 or 14 against CSS's words: the widths of the rows up to its line, or a name whose cells form no filled rectangle."""
+    rows, places = picture_up_to(sheet, refused.line)
+    widths = list(map(len, rows))
+    if refused.number == reader.UNEQUAL:
+        right = len(set(widths[:-1])) == 1 and widths[-1] != widths[0]
+    else:
+        right = len(set(widths)) == 1 and css.picture_areas(rows) is None
+    right = right and places[-1] == refused.line
+    return None if right else f"CSS: no refusal by {refused.number} at line {refused.line}"
+
+
 def compare_overlap(refused, rust, sheet):
     """Areas that share a cell: the Rust takes them, and is compared with what the display call answers."""
     displayed = model.Answer(sheet, display=True)
@@ -131,6 +163,8 @@ def compare_refused(refused, rust, sheet):
     """Where the model refuses, the Rust speaks only of areas that share a cell and of what is found after the last line."""
     if refused.number == reader.OVERLAP:
         return compare_overlap(refused, rust, sheet)
+    if refused.number in (reader.UNEQUAL, reader.BROKEN):
+        return Comparison(f"refused {refused.number}", [css_broken(sheet, refused)])
     panel = getattr(refused, "panel", None)
     if panel is None:
         return Comparison(f"refused {refused.number}", [])
@@ -326,8 +360,9 @@ def compare_accepted(answer, rust, sheet):
         differences.append(calls_difference(answer, sheet, lines))
     rows = questions.made(sheet, state)
     differences.append(exact_cursor.difference(state, answer.output, rows, questions.answer_lines(state, rows)))
+    differences.append(css_picture(state, sheet))
     css_found, demanded = css_differences(state)
-    kind = "accepted" + (", an invalid template" if invalid_letters(state.panel) else "") + (", third demand's conditions hold" if demanded else "")
+    kind = "accepted" + (", a picture" if state.panel.picture else "") + (", an invalid template" if invalid_letters(state.panel) else "") + (", third demand's conditions hold" if demanded else "")
     return Comparison(kind, differences + css_found)
 
 

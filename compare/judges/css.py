@@ -165,9 +165,47 @@ def first_pair(areas):
     return earlier, later
 
 
+def picture_areas(rows):
+    """CSS 7.3: "the cells of a name form one filled rectangle". The areas of a picture of equal rows by name, each its row start, row end,
+    column start and column end, in order of first cell; None where there is a name whose cells form none.
+
+    From its first cell on, a name's area goes as far right as the name does, and as far down; every cell of it has to bear the name, and
+    no other cell."""
+    height, width = len(rows), len(rows[0]) if rows else 0
+    areas = {}
+    for row in range(height):
+        for column in range(width):
+            name = rows[row][column]
+            if name.strip(".") and not inside(areas.get(name), row + 1, column + 1):
+                area = None if name in areas else area_from(rows, row, column, height, width)
+                if area is None:
+                    return None
+                areas[name] = area
+    return areas
+
+
+def inside(area, row, column):
+    """Whether a cell lies in an area."""
+    return area is not None and row in range(*area[:2]) and column in range(*area[2:])
+
+
+def area_from(rows, row, column, height, width):
+    """The area of the name at its first cell, None where it isn't filled."""
+    name = rows[row][column]
+    right, down = column, row
+    while right < width and rows[row][right] == name:
+        right += 1
+    while down < height and rows[down][column] == name:
+        down += 1
+    filled = all(rows[at][place] == name for at in range(row, down) for place in range(column, right))
+    return (row + 1, down + 1, column + 1, right + 1) if filled else None
+
+
 def area_tracks(panel, letter):
-    """The tracks that the areas span."""
-    return max((area.edges(letter)[1] - 1 for area in panel.areas.values()), default=0)
+    """The tracks that the areas span; a picture has as many rows as lines of words, and as many columns as a line has words, empty ones too."""
+    spanned = max((area.edges(letter)[1] - 1 for area in panel.areas.values()), default=0)
+    drawn = len(panel.picture) if letter == "r" else max(map(len, panel.picture), default=0)
+    return max(spanned, drawn)
 
 
 def implicit_size(axis, place):

@@ -100,8 +100,16 @@ def spares(axis):
     return " ".join(map(track, axis.spares)) or "auto"
 
 
+def picture(rows, way):
+    """A picture as it is written, dots as many as there are; where columns lie down, its columns as rows."""
+    rows = rows if way == "columns" else list(zip(*rows))
+    return " ".join(f"'{' '.join(name(word) if word.strip('.') else word for word in words)}'" for words in rows)
+
+
 def areas(panel, way):
     """The drawn areas as a picture of cells, its rows the panel's rows or, where columns lie down, its columns."""
+    if panel.picture:
+        return picture(panel.picture, way)
     letters = ("r", "c") if way == "columns" else ("c", "r")
     ends = [max(area.edges(letter)[1] for area in panel.areas.values()) for letter in letters]
     cells = [["."] * (ends[1] - 1) for _ in range(ends[0] - 1)]

@@ -1,5 +1,6 @@
 """Damages good sheets, each damage with the refusal that it is made for."""
 import areas
+import pictures
 
 BAD_NAMES = [b"", b"x" * 33, b"a b", b"a\x7f", b"\x80", b"a\r", b"\x00", b"\xc3\xa9", b" "]
 UNREAD_NUMBERS = ["", "-", "+1", "01", "-0", "00", "1 ", "0x1", "1.0", "-01", "--1", "a", "1e3", "1\r", "1\0", "\xb2"]
@@ -57,6 +58,8 @@ def field_damages(fields):
     if word == "axis":
         inner = words("", "--") + [damage for damage in sizes("len") if damage[1] != "-"]
         return [AXES, inner, words("", "most", "fill"), words("", "fr", "auto"), sizes(fields[4])]
+    if word == "row":
+        return [names()] * (len(fields) - 1)
     rest = {
         "name": lambda: [names()],
         "track": lambda: track_damages(fields[1:]),
@@ -114,6 +117,8 @@ def damage_form(random, lines):
                          line.upper(), line.replace("\t", " "), "end", "\t\t", line.replace("\t", "\t\t", 1), "size\tc\t0\t0"])
     if bad == line or bad == line.rsplit("\t", 1)[0] == line:
         bad = ""
+    if line.startswith("row"):
+        bad = pictures.others(random)
     return sheet_of(lines[:place] + [bad] + lines[place + 1:]), (1, place + 1)
 
 
@@ -201,6 +206,149 @@ def beside_overlap(random, lines, drawn, later):
     return lines, [], (12, place + 1)
 
 
+# A picture, changed or not, and what stands in it, beside it or after it. Each way answers lines or a sheet, and the refusal.
+
+def is_row(line):
+    return line.startswith("row\t")
+
+
+def part_way(random, lines):
+    """The place of a row that is not the first, of the first row, and how many rows there are."""
+    first = next(place for place, line in enumerate(lines) if is_row(line))
+    count = sum(map(is_row, lines))
+    return first, first + random.randint(1, count), count
+
+
+def of_picture(rows, first, count, otherwise):
+    """The refusal by 14 of the first rows of a picture, else the other one."""
+    return pictures.refusal(rows[:count], first + 1) or otherwise
+
+
+def rows_late(random, lines, rows):
+    """A record of the rest among the rows: those after it are late."""
+    first, place, count = part_way(random, lines)
+    late = (7, place + 2) if place - first < count else None
+    other = random.choice(["item\tc\t0", "extra\tr\t1\t1", "place\tc\tauto\t-\t0\tauto\t-\t0", "spare\tr\tauto\t00000000\tauto\t00000000"])
+    return lines[:place] + [other] + lines[place:], of_picture(rows, first, place - first, late)
+
+
+def rows_after_a_fault(random, lines, rows):
+    """A record of the rest among the rows that has a fault itself: it still ends the picture."""
+    first, place, count = part_way(random, lines)
+    other, number = random.choice([("item\tc\t30000", 4), ("name\tr\t", 2), ("end\tc", 1), ("extra\tx\t1\t1", 1)])
+    return lines[:place] + [other] + lines[place:], of_picture(rows, first, place - first, (number, place + 1))
+
+
+def area_among_rows(random, lines, rows):
+    """An area record among the rows or after them, by another name or by one of theirs."""
+    first, place, count = part_way(random, lines)
+    drawn = sorted({word for words in rows[:place - first] for word in words if word.strip(".")})
+    name, number = random.choice([("late", 7)] + [(name, 6) for name in drawn[:3]])
+    other = f"area\t{name}\t1\t2\t1\t2"
+    return lines[:place] + [other] + lines[place:], of_picture(rows, first, place - first, (number, place + 1))
+
+
+def area_before_rows(random, lines, rows):
+    first, _, _ = part_way(random, lines)
+    return lines[:first] + ["area\tfirst\t1\t2\t1\t2"] + lines[first:], (7, first + 2)
+
+
+def no_form_among_rows(random, lines, rows):
+    """A line of no form, or an axis line, among the rows: it doesn't end the picture, and comes before its last row."""
+    first, place, count = part_way(random, lines)
+    letters = [letter for letter in "cr" if not any(line.startswith(f"axis\t{letter}") for line in lines)]
+    other, number = pictures.others(random), 1
+    if random.random() < 0.4:
+        letter = random.choice("cr")
+        other, number = f"axis\t{letter}\t-\tmax\tlen\t00000000", 7 if letter in letters else 6
+    last = place - first == count
+    return lines[:place] + [other] + lines[place:], of_picture(rows, first, count, (number, place + 1)) if last else (number, place + 1)
+
+
+def row_unequal(random, lines, rows):
+    """Some rows, the first of them not the first of all, with a word more or a word less, or with a bad word too."""
+    first, place, count = part_way(random, lines)
+    if place - first == count:
+        lines = lines[:place] + [lines[place - 1]] + lines[place:]
+    number = 13
+    for at in range(place, first + count):
+        if at == place or random.random() < 0.3:
+            lines[at] = random.choice([lines[at] + "\tmore", lines[at] + "\t.", lines[at] + "\t." * 3, "row" + "\ta" * (len(rows[0]) + 1)])
+    if place - first == count:
+        lines[place] += "\t."
+    elif random.random() < 0.3:
+        lines[place] += "\t" + random.choice(pictures.BAD_WORDS)
+        number = 2
+    return lines, (number, place + 1)
+
+
+def row_with_a_bad_word(random, lines, rows):
+    first, place, count = part_way(random, lines)
+    fields = lines[place - 1].split("\t")
+    fields[random.randrange(1, len(fields))] = random.choice(pictures.BAD_WORDS)
+    return lines[:place - 1] + ["\t".join(fields)] + lines[place:], (2, place)
+
+
+def row_without_words(random, lines, rows):
+    first, place, count = part_way(random, lines)
+    last = place - first == count
+    word, number = random.choice([("row", 1), ("row\t", 2), ("row\t.\t", 2)])
+    refusal = (number, place + 1)
+    return lines[:place] + [word] + lines[place:], of_picture(rows, first, count, refusal) if last and number == 1 else refusal
+
+
+def rows_too_wide(random, lines, rows):
+    """A row of more than 10,000 words, now and then with a bad one, or late."""
+    wide = "row" + "\t." * (10000 + random.randint(1, 3))
+    way = random.randrange(4)
+    if way == 0:
+        return [wide], (4, 1)
+    if way == 1:
+        return [wide + "\t"], (2, 1)
+    if way == 2:
+        return ["item\tc\t0", wide], (4, 2)
+    return ["row\t.", wide], (4, 2)
+
+
+def names_too_many(random, lines, rows):
+    crowded, line = pictures.one_name_too_many(random)
+    late = random.random() < 0.2
+    lines = (["area\tx\t1\t2\t1\t2"] if late else []) + pictures.lines(crowded)
+    return lines, (7, 2) if late else (8, line)
+
+
+def last_row_unended(random, lines, rows):
+    """The last row has no line feed: it is no row."""
+    first, _, count = part_way(random, lines)
+    unended = (1, first + count)
+    return sheet_of(lines[:first + count])[:-1], of_picture(rows, first, count - 1, unended) if count > 1 else unended
+
+
+def followed_by_a_fault(random, lines, rows):
+    """A fault after the picture: 14 comes before it."""
+    first, _, count = part_way(random, lines)
+    place = first + count
+    other, number = random.choice([("", 1), ("row", 1), ("item\tc\t30000", 4), ("area\tq\t1\t1\t1\t2", 5), ("name\tc\t", 2)])
+    return lines[:place] + [other] + lines[place:], of_picture(rows, first, count, (number, place + 1))
+
+
+def as_it_is(random, lines, rows):
+    first, _, count = part_way(random, lines)
+    return lines, of_picture(rows, first, count, None)
+
+
+BESIDE_PICTURES = [as_it_is] * 12 + [rows_late, rows_late, rows_after_a_fault, area_among_rows, area_among_rows, area_before_rows, no_form_among_rows,
+                                     no_form_among_rows, row_unequal, row_unequal, row_with_a_bad_word, row_without_words, rows_too_wide, names_too_many,
+                                     last_row_unended, followed_by_a_fault]
+
+
+def beside_picture(random, lines, rows):
+    """A sheet with these rows as they are, or with another line among them, no calls, and the refusal."""
+    sheet, refusal = random.choice(BESIDE_PICTURES)(random, list(lines), rows)
+    length = len(sheet) if isinstance(sheet, bytes) else len(sheet_of(sheet))
+    return sheet, [], (1, 0) if length > 32768 else refusal
+
+
 def damage_twice(random, lines):
     """An axis record or an area name again, at once or late."""
     records = [line for line in lines if line.startswith(("axis", "area"))]
@@ -217,13 +365,13 @@ def damage_twice(random, lines):
 def damage_late(random, lines):
     """An area after the rest, or an axis record after an area or the rest."""
     given = {line.split("\t")[1] for line in lines if line.startswith("axis")}
-    loose = [place for place, line in enumerate(lines) if not line.startswith(("axis", "area"))]
-    areas = [place for place, line in enumerate(lines) if line.startswith("area")]
+    loose = [place for place, line in enumerate(lines) if not line.startswith(("axis", "area", "row"))]
+    areas = [place for place, line in enumerate(lines) if line.startswith(("area", "row"))]
     free = [letter for letter in "cr" if letter not in given]
     if free and (areas or loose) and random.random() < 0.6:
         line, first = f"axis\t{random.choice(free)}\t-\tmin\tpct\t00000000", min(areas + loose)
     elif loose:
-        line, first = "area\tlate\t1\t2\t1\t2", loose[0]
+        line, first = random.choice(["area\tlate\t1\t2\t1\t2", "row\tlate", "row\t.\tlate"]), loose[0]
     else:
         return damage_form(random, lines)
     place = random.randint(first + 1, len(lines))

@@ -20,6 +20,7 @@ def rust_sheets():
     yield "filled above 10,000", [axis_line("477fff00")] + repeat("fill", ZERO, ZERO, ZERO), ["refused\t4\t7"]
     yield "filled by length 0", [axis_line("3f800000")] + repeat("fill", ZERO), ["size\tc\t1\t1"]
     yield "areas that overlap", ["area\ta\t1\t2\t1\t3", "area\tb\t1\t2\t2\t4", place_line("named\ta\t0", "named\tb\t0")], ["refused\t12\t2"]
+    yield "dots in a picture", ["row\ta\t.", "row\t.\t."], ["size\tc\t0\t2", "size\tr\t0\t2"]
     yield "4,097 entries", ["repeat\tc\t4097", "name\tc\tx", f"track\tc\t{TRACK}", "end\tc"], ["refused\t8\t5"]
 
 
@@ -46,7 +47,7 @@ def outside_sheets():
 
 
 def worded_sheets():
-    """Within the third demand's conditions, by the words of document 01."""
+    """Within the third demand's conditions, by the words of documents 01 and 02."""
     yield "held before a span", ["area\ta\t1\t2\t1\t10001", place_line("nspan\ta-end\t1", "line\t-\t10002")], placed("line -10002 line 10002")
     yield "product above", [axis_line("41300000")] + repeat("fill", "pct\t3dcccccd\tpct\t3dcccccd"), ["size\tc\t9\t9"]
     yield "quotient rounded up", [axis_line("4168d42b")] + repeat("fill", "len\t403a4356\tlen\t403a4356"), ["size\tc\t5\t5"]
@@ -57,6 +58,9 @@ def worded_sheets():
     yield "minimum beside fit-content", ["track\tc\tlen\t3f800000\tfitl\t3f800000"], ["1\ttrack\tn\tlen\t3f800000\tfitl\t3f800000\tt"]
     yield "name without a number", ["area\ta\t1\t2\t2\t3", place_line(X + "0"), place_line("named\ta\t0", "named\ta\t0")], \
         placed("line 4 auto 0", "line 2 line 3")
+    yield "a broken picture", ["row\ta\t.\ta"], ["refused\t14\t1"]
+    yield "rows of unequal width", ["row\ta\tb", "row\ta"], ["refused\t13\t2"]
+    yield "a dot in a word", ["row\ta.b"], ["size\tc\t0\t1"]
     yield "line 0", [place_line("line\t-\t0"), place_line("line\t-\t0", "nspan\tx\t1")], placed("line 0 auto 0", "line 0 span 1")
 
 

@@ -11,6 +11,7 @@ from rules import grid_line
 CONTENT = "ii i"
 # More records than this are not drawn: Firefox has no more tracks.
 MOST_RECORDS = 9999
+AREAS = "grid-template-areas"
 
 
 class Drawing:
@@ -70,7 +71,16 @@ def dropped_in_tracks(asked, letter, way):
 
 
 def area_style(asked, way):
-    return {"grid-template-areas": css_text.areas(asked.panel, way)} if asked.panel.areas else {}
+    return {AREAS: css_text.areas(asked.panel, way)} if asked.panel.areas or asked.panel.picture else {}
+
+
+def picture_drawing(asked):
+    """A picture alone, good or broken, as its rows stand in the sheet: a browser has to drop a broken one."""
+    return Drawing({AREAS: css_text.picture(asked.rows(), "columns")}, [])
+
+
+def dropped_in_picture(asked):
+    return [AREAS] if asked.answered.refuses_picture() else []
 
 
 def lines_drawing(asked):

@@ -188,6 +188,89 @@ def shared_sheets():
                                                              place_line("named\tb\t0", "named\ta\t0")], (12, 2), (1, 2)
 
 
+def rows(*pictured):
+    """Rows of a picture, their words parted by spaces."""
+    return ["row\t" + "\t".join(words.split(" ")) for words in pictured]
+
+
+def picture_sheets():
+    """Pictures, good ones and each way to be none: (name, lines, refusal or None, lines that the answer has to hold)."""
+    sized = lambda columns, rows: [f"size\tc\t0\t{columns}", f"size\tr\t0\t{rows}"]
+    edges_of = lambda name: [f"place\t{letter}\tnamed\t{name}\t0\tnamed\t{name}\t0" for letter in "cr"]
+    at = lambda *lines: [f"place\t{letter}\tline\t{start}\tline\t{end}" for letter, start, end in zip("cr", lines[::2], lines[1::2])]
+    yield "a picture", rows("a a b", "a a .") + edges_of("a") + edges_of("b"), None, sized(3, 2) + at(1, 3, 1, 3) + at(3, 4, 1, 2)
+    yield "the same by areas", ["area\ta\t1\t3\t1\t3", "area\tb\t1\t2\t3\t4"] + edges_of("a") + edges_of("b"), None, sized(3, 2) + at(1, 3, 1, 3) + at(3, 4, 1, 2)
+    yield "one cell", rows("a") + edges_of("a"), None, sized(1, 1) + at(1, 2, 1, 2)
+    yield "one name in all cells", rows("a a", "a a", "a a") + edges_of("a"), None, sized(2, 3) + at(1, 3, 1, 4)
+    yield "around an empty cell", rows("b b a", "d . a", "d c c") + edges_of("a") + edges_of("b") + edges_of("c") + edges_of("d"), None, \
+        sized(3, 3) + at(3, 4, 1, 3) + at(1, 3, 1, 2) + at(2, 4, 3, 4) + at(1, 2, 2, 4)
+    yield "dots alone", rows(". ...", ".. .") + [place_line("line\t-\t-1")], None, sized(2, 2) + ["place\tc\tline\t-1\tauto\t0"]
+    yield "rows and columns of dots at the end", rows("a . .", ". . .", ". . .") + edges_of("a"), None, sized(3, 3) + at(1, 2, 1, 2)
+    yield "dots of many bytes", rows("." * 32 + " a", "." * 33 + " a", "." * 400 + " ."), None, sized(2, 3)
+    yield "names with dots", rows("a. ..a", "a.b .-.") + edges_of("..a"), None, sized(2, 2) + at(2, 3, 1, 2)
+    yield "a name of 32 bytes", rows("n" * 32 + " .") + edges_of("n" * 32), None, sized(2, 1) + at(1, 2, 1, 2)
+    yield "a template wider than the picture", rows("a") + [f"track\tc\t{TRACK}"] * 3, None, sized(3, 1)
+    yield "a picture wider than the template", rows("a . .") + [f"track\tc\tlen\t3f800000\tlen\t3f800000"], None, \
+        sized(3, 1) + ["1\ttrack\tn\tlen\t3f800000\tlen\t3f800000\tt", f"5\ttrack\tn\t{TRACK}\tg"]
+    yield "after axis lines", [axis_line("42c80000")] + rows("a b"), None, sized(2, 1)
+    yield "an L shape", rows("a a", "a ."), (14, 2), []
+    yield "an L shape, the other way", rows("a b", "a a", "b b"), (14, 3), []
+    yield "a corner missing", rows("a a a", "a a a", "a a ."), (14, 3), []
+    yield "a hole", rows("a a a", "a . a", "a a a"), (14, 3), []
+    yield "a gap of rows", rows("a", ".", "a"), (14, 3), []
+    yield "a gap of columns", rows("a . a"), (14, 1), []
+    yield "a second run", rows("a . a", "a a a"), (14, 2), []
+    yield "columns moved", rows("a a .", ". a a"), (14, 2), []
+    yield "columns added", rows("a .", "a a"), (14, 2), []
+    yield "corners alone", rows("a b", "b a"), (14, 2), []
+    yield "broken in the first of many rows", rows("a . a", "b b b", ". . .", "c c c"), (14, 4), []
+    yield "broken before the rest", rows("a . a") + ["name\tc\tx", "row\ta\ta\ta"], (14, 1), []
+    yield "broken before a line of no form", rows("a . a") + ["junk"], (14, 1), []
+    yield "broken around a line of no form", rows("a . a") + ["junk"] + rows("a a a"), (1, 2), []
+    yield "broken around an axis line", rows("a . a") + [axis_line()] + rows("a a a"), (7, 2), []
+    yield "broken around a row without words", rows("a . a") + ["row"] + rows("a a a"), (1, 2), []
+    yield "broken before an area", rows("a . a") + ["area\tb\t1\t2\t1\t2"] + rows("a a a"), (14, 1), []
+    yield "broken before an area of its name", rows("a . a") + ["area\ta\t1\t2\t1\t2"], (14, 1), []
+    yield "broken by the last row", rows("a a", "b b", "a a"), (14, 3), []
+    yield "good before the rest, broken after", rows("a") + ["item\tc\t0"] + rows(".", "a"), (7, 3), []
+    yield "a row shorter", rows("a b", "a"), (13, 2), []
+    yield "a row longer", rows("a", "a b"), (13, 2), []
+    yield "the first of two unequal rows", rows("a b", "a b", "c", "d e f"), (13, 3), []
+    yield "unequal and broken", rows("a . a", "a"), (13, 2), []
+    yield "unequal before the last row", rows("a . a", "a", "a . a"), (13, 2), []
+    yield "unequal and a bad word", rows("a b", "a") + ["row\t" + "n" * 33], (13, 2), []
+    yield "a bad word and unequal", rows("a b") + ["row\t" + "n" * 33], (2, 2), []
+    yield "unequal and late", rows("a b") + ["item\tc\t0", "row\ta"], (7, 3), []
+    yield "no words", ["row"], (1, 1), []
+    yield "an empty word", ["row\t"], (2, 1), []
+    yield "an empty last word", ["row\ta\t"], (2, 1), []
+    yield "an empty word between", ["row\ta\t\tb"], (2, 1), []
+    yield "a word of 33 bytes", rows("n" * 33), (2, 1), []
+    yield "a space in a word", ["row\ta b"], (2, 1), []
+    yield "10,000 words", ["row" + "\t." * 9999 + "\ta"] + [place_line("named\ta\t0", "named\ta\t0")], None, sized(10000, 1) + ["place\tc\tline\t10000\tline\t10001"]
+    yield "10,001 words", ["row" + "\t." * 10001], (4, 1), []
+    yield "10,001 words and a bad one", ["row" + "\t." * 10000 + "\t"], (2, 1), []
+    yield "10,001 words after a row", rows("a") + ["row" + "\t." * 10001], (4, 2), []
+    yield "5,000 rows", rows("a") * 5000 + ["place\tr\tnamed\ta\t0\tnamed\ta\t0"], None, sized(1, 5000) + ["place\tr\tline\t1\tline\t5001"]
+    names = [f"n{number}" for number in range(64)]
+    yield "64 names", rows(" ".join(names)), None, sized(64, 1)
+    yield "65 names", rows(" ".join(names + ["more"])), (8, 1), []
+    yield "a 65th name in a later row", rows(" ".join(names), " ".join(names), " ".join(names[:-1] + ["more"]), " ".join(names)), (8, 3), []
+    yield "a 65th name and unequal", rows(" ".join(names), "more"), (8, 2), []
+    yield "a 65th name and late", rows(" ".join(names)) + ["item\tc\t0", "row\tmore"], (7, 3), []
+    yield "a row after an area", ["area\ta\t1\t2\t1\t2", "row\tb"], (7, 2), []
+    yield "a row of the area's name after it", ["area\ta\t1\t2\t1\t2", "row\ta"], (7, 2), []
+    yield "an area after a row", rows("a") + ["area\tb\t5\t6\t5\t6"], (7, 2), []
+    yield "an area over a row", rows("a") + ["area\tb\t1\t2\t1\t2"], (7, 2), []
+    yield "an area after a row by its name", rows("a") + ["area\ta\t5\t6\t5\t6"], (6, 2), []
+    yield "a row after the rest", ["item\tc\t0", "row\ta"], (7, 2), []
+    yield "an axis line after a row", rows("a") + [axis_line()], (7, 2), []
+    yield "an axis line again after a row", [axis_line()] + rows("a") + [axis_line()], (6, 3), []
+    yield "broken and too many tracks", rows("a . a") + ["repeat\tr\t10001", f"track\tr\t{TRACK}", "end\tr"], (14, 1), []
+    yield "a picture and too many tracks", rows("a") + ["repeat\tr\t10001", f"track\tr\t{TRACK}", "end\tr"], (4, 5), []
+    yield "an invalid template beside a picture", rows("a b") + ["repeat\tc\t0", f"track\tc\t{TRACK}", "end\tc"], None, sized(2, 1)
+
+
 def limit_calls():
     """Entry calls on an empty sheet, each with its number."""
     return [(("c", 1, b"x"), 0), (("c", 0, b"x"), 4), (("r", 20000, b"x"), 0), (("r", 20001, b"x"), 4), (("c", 4294967295, b"x"), 4),

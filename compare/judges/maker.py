@@ -4,6 +4,7 @@ import random
 import areas
 import binary32
 import damage
+import pictures
 import ties
 
 BASES = ["a", "b", "x", "y", "-", "start", "a-", "A", "aa", "~", "!", "a-start-", "n" * 26, "m" * 32]
@@ -322,6 +323,55 @@ class Maker:
         lines = [areas.line(str(number), area) for number, area in enumerate(drawn)] + [areas.line("more", more)]
         return lines + self.placement_lines(), [], (number, 65)
 
+    # Pictures of areas.
+
+    def picture_names(self, count):
+        """Names for a picture, the sheet's own ones first, those before their suffixes too; `a.` and `..a` are names as well."""
+        bases = [name[:-len(end)] for name in self.names for end in ("-start", "-end") if name.endswith(end)]
+        own = [name for name in self.names + bases + ["a.", "..a", "."] if name.strip(".")]
+        self.random.shuffle(own)
+        return list(dict.fromkeys(own + [f"d{number}" for number in range(count)]))[:count]
+
+    def good_picture(self):
+        """Rows and columns of a few cells, now and then of many."""
+        height, width = self.random.randint(1, 6), self.random.randint(1, 6)
+        if self.chance(0.1):
+            height, width = self.pick([(1, 40), (40, 1), (20, 12), (8, 8), (3, 100)])
+        cuts = self.pick([0, 1, 2, 3, 5, 9, 20])
+        return pictures.good(self.random, height, width, self.picture_names(min(cuts + 1, 64)), cuts)
+
+    def picture(self):
+        """A good picture in place of area records."""
+        if self.chance(0.06):
+            return self.large_picture()
+        return self.sheet_lines(pictures.lines(self.good_picture())), self.calls(), None
+
+    def large_picture(self):
+        """The furthest counts of words, rows and names."""
+        way = self.random.randrange(4)
+        if way == 0:
+            words = [self.pick([".", "a"])] * self.pick([9998, 9999, 10000])
+            rows = [words[:-1] + ["b"]]
+        elif way == 1:
+            rows = [["a"]] * self.pick([4999, 5000]) + [["."]]
+        elif way == 2:
+            names = [f"n{number}" for number in range(64)]
+            side = self.pick([1, 2, 4, 8, 16, 32, 64])
+            rows = [names[at:at + side] for at in range(0, 64, side) for _ in range(self.pick([1, 1, 2]))]
+        else:
+            rows = [["a"] * 60 + ["."] * 30 + ["b"] * 10] * 100
+        return pictures.lines(rows) + self.placement_lines(), [], None
+
+    def broken(self):
+        """A picture that is changed, or with other lines in it, beside it or after it; most of them are refused."""
+        rows = self.good_picture()
+        if self.chance(0.15):
+            return damage.damaged(self.random, self.sheet_lines(pictures.lines(rows)))
+        for _ in range(self.pick([1, 1, 1, 2, 3])):
+            rows = pictures.changed(self.random, rows)
+        lines = self.sheet_lines(pictures.lines(rows))
+        return damage.beside_picture(self.random, lines, rows)
+
     def cursor_template(self, letter):
         """Components whose tracks all have a definite size beside an inner size."""
         lines = [line for _ in range(self.below(5)) for line in self.name_lines(letter, 0.3) + self.plain_lines(letter, 0.2)]
@@ -602,7 +652,7 @@ class Maker:
         return damage.spoiled(self.random, self.sheet_lines()), self.calls(), None
 
 
-WEIGHTS = {"general": 600, "touching": 30, "overlap": 50, "invalid": 60, "tie": 100, "thin": 100, "cursor": 60, "resize": 30, "large": 8, "over": 5, "far": 5, "writing_out": 12, "full": 12, "store": 2, "long": 3,
+WEIGHTS = {"general": 600, "touching": 30, "overlap": 50, "picture": 50, "broken": 60, "invalid": 60, "tie": 100, "thin": 100, "cursor": 60, "resize": 30, "large": 8, "over": 5, "far": 5, "writing_out": 12, "full": 12, "store": 2, "long": 3,
            "damaged": 220, "spoiled": 60, "grouped": 0}  # asked for by name alone: the sheets of a seed stay
 
 

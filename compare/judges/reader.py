@@ -15,19 +15,24 @@ EDGES = (1, 10001)
 IMPLICIT_COUNTS = (0, 10000)
 ITEMS = (0, 29999)
 REPEAT_COUNTS = (0, 65535)
+MOST_WORDS = 10000
 
 UNREAD, NAME, VALUE, COUNT, AREA, TWICE, LATE, CROWDED, ZERO_LINE, SHORT = range(1, 11)
 INDEFINITE = 11
 OVERLAP = 12
-# Which of the faults of a line is given: document 02 puts 12 after 6 and 7 and before 8.
-FAULT_ORDER = (UNREAD, NAME, VALUE, COUNT, AREA, TWICE, LATE, OVERLAP, CROWDED)
+UNEQUAL = 13
+BROKEN = 14
+# Which of the faults of a line is given: document 02 puts 12 after 6 and 7 and before 8, and 14 after 13.
+FAULT_ORDER = (UNREAD, NAME, VALUE, COUNT, AREA, TWICE, LATE, OVERLAP, CROWDED, UNEQUAL, BROKEN)
 
 LARGEST_OF_KIND = {"len": LARGEST_LENGTH, "pct": LARGEST_PERCENTAGE, "fr": LARGEST_LENGTH,
                    "fitl": LARGEST_LENGTH, "fitp": LARGEST_PERCENTAGE, "auto": 0.0, "min": 0.0, "max": 0.0}
 MINIMUM_KINDS = ("len", "pct", "auto", "min", "max")
 NO_PAIR = (0, 0)
-KIND_ORDER = {"axis": 0, "area": 1}
-THE_REST = 2
+THE_REST = "the rest"
+# The kinds after which a line of a kind is late: "rows stand where area records do; an area record after a row, or a row after an area
+# record, is late".
+LATE_AFTER = {"axis": {"area", "row", THE_REST}, "area": {"row", THE_REST}, "row": {"area", THE_REST}, THE_REST: set()}
 
 
 class Refused(Exception):
@@ -115,7 +120,11 @@ class Panel:
     axes: dict = field(default_factory=lambda: {"c": Axis(), "r": Axis()})
     areas: dict = field(default_factory=dict)
     placements: list = field(default_factory=list)
-    order: int = 0
+    # The rows of the picture of areas, each a list of words, and the names that stand in it.
+    picture: list = field(default_factory=list)
+    pictured: set = field(default_factory=set)
+    # The kinds of the lines so far.
+    kinds: set = field(default_factory=set)
     # Whether it is read for display alone: there areas may share a cell.
     display: bool = False
     # The pair of the area that was refused for sharing a cell.
@@ -151,6 +160,15 @@ class Fields:
         if not good_name(text):
             self.faults.add(NAME)
         return text.decode("latin-1")
+
+    def words(self):
+        """The words of a row: names, or dots for an empty cell."""
+        words = [word.decode("latin-1") for word in self.fields[1:]]
+        if any(not is_dots(word) and not good_name(word.encode("latin-1")) for word in words):
+            self.faults.add(NAME)
+        if len(words) > MOST_WORDS:
+            self.faults.add(COUNT)
+        return words
 
     def whole(self, low, high):
         return self.whole_number(self.next(), low, high)
@@ -220,6 +238,44 @@ def first_pair(areas):
     return next((pair for pair in pairs if pair[0]), NO_PAIR)
 
 
+def is_dots(word):
+    """"A run of dots for an empty cell"."""
+    return set(word) == {"."}
+
+
+def names_in(words):
+    return {word for word in words if not is_dots(word)}
+
+
+def is_crowded(names):
+    return len(names) > MOST["area"]
+
+
+def cells_of(picture):
+    """The cells, (row, column) from 1, of each name of a picture, the names in order of first cell reading along rows."""
+    cells = {}
+    for row, words in enumerate(picture, start=1):
+        for column, word in enumerate(words, start=1):
+            if not is_dots(word):
+                cells.setdefault(word, set()).add((row, column))
+    return cells
+
+
+def area_of(cells):
+    """The area whose cells are just these, None where they form no filled rectangle."""
+    rows = range(min(row for row, _ in cells), max(row for row, _ in cells) + 1)
+    columns = range(min(column for _, column in cells), max(column for _, column in cells) + 1)
+    if len(cells) != len(rows) * len(columns):
+        return None
+    return Area(rows.start, rows.stop, columns.start, columns.stop)
+
+
+def areas_of(picture):
+    """The areas of a picture by name, in order of first cell; None where a name's cells form no filled rectangle."""
+    areas = {name: area_of(cells) for name, cells in cells_of(picture).items()}
+    return None if None in areas.values() else areas
+
+
 def good_name(text):
     return 1 <= len(text) <= LONGEST_NAME and all(33 <= code <= 126 for code in text)
 
@@ -261,6 +317,25 @@ def read_area(panel, fields):
 
     def do():
         panel.areas[name] = area
+    return do
+
+
+def is_unequal(picture, words):
+    """Whether a row has another width than the first one."""
+    return len(picture) > 0 and len(words) != len(picture[0])
+
+
+def read_row(panel, fields):
+    words = fields.words()
+    names = panel.pictured | names_in(words)
+    if is_crowded(names):
+        fields.faults.add(CROWDED)
+    if is_unequal(panel.picture, words):
+        fields.faults.add(UNEQUAL)
+
+    def do():
+        panel.picture.append(words)
+        panel.pictured = names
     return do
 
 
@@ -358,7 +433,7 @@ def read_place(panel, fields):
 RECORDS = {
     "axis": (6, read_axis), "area": (6, read_area), "name": (3, read_name), "track": (6, read_track),
     "repeat": (3, read_repeat), "end": (2, read_end), "spare": (6, read_spare), "extra": (4, read_extra),
-    "item": (3, read_item), "place": (8, read_place),
+    "item": (3, read_item), "place": (8, read_place), "row": (None, read_row),
 }
 
 
@@ -366,24 +441,44 @@ def first_fault(faults):
     return min(faults, key=FAULT_ORDER.index)
 
 
+def is_of_form(fields):
+    """Whether a line has a record's word and its number of fields; a row has any number of words but none."""
+    word = fields[0].decode("latin-1")
+    return word in RECORDS and (len(fields) >= 2 if word == "row" else len(fields) == RECORDS[word][0])
+
+
+def kind_of(fields):
+    word = fields[0].decode("latin-1")
+    return word if word in LATE_AFTER else THE_REST
+
+
 def read_line(panel, text):
     """Do what the line says and answer 0, or do nothing and answer the first of its faults."""
     fields = Fields(text.split(b"\t"))
-    word = fields.fields[0].decode("latin-1")
-    if word not in RECORDS:
+    if not is_of_form(fields.fields):
         return UNREAD
-    count, read = RECORDS[word]
-    if len(fields.fields) != count:
-        return UNREAD
-    do = read(panel, fields)
-    order = KIND_ORDER.get(word, THE_REST)
-    if order < panel.order:
+    do = RECORDS[fields.fields[0].decode("latin-1")][1](panel, fields)
+    kind = kind_of(fields.fields)
+    if panel.kinds & LATE_AFTER[kind]:
         fields.faults.add(LATE)
     if fields.faults:
         return first_fault(fields.faults)
-    panel.order = order
+    panel.kinds.add(kind)
     do()
     return 0
+
+
+def last_row(lines):
+    """The number of the last row that is not late, of all lines of the form of a row; 0 where there is none."""
+    found = 0
+    seen = set()
+    for number, text in enumerate(lines, start=1):
+        fields = text.split(b"\t")
+        if is_of_form(fields):
+            if kind_of(fields) == "row" and not seen & LATE_AFTER["row"]:
+                found = number
+            seen.add(kind_of(fields))
+    return found
 
 
 def read_lines(sheet, display=False):
@@ -392,12 +487,23 @@ def read_lines(sheet, display=False):
         raise Refused(UNREAD, 0)
     panel = Panel(display=display)
     lines = sheet.split(b"\n")
+    end_of_picture = last_row(lines[:-1])
     for number, text in enumerate(lines[:-1], start=1):
         fault = read_line(panel, text)
         if fault:
             raise Refused(fault, number, panel.pair if fault == OVERLAP else NO_PAIR)
+        if number == end_of_picture:
+            end_picture(panel, number)
     if lines[-1]:
         raise Refused(UNREAD, len(lines))
     if any(axis.open for axis in panel.axes.values()):
         raise Refused(UNREAD, len(lines))
     return panel, len(lines)
+
+
+def end_picture(panel, line):
+    """The picture becomes area records; refused by 14 at its last row where a name's cells are no rectangle."""
+    areas = areas_of(panel.picture)
+    if areas is None:
+        raise Refused(BROKEN, line)
+    panel.areas.update(areas)

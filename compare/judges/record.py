@@ -38,6 +38,8 @@ ASKED = 20
 RESIZED = 40
 # Sheets of each family in `areas`, each once more for the display call.
 DISPLAYED = {"touching": 20, "overlap": 60, "general": 20, "damaged": 20}
+# Sheets of each family in `pictures`.
+PICTURED = {"picture": 80, "broken": 160}
 CUT = {"large": 60, "far": 40, "over": 12, "writing_out": 20, "full": 4}
 # Refused sheets for each number, record and kind of field.
 REFUSED_FOR_EACH = {1: 9, 3: 4, 4: 6}
@@ -245,6 +247,26 @@ def write_areas(rust):
     keep("areas", [case.block(cut=len(case.lines) > 3000) for case in cases + displayed])
 
 
+def picture_case(name, lines, refusal, held, rust):
+    """A sheet with a picture, held to its refusal, or to lines of its answer."""
+    case = limit_case(name, lines, refusal, rust)
+    if any(line not in case.lines for line in held):
+        raise build.CannotCompare(f"not recorded: {name} is answered otherwise than its edge says")
+    return case
+
+
+def write_pictures(rust):
+    """Pictures of areas, good ones and broken ones, and what the display call answers to some of them."""
+    cases = [picture_case(*sheet, rust) for sheet in edges.picture_sheets()]
+    displayed = cases[::4]
+    small = lambda case: len(case.block()) <= LONGEST_BLOCK
+    for family, count in PICTURED.items():
+        made = taken(made_cases(family, rust, SEED + 9), count, small)
+        cases, displayed = cases + made, displayed + made[::8]
+    displayed = [Case(case.name + ", displayed", case.sheet, [], rust, display=True) for case in displayed]
+    keep("pictures", [case.block(cut=len(case.lines) > 3000) for case in cases + displayed])
+
+
 def write_accepted(rust):
     small = lambda case: not case.refused and len(case.block()) <= LONGEST_BLOCK
     cases = [case for family, count in ACCEPTED.items() for case in taken(made_cases(family, rust), count, small)]
@@ -412,6 +434,7 @@ def main():
     write_cases(options.cases, rust)
     write_limits(rust)
     write_areas(rust)
+    write_pictures(rust)
     write_lines(rust)
     write_short()
     write_entries(rust)

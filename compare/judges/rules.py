@@ -216,8 +216,14 @@ def template_count(axis):
 
 
 def area_count(panel, letter):
-    """The largest area end less 1."""
-    return max((area.edges(letter)[1] - 1 for area in panel.areas.values()), default=0)
+    """The largest area end less 1, and no less than the rows of a picture, or its width (document 02, Req 07)."""
+    drawn = max((area.edges(letter)[1] - 1 for area in panel.areas.values()), default=0)
+    return max(drawn, picture_count(panel.picture, letter))
+
+
+def picture_count(picture, letter):
+    """The rows of a picture, or its width."""
+    return len(picture) if letter == "r" else len(picture[0]) if picture else 0
 
 
 def explicit_count(panel, letter):

@@ -99,6 +99,13 @@ def placed(asked, index, box, origin):
     return Finding("placement", letter, index, ours, (None if ours[0] is None else start, size), start)
 
 
+# Pictures.
+
+def picture_findings(asked, shown):
+    """Whether a picture is dropped, as one that is refused has to be."""
+    return [Finding("picture", "", None, drawing.dropped_in_picture(asked), shown["unread"])]
+
+
 # Tracks.
 
 def repetitions_seen(asked, letter, tracks):

@@ -264,6 +264,8 @@ right_entry_count = rules.entry_count
 right_names = Names.__init__
 
 # Each wrong reading: where it is put, and what.
+right_picture_count = rules.picture_count
+
 FOUND_BY_THE_RUST = {
     "negative spares aligned from the start": (rules, "negative_sizes", spares_from_the_start),
     "a line counted twice where area and entry share it": (Names, "lines", lines_not_merged),
@@ -310,6 +312,10 @@ FOUND_BY_THE_RUST = {
     "tracks of areas after the positive ones": (rules, "all_tracks", areas_after_positive),
     "the gutter before trailing collapsed tracks stays": (rules, "collapsed_gutters", last_gutter_stays),
     "items counted from the first explicit track": (rules, "holds_item", item_from_explicit),
+    "the width of a picture not counted": (rules, "picture_count", lambda picture, letter: len(picture) if letter == "r" else 0),
+    "the rows of a picture not counted": (rules, "picture_count", lambda picture, letter: right_picture_count(picture, letter) if letter == "c" else 0),
+    "one row more than a picture has": (rules, "picture_count", lambda picture, letter: right_picture_count(picture, letter) + (letter == "r" and bool(picture))),
+    "rows and width of a picture swapped": (rules, "picture_count", lambda picture, letter: right_picture_count(picture, "c" if letter == "r" else "r")),
 }
 
 
@@ -384,6 +390,48 @@ def numbered_from_0(areas):
 right_first_sharing = reader.first_sharing
 right_first_pair = reader.first_pair
 
+
+# Pictures: which cells of a name form an area, and which.
+
+def bounding_box(cells):
+    rows, columns = zip(*cells)
+    return reader.Area(min(rows), max(rows) + 1, min(columns), max(columns) + 1)
+
+
+def by_columns_of_each_row(cells):
+    """Each row's cells side by side between the same columns, but rows may be missing."""
+    rows = {row: sorted(column for at, column in cells if at == row) for row, _ in cells}
+    runs = {tuple(columns) for columns in rows.values()}
+    columns = runs.pop()
+    return None if runs or columns != tuple(range(columns[0], columns[-1] + 1)) else bounding_box(cells)
+
+
+def by_the_same_columns(cells):
+    """The same columns in each row, but some between them may be missing."""
+    rows = {row: sorted(column for at, column in cells if at == row) for row, _ in cells}
+    return bounding_box(cells) if len(set(map(tuple, rows.values()))) == 1 and len(rows) == max(rows) - min(rows) + 1 else None
+
+
+def by_the_first_row(cells):
+    """The columns of the first row, whatever the others have."""
+    first = min(row for row, _ in cells)
+    area = bounding_box({cell for cell in cells if cell[0] == first})
+    return replace(area, row_end=max(row for row, _ in cells) + 1)
+
+
+def edges_swapped(cells):
+    area = right_area_of(cells)
+    return area and reader.Area(area.column_start, area.column_end, area.row_start, area.row_end)
+
+
+def in_order_of_name(picture):
+    areas = right_areas_of(picture)
+    return None if areas is None else dict(sorted(areas.items()))
+
+
+right_area_of = reader.area_of
+right_areas_of = reader.areas_of
+
 FOUND_BY_CSS = {
     "a track that only an area makes positive": (rules, "sources", areas_are_positive),
     "the first positive track an area's": (rules, "sources", one_area_more),
@@ -400,6 +448,12 @@ FOUND_BY_CSS = {
     "no pair where areas that share a cell are displayed": (reader, "first_pair", no_pair_displayed),
     "a pair where no areas share a cell": (reader, "first_pair", a_pair_of_any_two),
     "areas numbered from 0": (reader, "first_pair", numbered_from_0),
+    "the box around a name's cells, filled or not": (reader, "area_of", bounding_box),
+    "a name again after a gap of rows": (reader, "area_of", by_columns_of_each_row),
+    "a second run of a name in a row": (reader, "area_of", by_the_same_columns),
+    "the columns of a name's first row": (reader, "area_of", by_the_first_row),
+    "rows and columns of a picture swapped": (reader, "area_of", edges_swapped),
+    "the areas of a picture in order of name": (reader, "areas_of", in_order_of_name),
 }
 
 
@@ -464,17 +518,105 @@ right_state = model.State.__init__
 right_fields = reader.Fields.__init__
 right_read_lines = reader.read_lines
 
+
+def dots_up_to(most):
+    return lambda word: right_is_dots(word) and len(word) <= most
+
+
+def late_after(**others):
+    """Other kinds after which a line is late."""
+    return {**reader.LATE_AFTER, **others}
+
+
+def broken_at(where):
+    """A refusal by 14 at another line, by the lines of the sheet and the one it is given at."""
+    def read_lines(sheet, display=False):
+        try:
+            return right_read_lines(sheet, display)
+        except reader.Refused as refused:
+            if refused.number == reader.BROKEN:
+                raise reader.Refused(reader.BROKEN, where(sheet, refused.line))
+            raise
+    return read_lines
+
+
+def first_broken_row(sheet, line):
+    """The first row at which the rows so far are broken."""
+    rows = []
+    for number, text in enumerate(sheet.split(b"\n")[:line], start=1):
+        fields = text.decode("latin-1").split("\t")
+        rows += [fields[1:]] if fields[0] == "row" else []
+        if reader.areas_of(rows) is None:
+            return number
+    return line
+
+
+def ended_by(*words):
+    """The last row before the first line that is no row, or before one of these kinds."""
+    def last_row(lines):
+        found = 0
+        for number, text in enumerate(lines, start=1):
+            fields = text.split(b"\t")
+            if reader.is_of_form(fields) and fields[0] == b"row":
+                found = number
+            elif found and (not reader.is_of_form(fields) or fields[0] in words):
+                return found
+        return right_last_row(lines)
+    return last_row
+
+
+def last_of_all_rows(lines):
+    return max((number for number, text in enumerate(lines, start=1) if text.startswith(b"row\t")), default=0)
+
+
+def any_number_of_words(self):
+    words = right_words(self)
+    self.faults.discard(reader.COUNT)
+    return words
+
+
+def no_area_of_the_picture(panel, line):
+    """A picture whose names an area record may bear again."""
+    right_end_picture(panel, line)
+    panel.areas = {name + " ": area for name, area in panel.areas.items()}
+
+
+right_is_dots = reader.is_dots
+right_words = reader.Fields.words
+right_end_picture = reader.end_picture
+right_last_row = reader.last_row
+
+
 # Readings of the sheet, of which the Rust says nothing: found by what a damage was made for.
 FOUND_BY_DAMAGE = {
     "the highest number of a line first": (reader, "first_fault", max),
     "a last line without a line feed read": (reader, "read_lines", end_without_feed),
     **{f"refusal {number} never given at a line": (reader.Fields, "__init__", without_fault(number))
-       for number in (1, 2, 3, 4, 5, 6, 7, 8, 12)},
+       for number in (1, 2, 3, 4, 5, 6, 7, 8, 12, 13)},
     "12 after 8": (reader, "first_fault", min),
-    "12 before 7": (reader, "first_fault", fault_order(1, 2, 3, 4, 5, 6, 12, 7, 8)),
-    "12 before 6": (reader, "first_fault", fault_order(1, 2, 3, 4, 5, 12, 6, 7, 8)),
+    "12 before 7": (reader, "first_fault", fault_order(1, 2, 3, 4, 5, 6, 12, 7, 8, 13)),
+    "12 before 6": (reader, "first_fault", fault_order(1, 2, 3, 4, 5, 12, 6, 7, 8, 13)),
     "12 at the earlier area's line": (reader, "read_lines", the_earlier_line),
     "a 65th area not compared": (reader, "first_sharing", held_before_it_is_compared),
+    "13 before 8": (reader, "first_fault", fault_order(1, 2, 3, 4, 5, 6, 7, 13, 12, 8)),
+    "13 before 7": (reader, "first_fault", fault_order(1, 2, 3, 4, 5, 6, 13, 7, 12, 8)),
+    "13 before 2": (reader, "first_fault", fault_order(1, 13, 2, 3, 4, 5, 6, 7, 12, 8)),
+    "one dot for an empty cell": (reader, "is_dots", dots_up_to(1)),
+    "at most 32 dots for an empty cell": (reader, "is_dots", dots_up_to(32)),
+    "dots a name": (reader, "is_dots", lambda word: False),
+    "an empty word an empty cell": (reader, "is_dots", lambda word: not word.strip(".")),
+    "14 at the first row that breaks": (reader, "read_lines", broken_at(first_broken_row)),
+    "14 at the line after the last": (reader, "read_lines", broken_at(lambda sheet, line: sheet.count(b"\n") + 1)),
+    "a picture ended by a line of no form": (reader, "last_row", ended_by()),
+    "a picture ended by an axis line": (reader, "last_row", ended_by(b"axis")),
+    "14 at the last row, late or not": (reader, "last_row", last_of_all_rows),
+    "a row longer than the first accepted": (reader, "is_unequal", lambda picture, words: len(picture) > 0 and len(words) < len(picture[0])),
+    "65 names accepted": (reader, "is_crowded", lambda names: len(names) > 65),
+    "any number of words": (reader.Fields, "words", any_number_of_words),
+    "a row after an area accepted": (reader, "LATE_AFTER", late_after(row={reader.THE_REST})),
+    "an area after a row accepted": (reader, "LATE_AFTER", late_after(area={reader.THE_REST})),
+    "an axis line after a row accepted": (reader, "LATE_AFTER", late_after(axis={"area", reader.THE_REST})),
+    "a picture's name free for an area": (reader, "end_picture", no_area_of_the_picture),
 }
 
 

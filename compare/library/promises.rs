@@ -57,7 +57,7 @@ pub fn read_sheet(lent: &Lent) -> (u32, Promises) {
     let is_short = lent.is_short() && anew.number == 0;
     let short = raw::SheetAnswer { number: 10, line: 0, earlier: 0, later: 0, panel: State::default() };
     let zeros = answer.panel == State::default();
-    promises.extend(of_refusal(answer.number, &[1, 2, 3, 4, 5, 6, 7, 8, 10, 12], zeros, after.has_contents_of(lent)));
+    promises.extend(of_refusal(answer.number, &[1, 2, 3, 4, 5, 6, 7, 8, 10, 12, 13, 14], zeros, after.has_contents_of(lent)));
     promises.push(("an accepted sheet has line 0", answer.number != 0 || answer.line == 0));
     promises.push(("what the tables held is nothing to a sheet", answer == if is_short { short } else { anew }));
     let paired = if answer.number == 12 { is_pair(answer.earlier, answer.later) } else { (answer.earlier, answer.later) == (0, 0) };
@@ -72,7 +72,7 @@ pub fn display_sheet(lent: &Lent) -> (u32, Promises) {
     let is_short = lent.is_short() && shown.number == 0;
     let short = raw::DisplayAnswer { number: 10, line: 0, earlier: 0, later: 0, grid: Grid::default() };
     let zeros = answer.grid == Grid::default() && (answer.earlier, answer.later) == (0, 0);
-    promises.extend(of_refusal(answer.number, &[1, 2, 3, 4, 5, 6, 7, 8, 10], zeros, after.has_contents_of(lent)));
+    promises.extend(of_refusal(answer.number, &[1, 2, 3, 4, 5, 6, 7, 8, 10, 13, 14], zeros, after.has_contents_of(lent)));
     promises.push(("an accepted display has line 0", answer.number != 0 || answer.line == 0));
     promises.push(("what the tables held is nothing to a display", answer == if is_short { short } else { shown }));
     let alike = (shown.number, shown.line, shown.grid) == (read.number, read.line, read.panel.grid);

@@ -173,6 +173,14 @@ fn what_differs_is_marked() {
     );
 }
 
+/// The areas of a picture are drawn with their edges, in the order of their first cells, each with the line of its first row.
+#[test]
+fn areas_of_a_picture_are_drawn() {
+    let run = palgwern(&["show", "-"], b"row\tb\tb\ta\nrow\t.\t.\ta\n");
+    let drawn = held(&panels(&run.output)[0], "area", &["data-name", "data-line", "data-rows", "data-columns"]);
+    assert_eq!(drawn, [strings(&[&"b", &1, &"1 2", &"1 3"]), strings(&[&"a", &1, &"1 3", &"3 4"])]);
+}
+
 /// Areas that share a cell are drawn for display, and the refusal is said beside it.
 #[test]
 fn areas_that_share_a_cell_are_drawn() {

@@ -60,6 +60,18 @@ fn css_as_people_write_it() {
     assert_eq!(converted("from-css", &css), sheet);
 }
 
+/// A picture is written by rows where dots make the grid larger than areas and tracks do, else by areas.
+#[test]
+fn pictures() {
+    let (dots, covered) = ("grid-template-areas: 'a . .' '... ... ...'", "grid-template-areas: 'a .' 'a b'");
+    assert_eq!(converted("from-css", dots), "row\ta\t.\t.\nrow\t...\t...\t...\n");
+    assert_eq!(converted("from-css", covered), "area\ta\t1\t3\t1\t2\narea\tb\t2\t3\t2\t3\n");
+    for sheet in ["row\ta\t.\t.\nrow\t...\t...\t...\n", "row\t.\n", "row\tb\ta\nrow\t.\ta\nplace\tc\tnamed\ta\t0\tauto\t-\t0\n"] {
+        assert_eq!(answers(&converted("from-css", &converted("to-css", sheet))), answers(sheet), "{sheet}");
+    }
+    assert!(converted("to-css", "row\ta\t.\nrow\ta\t...\n").contains("grid-template-areas:\n    \"a .\"\n    \"a ...\";"));
+}
+
 #[test]
 fn what_a_sheet_cannot_say() {
     let refused = [
@@ -74,7 +86,7 @@ fn what_a_sheet_cannot_say() {
         ("width: 10px; min-width: 5px", "line 1: min-width: a sheet has one size for an axis, and one stands before it"),
         ("display: flex", "line 1: display: a panel is a grid"),
         ("grid-template-areas: 'a b' 'b a'", "line 1: grid-template-areas: the cells of 'a' are no filled rectangle"),
-        ("grid-template-areas: 'a .'", "line 1: grid-template-areas: a sheet can't say rows or columns of dots after the last area that no track is written for"),
+        ("grid-template-areas: 'a b' 'a'", "line 1: grid-template-areas: every row has the same number of cells, one or more"),
         (".a { grid-column: 0 }", "line 1: grid-column: 0 is no line and no span in CSS"),
         (".a { grid-column: span -1 }", "line 1: grid-column: a span has no negative number"),
         (".a { display: grid } .b { gap: 1px }", "line 1: a sheet has one grid, and this rule is a second one"),
@@ -95,6 +107,7 @@ fn what_css_cannot_say() {
         ("name\tc\tAuto\n", "line 1: 'Auto' is a word of CSS and no name of a line"),
         ("track\tc\tlen\t3f800000\tfitl\t3f800000\n", "line 1: CSS has no minimum but auto beside fit-content"),
         ("area\ta!\t1\t2\t1\t2\n", "line 1: a picture of areas can't hold the name 'a!': letters, digits, '-' and '_'"),
+        ("row\t.\ta\nrow\ta!\ta\n", "line 2: a picture of areas can't hold the name 'a!': letters, digits, '-' and '_'"),
         ("area\ta\t1\t10001\t1\t10001\n", "line 1: a picture of 10000 rows of 10000 cells is too large to write"),
     ];
     for (sheet, words) in refused {

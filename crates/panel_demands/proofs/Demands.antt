@@ -56,7 +56,7 @@ use Rattle.panel_rules.proofs.Counted.{valid-counted}
 use Rattle.panel_rules.proofs.Invalid.{as-if-empty}
 use Rattle.panel_rules.proofs.Book as Book
 use Rattle.panel_rules.proofs.Run.{addedTo, placement-css, placement-marks, placement-only, placement-uncut, run-css, run-marked, run-only}
-use Rattle.panel_rules.proofs.Order.{largest-same, order-same}
+use Rattle.panel_rules.proofs.Order.{spanned-same, order-same}
 use Rattle.panel_rules.proofs.Tracks as Tracks
 use Rattle.panel_rules.proofs.Runs.{axis-fits, words-entries, added-to, few-tracks, run-entries, run-sizes, run-lists, run-names, run-records, run-placements, run-template, run-used, run-bytes, run-filled, run-fill, run-marks, marks-enough, run-axis}
 use Rattle.panel_rules.proofs.AxisBack.{state-unrefused}
@@ -287,7 +287,7 @@ without-validity =
       order = λ n m p q x y css also r u same entries i.
           placement-added (p .sheet) (p .tables) (p .calls) x i
           ∙ order-same n m (sheetOf (p .sheet) .view) (sheetOf (q .sheet) .view) (p .calls) (q .calls) (axis-fits (p .sheet)) (axis-fits (q .sheet)) css also r u same
-          (λ a. areas-largest (p .sheet) a ∙ largest-same a (sheetOf (p .sheet) .view .areas) (sheetOf (q .sheet) .view .areas) (same .areas) ∙ sym (areas-largest (q .sheet) a)) entries i
+          (λ a. areas-largest (p .sheet) a ∙ spanned-same a (sheetOf (p .sheet) .view) (sheetOf (q .sheet) .view) same ∙ sym (areas-largest (q .sheet) a)) entries i
           ∙ sym (placement-added (q .sheet) (q .tables) (q .calls) y i);
       invalid = λ n s a h. empty-regular n (sheetAxis s a .line);
       empty = as-if-empty;

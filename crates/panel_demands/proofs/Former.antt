@@ -7,22 +7,21 @@ use mathlib.Core.Logic.{⊎-elim}
 use native.Mathlib.Omega.{arith}
 use lib.Dec.{eqb, ltb}
 use lib.ListN.{length}
-use borrow.Author.Tests.{le-ltb}
 use Rattle.text.specs.Split.{split}
 use Rattle.sheet_forms.specs.declared.Record.{Record}
-use Rattle.sheet_forms.specs.declared.Record.the-variants.{Fault, Axis as AxisLine, Area, Name, Track, Repeat, End, Spare, Extra, Item, Place}
+use Rattle.sheet_forms.specs.declared.Record.the-variants.{Fault, Axis as AxisLine, Area, Name, Track, Repeat, End, Spare, Extra, Item, Place, PictureRow}
 use Rattle.sheet_forms.specs.Faults.{firstOf, noRow, firstRow}
 use Rattle.sheet_forms.specs.Records.{recordOf, faultOf}
 use Rattle.sheet_forms.proofs.Firsts.{first-either, first-none}
 use Rattle.sheet_forms.proofs.Bounds.{Bounded}
 use Rattle.sheet_forms.proofs.Theorem.{record-bounded}
 use Rattle.panel_tables.specs.View.{PanelView, emptyView, accepted, refused}
-use Rattle.sheet_rules.specs.Lines.{recordStep, twiceFault, stageOf, lateFault, recordFault, atStage, recordOutcome, lineStep}
-use Rattle.sheet_rules.specs.Sheet.{endFault, Outcome, outcome, ended, run, displayOf}
-use Rattle.sheet_rules.specs.Rows.{Row, unread, badName, badValue, badCount, badArea, twice, late, crowded, overlap, numberOf, First}
+use Rattle.sheet_rules.specs.Lines.{lateAt, recordStep, twiceFault, stageOf, lateFault, recordFault, atStage, recordOutcome, lineStep}
+use Rattle.sheet_rules.specs.Sheet.{endFault, Outcome, outcome, ended, run, foldOf, brokenOf, displayOf}
+use Rattle.sheet_rules.specs.Rows.{Row, unread, badName, badValue, badCount, badArea, twice, late, crowded, overlap, unequal, broken, numberOf, First}
 use Rattle.sheet_rules.proofs.Says.{Says, record-says}
 use Rattle.sheet_rules.proofs.Only.{Only, own-first}
-use Rattle.sheet_rules.proofs.LineRows.{IsRecord, TwiceRow, LateRow, StepRow, twice-first, late-first, step-first}
+use Rattle.sheet_rules.proofs.LineRows.{late-yes, IsRecord, TwiceRow, LateRow, StepRow, twice-first, late-first, step-first}
 use Rattle.sheet_rules.proofs.Theorem.{after-first}
 
 -- only row 12 has that number
@@ -40,6 +39,8 @@ not-overlap {holds} {n} h (firstRow r e k l) z = go r e k
     go late e k = omega (arith, e, z)
     go crowded e k = omega (arith, e, z)
     go overlap e k = h k
+    go unequal e k = omega (arith, e, z)
+    go broken e k = omega (arith, e, z)
 
 neither : (a b : ℕ) → (a ≡ 12 → ⊥) → (b ≡ 12 → ⊥) → firstOf a b ≡ 12 → ⊥
 neither a b h k z = ⊎-elim (λ e. h (sym e ∙ z)) (λ e. k (sym e ∙ z)) (first-either a b)
@@ -59,11 +60,15 @@ module _ (v : PanelView) (fs : List (List ℕ)) where
       neither (faultOf r) (firstOf (twiceFault v fs r) (firstOf (lateFault v r) (recordStep v fs r .fault))) (own-number r e)
       (neither (twiceFault v fs r) (firstOf (lateFault v r) (recordStep v fs r .fault)) (not-overlap (other-row twice (λ z. omega arith)) (twice-first v fs r i says))
       (neither (lateFault v r) (recordStep v fs r .fault) (not-overlap (other-row late (λ z. omega arith)) (late-first v fs r i says))
-      (not-overlap (⊎-elim (other-row unread (λ z. omega arith)) (other-row crowded (λ z. omega arith))) (step-first v fs r i says bounded))))
+      (not-overlap (⊎-elim (other-row unread (λ z. omega arith)) (⊎-elim (other-row crowded (λ z. omega arith)) (other-row unequal (λ z. omega arith)))) (step-first v fs r i says bounded))))
 
   fault-fault : (n : ℕ) → recordFault v fs (Fault n) ≡ n
   unfolding recordFault recordStep firstOf
-  fault-fault n = rw (le-ltb (v .stage) (v .stage) (omega arith)) (first-none n)
+  fault-fault n = rw (never-late (lateAt (v .stage) (v .stage)) refl) (first-none n)
+    where
+      never-late : (t : Bool) → lateAt (v .stage) (v .stage) ≡ t → lateAt (v .stage) (v .stage) ≡ false
+      never-late true e = absurd (⊎-elim (λ h. omega arith) (λ h. omega arith) (late-yes (v .stage) (v .stage) e))
+      never-late false e = e
 
   any-number : (r : Record) → recordOf fs ≡ r → recordFault v fs r ≡ 12 → ⊥
   any-number (Fault n) e = λ z. own-number (Fault n) e (sym (fault-fault n) ∙ z)
@@ -77,6 +82,7 @@ module _ (v : PanelView) (fs : List (List ℕ)) where
   any-number (Extra a n p) e = record-number (Extra a n p) e tt
   any-number (Item a i) e = record-number (Item a i) e tt
   any-number (Place a s t) e = record-number (Place a s t) e tt
+  any-number (PictureRow n) e = record-number (PictureRow n) e tt
 
   line-number : lineStep v fs .fault ≡ 12 → ⊥
   unfolding lineStep
@@ -109,10 +115,19 @@ run-number n (l ∷ m ∷ ls) v = go (run-number (n + 1) (m ∷ ls) (lineStep v 
     go rest true z = rest z
     go rest false z = line-number v (split 9 l) z
 
-pub former-number : (s : List ℕ) → displayOf s .fault ≡ 12 → ⊥
-unfolding displayOf
-former-number s = go (ltb 32768 (length s))
+fold-number : (s : List ℕ) → foldOf s .fault ≡ 12 → ⊥
+unfolding foldOf
+fold-number s = go (ltb 32768 (length s))
   where
     go : (t : Bool) → cond t (outcome 1 0 emptyView) (run 1 (split 10 s) emptyView) .fault ≡ 12 → ⊥
     go true z = omega arith
     go false z = run-number 1 (split 10 s) emptyView z
+
+-- a broken picture is refused by 14
+pub former-number : (s : List ℕ) → displayOf s .fault ≡ 12 → ⊥
+unfolding displayOf
+former-number s = go (eqb (brokenOf s) 0)
+  where
+    go : (t : Bool) → cond t (foldOf s .fault) 14 ≡ 12 → ⊥
+    go true z = fold-number s z
+    go false z = omega arith

@@ -16,10 +16,10 @@ use Rattle.sheet_rules.specs.Sheet.{Outcome, displayOf, noOverlap, overlapOf, s
 use Rattle.sheet_rules.specs.Panels.{Tables}
 use Rattle.sheet_rules.specs.Overlaps.{PairAt}
 use Rattle.sheet_rules.specs.Read.{SheetRead, shortStores, readBy, refusedOverlap, readSheet, displayed, DisplayRead, readDisplay}
-use Rattle.sheet_rules.proofs.Chosen.{none-overlap}
+use Rattle.sheet_rules.proofs.Chosen.{accepted-former, none-overlap}
 use Rattle.sheet_rules.proofs.Overlaps.{refused-pair, none-noted, display-noted}
 use Rattle.panel_rules.specs.Runs.{Accepted}
-use Rattle.panel_rules.proofs.Sheets.{read-former, read-overlap, accepted-none}
+use Rattle.panel_rules.proofs.Sheets.{accepted-sheet, read-former, read-overlap, accepted-none}
 use Rattle.panel_demands.specs.Overlaps.{Displayed, OverlapTheorem}
 use Rattle.panel_demands.proofs.Former.{former-number}
 
@@ -120,7 +120,7 @@ module _ (s : List ℕ) (t : Tables) where
       p = display-noted-pair ok
 
       to : readDisplay s t .answer .later ≡ 0 → CellsOnce (displayOf s .view .areas)
-      to z = none-once (displayOf s .view .areas) .0 (none-noted s (sym (p .2) ∙ z))
+      to z = none-once (displayOf s .view .areas) .0 (none-noted s (p .0) (sym (p .2) ∙ z))
 
       back : CellsOnce (displayOf s .view .areas) → readDisplay s t .answer .later ≡ 0
       back once = ⊎-elim (λ e. p .2 ∙ e) (λ h. absurd (none-once (displayOf s .view .areas) .1 once (n .earlier) (n .later) (display-noted s (p .0) h .pair))) noted-or-not
@@ -130,7 +130,7 @@ module _ (s : List ℕ) (t : Tables) where
 
   cells-once : Accepted s t → CellsOnce (sheetOf s .view .areas)
   unfolding sheetOf
-  cells-once ok = none-once (displayOf s .view .areas) .0 (none-noted s (accepted-none s t ok))
+  cells-once ok = none-once (displayOf s .view .areas) .0 (none-noted s (accepted-former s (accepted-sheet s t ok .0) .1) (accepted-none s t ok))
 
 pub overlap-theorem : (s : List ℕ) (t : Tables) → OverlapTheorem s t
 overlap-theorem s t =

@@ -15,8 +15,8 @@ use Rattle.sheet_forms.specs.Records.{recordOf}
 use Rattle.sheet_forms.proofs.LineFaults.{no-record}
 use Rattle.panel_tables.specs.View.{PanelView, emptyView}
 use Rattle.sheet_rules.specs.Lines.{recordStep, lineStep}
-use Rattle.sheet_rules.specs.Sheet.{endFault, outcome, ended, run, displayOf, sheetOf}
-use Rattle.sheet_rules.proofs.Chosen.{accepted-former}
+use Rattle.sheet_rules.specs.Sheet.{endFault, outcome, ended, run, foldOf, displayOf, sheetOf}
+use Rattle.sheet_rules.proofs.Chosen.{accepted-former, display-former, whole-outcome}
 use Rattle.panel_rules.specs.Runs.{Call}
 use Rattle.panel_rules.specs.Book.{addedFrom}
 use Rattle.panel_rules.specs.Alone.{rowTemplateLine, withoutRows, keptLines, columnCalls}
@@ -79,8 +79,8 @@ run-columns n (l ∷ m ∷ ls) v z = go (eqb (lineStep v (split 9 l) .fault) 0) 
     go false e h z = absurd (eqb-false (lineStep v (split 9 l) .fault) 0 e z)
 
 display-columns : (s : List ℕ) → displayOf s .fault ≡ 0 → onlyColumns (displayOf s .view) ≡ columnsFrom (onlyColumns emptyView) (keptLines s)
-unfolding displayOf
-display-columns s = go (ltb 32768 (length s))
+unfolding foldOf
+display-columns s z = rw (whole-outcome s (display-former s z .0)) (go (ltb 32768 (length s)) (display-former s z .1))
   where
     go : (t : Bool) → cond t (outcome 1 0 emptyView) (run 1 (split 10 s) emptyView) .fault ≡ 0
         → onlyColumns (cond t (outcome 1 0 emptyView) (run 1 (split 10 s) emptyView) .view) ≡ columnsFrom (onlyColumns emptyView) (keptLines s)

@@ -36,7 +36,7 @@ use Rattle.panel_rules.specs.Calls.{wordsIn, storeIn, shortNames, bookIn
 use Rattle.panel_rules.specs.Placing.{linePlacement, placedBy, refusedPlacement, resolvePlacement}
 use Rattle.panel_rules.specs.Runs.{Held, namesOf, areasOf, sizeOf, placementOf, listsOf, nameOf, recordWith}
 use Rattle.panel_rules.specs.Views.{wordsAfter, storeAfter, stateAfter, heldAfter, entriesAfter, areasIn, namesAfter, cssEnd, placementAt, placementAfter, sizeAfter, listsAfter, nameAfter, tracksAfter, recordAfter, both}
-use Rattle.panel_rules.specs.Ranges.{largest, PanelRange}
+use Rattle.panel_rules.specs.Ranges.{spanned, PanelRange}
 use Rattle.panel_rules.proofs.Fit.{EntriesFit}
 use Rattle.panel_rules.proofs.AxisEntry.{length-store}
 use Rattle.panel_rules.proofs.Ends.{no-fault}
@@ -157,7 +157,7 @@ module _ (v : PanelView) (f : FitsPanel v) (range : PanelRange v) (ok : endFault
   spares-after a = rw (grid-held a, words-held a) (spares-held (viewIn v a) (axis-in-fits v a f) (es a))
 
   pub tracks-after : (a : Axis) → axisTracks (gridIn (h .panel .grid) a) ≡ tracksAfter (viewIn v a)
-  tracks-after a = ap axisTracks (grid-held a) ∙ tracks-held (viewIn v a) (largest a (v .areas)) (range .axes a) (explicit-few (viewIn v a) (no-fault v ok a)) (es a)
+  tracks-after a = ap axisTracks (grid-held a) ∙ tracks-held (viewIn v a) (spanned a v) (range .axes a) (explicit-few (viewIn v a) (no-fault v ok a)) (es a)
 
   -- `track_record`
   pub record-after : (a : Axis) (items : List ℕ) (i : ℕ) → recordWith h a items i ≡ recordAfter (viewIn v a) items i

@@ -5,29 +5,35 @@ use mathlib.Core.Path.{_≡_, refl, sym, ap, _∙_}
 use mathlib.Core.List.{List, [], _∷_, _++_}
 use mathlib.Core.Bool.{Bool, true, false, cond, true≢false}
 use lib.Dec.{eqb, leb, ltb}
-use lib.ListN.{length, getD}
+use lib.ListN.{length, getD, drop}
+use native.Mathlib.Omega.{arith}
+use borrow.Author.Tests.{eqb-true}
 use Rattle.coordinates.specs.declared.axis.Axis.{Axis}
 use Rattle.coordinates.specs.declared.axis.Axis.the-variants.{Column, Row}
 use Rattle.name_entries.proofs.Booleans.{both}
 use Rattle.text.specs.Split.{same}
 use Rattle.text.proofs.Which.{same-equal}
 use Rattle.sheet_forms.specs.declared.Record.{Record}
-use Rattle.sheet_forms.specs.declared.Record.the-variants.{Fault, Axis as AxisLine, Area, Name, Track, Repeat, End, Spare, Extra, Item, Place}
+use Rattle.sheet_forms.specs.declared.Record.the-variants.{Fault, Axis as AxisLine, Area, Name, Track, Repeat, End, Spare, Extra, Item, Place, PictureRow}
 use Rattle.sheet_forms.specs.Words.{at, axisWords, kindWords}
-use Rattle.sheet_forms.specs.Records.{recordOf}
-use Rattle.sheet_forms.specs.Forms.{Kind, axis, area, spare, extra, item, place, kindNumber}
+use Rattle.sheet_forms.specs.Records.{recordOf, faultOf}
+use Rattle.sheet_forms.specs.Faults.{firstOf}
+use Rattle.sheet_forms.proofs.Firsts.{first-zero}
+use Rattle.picture_rules.specs.Picture.{Word}
+use Rattle.sheet_rules.specs.Pictures.{areasOf, withWords, otherWidth, drawnRow, pictureStep}
+use Rattle.sheet_forms.specs.Forms.{Kind, axis, area, spare, extra, item, place, row, kindNumber}
 use Rattle.axis_tables.specs.View.{AxisView, AxisOutcome, emptyAxis, trackStep, repeatStep, endStep, nameStep, spareStep, itemStep, extraStep, axisStep, namedFault}
 use Rattle.panel_tables.specs.declared.AreaEdges.{AreaEdges}
 use Rattle.panel_tables.specs.View.{End as PlacedEnd, PanelView, refused, accepted, raised, edgesOutside, endOutside, areaStep, placeStep}
 use Rattle.panel_tables.specs.Axes.{viewIn, stepIn}
-use Rattle.sheet_rules.specs.Lines.{bit, edgesOf, placedEnd, recordStep, stageOf, recordFault, atStage, lineStep}
+use Rattle.sheet_rules.specs.Lines.{bit, lateAt, edgesOf, placedEnd, recordStep, twiceFault, stageOf, lateFault, recordFault, atStage, lineStep}
 use Rattle.sheet_rules.specs.Rows.{OnAxis}
 use Rattle.sheet_rules.proofs.Says.{Says, record-says, one-axis}
 use Rattle.panel_rules.specs.Alone.{templateWord, rowTemplateLine}
 
 -- a view of which the rows and the stage are forgotten
 abbrev pub onlyColumns : PanelView → PanelView
-onlyColumns v = record { columns = v .columns; rows = emptyAxis; areas = v .areas; placements = v .placements; stage = 0 }
+onlyColumns v = record { columns = v .columns; rows = emptyAxis; areas = v .areas; picture = v .picture; placements = v .placements; stage = 0 }
 
 -- ---- one record
 
@@ -46,6 +52,7 @@ area-columns v n e = go (edgesOutside e) (ltb 32 (length n)) (leb 64 (length (v 
           columns = raised (x .columns) (e .columnend);
           rows = raised (x .rows) (e .rowend);
           areas = x .areas ++ (record { name = n; edges = e } ∷ []);
+          picture = x .picture;
           placements = x .placements;
           stage = x .stage;
         }
@@ -68,6 +75,7 @@ place-columns v a s e = go (endOutside (s .end)) (endOutside (e .end)) (ltb 32 (
           columns = x .columns;
           rows = x .rows;
           areas = x .areas;
+          picture = x .picture;
           placements = x .placements ++ (record { axis = a; start = s; end = e } ∷ []);
           stage = x .stage;
         }
@@ -86,21 +94,76 @@ place-columns v a s e = go (endOutside (s .end)) (endOutside (e .end)) (ltb 32 (
     go false false false false true = refl
     go false false false false false = refl
 
-record-columns : (v : PanelView) (fs : List (List ℕ)) (r : Record) → onlyColumns (recordStep v fs r .panel) ≡ onlyColumns (recordStep (onlyColumns v) fs r .panel)
+row-columns : (v : PanelView) (ws : List Word) → onlyColumns (pictureStep v ws .panel) ≡ onlyColumns (pictureStep (onlyColumns v) ws .panel)
+unfolding pictureStep
+row-columns v ws = go (leb 10000 (length (v .picture))) (ltb 64 (length (areasOf (withWords (v .picture) ws)))) (otherWidth (v .picture) (length ws))
+  where
+    by : Bool → Bool → Bool → PanelView → PanelView
+    by b c d x = cond b (refused 8 x) (cond c (refused 8 x) (cond d (refused 13 x) (accepted (drawnRow x ws)))) .panel
+
+    go : (b c d : Bool) → onlyColumns (by b c d v) ≡ onlyColumns (by b c d (onlyColumns v))
+    go true c d = refl
+    go false true d = refl
+    go false false true = refl
+    go false false false = refl
+
+-- a row that is not late: of the stage nothing else is asked
+abbrev Timely : PanelView → Record → Type 0
+Timely v (Fault n) = Unit {0}
+Timely v (AxisLine a) = Unit {0}
+Timely v (Area a) = Unit {0}
+Timely v (Name a) = Unit {0}
+Timely v (Track a min max) = Unit {0}
+Timely v (Repeat a n) = Unit {0}
+Timely v (End a) = Unit {0}
+Timely v (Spare a min max) = Unit {0}
+Timely v (Extra a n p) = Unit {0}
+Timely v (Item a i) = Unit {0}
+Timely v (Place a s e) = Unit {0}
+Timely v (PictureRow n) = lateAt 2 (v .stage) ≡ false
+
+record-columns : (v : PanelView) (fs : List (List ℕ)) (r : Record) → Timely v r → onlyColumns (recordStep v fs r .panel) ≡ onlyColumns (recordStep (onlyColumns v) fs r .panel)
 unfolding recordStep
-record-columns v fs (Fault n) = refl
-record-columns v fs (AxisLine a) = on-axis v (a .axis) (λ x. axisStep x (bit (a .definite)) (a .inner) (a .rule) (a .gap))
-record-columns v fs (Area a) = area-columns v (at fs 1) (edgesOf a)
-record-columns v fs (Name a) = on-axis v a (λ x. nameStep x (at fs 2))
-record-columns v fs (Track a min max) = on-axis v a (λ x. trackStep x min max)
-record-columns v fs (Repeat a n) = on-axis v a (λ x. repeatStep x (n .kind) (n .number))
-record-columns v fs (End a) = on-axis v a endStep
-record-columns v fs (Spare a min max) = on-axis v a (λ x. spareStep x min max)
-record-columns v fs (Extra a n p) = on-axis v a (λ x. extraStep x n p)
-record-columns v fs (Item a i) = on-axis v a (λ x. itemStep x i)
-record-columns v fs (Place a s e) = place-columns v a (placedEnd (at fs 3) s) (placedEnd (at fs 6) e)
+record-columns v fs (Fault n) h = refl
+record-columns v fs (AxisLine a) h = on-axis v (a .axis) (λ x. axisStep x (bit (a .definite)) (a .inner) (a .rule) (a .gap))
+record-columns v fs (Area a) h = area-columns v (at fs 1) (edgesOf a)
+record-columns v fs (Name a) h = on-axis v a (λ x. nameStep x (at fs 2))
+record-columns v fs (Track a min max) h = on-axis v a (λ x. trackStep x min max)
+record-columns v fs (Repeat a n) h = on-axis v a (λ x. repeatStep x (n .kind) (n .number))
+record-columns v fs (End a) h = on-axis v a endStep
+record-columns v fs (Spare a min max) h = on-axis v a (λ x. spareStep x min max)
+record-columns v fs (Extra a n p) h = on-axis v a (λ x. extraStep x n p)
+record-columns v fs (Item a i) h = on-axis v a (λ x. itemStep x i)
+record-columns v fs (Place a s e) h = place-columns v a (placedEnd (at fs 3) s) (placedEnd (at fs 6) e)
+record-columns v fs (PictureRow n) h = rw h (row-columns v (drop 1 fs))
 
 -- ---- one line
+
+-- a line that is accepted is not late
+timely : (v : PanelView) (fs : List (List ℕ)) (r : Record) → recordFault v fs r ≡ 0 → Timely v r
+unfolding recordFault
+timely v fs (Fault n) z = tt
+timely v fs (AxisLine a) z = tt
+timely v fs (Area a) z = tt
+timely v fs (Name a) z = tt
+timely v fs (Track a min max) z = tt
+timely v fs (Repeat a n) z = tt
+timely v fs (End a) z = tt
+timely v fs (Spare a min max) z = tt
+timely v fs (Extra a n p) z = tt
+timely v fs (Item a i) z = tt
+timely v fs (Place a s e) z = tt
+timely v fs (PictureRow n) z = go (lateAt 2 (v .stage)) (late z)
+  where
+    late : recordFault v fs (PictureRow n) ≡ 0 → lateFault v (PictureRow n) ≡ 0
+    late y =
+        first-zero (lateFault v (PictureRow n)) (recordStep v fs (PictureRow n) .fault)
+        (first-zero (twiceFault v fs (PictureRow n)) (firstOf (lateFault v (PictureRow n)) (recordStep v fs (PictureRow n) .fault))
+        (first-zero (faultOf (PictureRow n)) (firstOf (twiceFault v fs (PictureRow n)) (firstOf (lateFault v (PictureRow n)) (recordStep v fs (PictureRow n) .fault))) y .1) .1) .0
+
+    go : (t : Bool) → _≡_ {A = ℕ} (cond t 7 0) 0 → t ≡ false
+    go true y = absurd (omega arith)
+    go false y = refl
 
 -- what a line does to the columns, the areas and the placements
 abbrev pub columnStep : PanelView → List (List ℕ) → PanelView
@@ -115,7 +178,7 @@ line-columns v fs = go (eqb (recordFault v fs (recordOf fs)) 0) refl
 
     go : (t : Bool) → eqb n 0 ≡ t → eqb (cond t (accepted (atStage (stageOf v (recordOf fs)) (recordStep v fs (recordOf fs) .panel))) (refused n v) .fault) 0 ≡ true
         → onlyColumns (cond t (accepted (atStage (stageOf v (recordOf fs)) (recordStep v fs (recordOf fs) .panel))) (refused n v) .panel) ≡ columnStep (onlyColumns v) fs
-    go true e z = record-columns v fs (recordOf fs)
+    go true e z = record-columns v fs (recordOf fs) (timely v fs (recordOf fs) (eqb-true n 0 e))
     go false e z = absurd (true≢false (sym z ∙ e))
 
 -- ---- a line of the row names or the row template
@@ -149,3 +212,4 @@ row-line v fs t = go (recordOf fs) (record-says fs)
     go (Extra a n p) h = absurd (no-word (at fs 0) extra (h .0 .word) refl word)
     go (Item a i) h = absurd (no-word (at fs 0) item (h .0 .word) refl word)
     go (Place a s e) h = absurd (no-word (at fs 0) place (h .0 .word) refl word)
+    go (PictureRow n) h = absurd (no-word (at fs 0) row (h .word) refl word)

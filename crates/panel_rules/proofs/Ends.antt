@@ -19,9 +19,9 @@ use Rattle.panel_tables.specs.View.{PanelView, emptyView}
 use Rattle.panel_tables.specs.Axes.{viewIn}
 use Rattle.panel_tables.proofs.Axes.{axis-in-fits}
 use Rattle.sheet_rules.specs.Lines.{lineStep}
-use Rattle.sheet_rules.specs.Sheet.{entriesOf, openFault, countFault, entriesFault, axisFault, endFault, outcome, ended, run, displayOf, sheetOf}
+use Rattle.sheet_rules.specs.Sheet.{entriesOf, openFault, countFault, entriesFault, axisFault, endFault, outcome, ended, run, foldOf, displayOf, sheetOf}
 use Rattle.sheet_rules.specs.Panels.{nameEntries, entryWords}
-use Rattle.sheet_rules.proofs.Chosen.{accepted-former}
+use Rattle.sheet_rules.proofs.Chosen.{display-former, whole-outcome, accepted-former}
 use Rattle.sheet_rules.proofs.Fits.{sheet-fits}
 use Rattle.sheet_end.proofs.Entries.{none-open, entries-count}
 
@@ -53,8 +53,8 @@ run-end n (l ∷ m ∷ ls) v = go (eqb (lineStep v (split 9 l) .fault) 0) refl (
 
 -- the whole sheet
 display-end : (s : List ℕ) → displayOf s .fault ≡ 0 → endFault (displayOf s .view) ≡ 0
-unfolding displayOf
-display-end s = go (ltb 32768 (length s))
+unfolding foldOf
+display-end s z = rw (whole-outcome s (display-former s z .0)) (go (ltb 32768 (length s)) (display-former s z .1))
   where
     go : (t : Bool) → let o = cond t (outcome 1 0 emptyView) (run 1 (split 10 s) emptyView) in o .fault ≡ 0 → endFault (o .view) ≡ 0
     go true z = absurd (omega arith)

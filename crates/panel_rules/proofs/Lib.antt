@@ -11,6 +11,7 @@ pub mod Frame
 pub mod Numbers
 pub mod SheetKeeps
 pub mod AxisRanges
+pub mod Within
 pub mod Invariants
 --   what the calls answer, read off the view and the entries: `placement-after` and the like; of a run: `run-placements` and the like
 pub mod BookBack

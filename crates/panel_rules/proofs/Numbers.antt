@@ -13,7 +13,7 @@ use Rattle.text.specs.Split.{index, same}
 use Rattle.text.specs.Whole.{Written, none, whole, wholeOf, indexIn}
 use Rattle.text.specs.declared.Index.the-variants.{Outside, Value}
 use Rattle.sheet_forms.specs.declared.Record.{Record}
-use Rattle.sheet_forms.specs.declared.Record.the-variants.{Fault, Axis as AxisLine, Area as AreaLine, Name, Track, Repeat, End as EndLine, Spare, Extra, Item, Place}
+use Rattle.sheet_forms.specs.declared.Record.the-variants.{Fault, Axis as AxisLine, Area as AreaLine, Name, Track, Repeat, End as EndLine, Spare, Extra, Item, Place, PictureRow}
 use Rattle.sheet_forms.specs.Words.{at, nought, endWords}
 use Rattle.sheet_forms.specs.Fields.{wordOf, axisOf}
 use Rattle.sheet_forms.specs.Ends.{endKind, indexField, faultyNumber, endNumber, endOf}
@@ -77,6 +77,7 @@ Placed (EndLine a) = Unit {0}
 Placed (Spare a min max) = Unit {0}
 Placed (Extra a n p) = Unit {0}
 Placed (Item a i) = Unit {0}
+Placed (PictureRow n) = Unit {0}
 Placed (Place a s e) = NumberOf (s .kind) (s .number) × NumberOf (e .kind) (e .number)
 
 place-placed : (fs : List (List ℕ)) → Placed (placeLine fs)
@@ -118,6 +119,7 @@ record-placed fs = go (recordOf fs) refl (record-says fs)
     go (Spare a min max) e h = tt
     go (Extra a n p) e h = tt
     go (Item a i) e h = tt
+    go (PictureRow n) e h = tt
     go (Place a s t) e h = subst Placed (sym (line-record place fs (h .0 .word)) ∙ e) (place-placed fs)
 
 -- ---- numbers in range are read back as they are

@@ -27,7 +27,7 @@ use Rattle.panel_rules.specs.Runs.{Call}
 use Rattle.panel_rules.specs.Views.{areaIn, areasIn, cssEnd, placementAt, namesAfter, answerAt, placementAfter}
 use Rattle.panel_rules.specs.Book.{CssTemplate, book, bookNames, AllCounted, Regular}
 use Rattle.panel_rules.specs.Order.{SamePanel, SameEntries}
-use Rattle.panel_rules.specs.Ranges.{largest}
+use Rattle.panel_rules.specs.Ranges.{largest, spanned}
 use Rattle.panel_rules.proofs.Book as Book
 use Rattle.panel_rules.proofs.Run.{addedTo}
 
@@ -52,8 +52,12 @@ module _ (a : Axis) where
       let j = largest-within l m (λ z k. f z (List·Memᴰ·tail k)) in
       omega arith
 
-  pub largest-same : (l m : List Area) → SameMembers l m → largest a l ≡ largest a m
+  largest-same : (l m : List Area) → SameMembers l m → largest a l ≡ largest a m
   largest-same l m s = omega (arith, largest-within l m (λ x. s x .0), largest-within m l (λ x. s x .1))
+
+-- so a panel needs as many
+pub spanned-same : (a : Axis) (v w : PanelView) → SamePanel v w → spanned a v ≡ spanned a w
+spanned-same a v w same = omega (arith, same .pictures a, largest-same a (v .areas) (w .areas) (same .areas))
 
 -- ---- the same answers
 

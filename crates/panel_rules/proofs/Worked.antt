@@ -31,7 +31,7 @@ use Rattle.sheet_forms.specs.Faults.{rankOf, firstOf}
 use Rattle.sheet_forms.specs.Fields.{axisOf, ruleOf, countOf, repetitionOf, codes, nameFault}
 use Rattle.sheet_forms.specs.Sizes.{kindOf, sizeOf as sizeRead, innerOf}
 use Rattle.sheet_forms.specs.Ends.{endKind, endName, endNumber, endOf}
-use Rattle.sheet_forms.specs.Records.{axisLine, areaLine, nameLine, sizesLine, repeatLine, endLine, extraLine, itemLine, placeLine, byKind, recordOf as recordRead}
+use Rattle.sheet_forms.specs.Records.{axisLine, areaLine, nameLine, sizesLine, repeatLine, endLine, extraLine, itemLine, placeLine, fixedKind, byKind, recordOf as recordRead}
 use Rattle.name_entries.specs.Names.{isName}
 use Rattle.name_entries.proofs.Booleans.{both}
 use Rattle.name_entries.specs.LineNames.{shownAfter, explicitLineNames}
@@ -46,7 +46,9 @@ use Rattle.panel_cells.specs.Steps.{shares, sharingFrom}
 use Rattle.sheet_rules.specs.Lines.{recordStep, recordFault, strictFault, lineFault, sharedAt, lineStep}
 use Rattle.sheet_rules.specs.Valid.{ValidTemplate}
 use Rattle.sheet_rules.proofs.Counted.{counted-valid}
-use Rattle.sheet_rules.specs.Sheet.{sizeOf as templateSize, counted, entriesOf, endFault, ended, run, displayOf, noOverlap, overlapFrom, overlapOf, sheetOf}
+use Rattle.sheet_rules.specs.Sheet.{sizeOf as templateSize, counted, entriesOf, endFault, ended, run, foldOf, brokenAt, brokenFrom, brokenOf, displayOf, noOverlap, overlapFrom, overlapOf, sheetOf}
+use Rattle.sheet_rules.specs.Kinds.{isKind}
+use Rattle.sheet_rules.specs.Contents.{drawnIn}
 use Rattle.sheet_rules.proofs.Chosen.{accepted-former}
 use Rattle.sheet_rules.specs.Panels.{Tables}
 use Rattle.sheet_rules.specs.Read.{SheetRead, shortStores, readBy}
@@ -230,15 +232,16 @@ record All : Type 0 where
       × (viewOf firstOrder .rows ≡ viewOf namedRun .rows)
       × (viewOf firstOrder .areas ≡ viewOf namedRun .areas)
       × (viewOf firstOrder .placements ≡ viewOf namedRun .placements)
+      × (viewOf firstOrder .picture ≡ viewOf namedRun .picture)
 
 all : All
 unfolding sampleSheet sample rowSheet rowRun otherSheet otherRun calledSheet firstOrder secondOrder namedSheet namedRun benchSheet benchFour emptySheet benchEmpty
     split onto same index digitsOf naturalOf nonNegative negative wholeOf countIn indexIn bitsFrom bitsOf
     upTo minimumKind largestOf valueInRange lengthInRange floatUpTo sizingOfKind sizingOf rankOf firstOf axisOf ruleOf countOf repetitionOf codes nameFault
-    kindOf sizeRead innerOf endKind endName endNumber endOf axisLine areaLine nameLine sizesLine repeatLine endLine extraLine itemLine placeLine byKind recordRead
+    kindOf sizeRead innerOf endKind endName endNumber endOf axisLine areaLine nameLine sizesLine repeatLine endLine extraLine itemLine placeLine fixedKind byKind recordRead
     emptyAxis trackStep repeatStep endStep nameStep spareStep itemStep extraStep axisStep emptyView areaStep placeStep
     templateSizeOf outsideCount automaticCount beforeCount automaticTracks anyEmpty allFixed everyFixed outsideSpace repetitionSpace fittingOf heldOf repetitionsOf floorOf ceilingOf
-    repeated passed ruleFrom recordStep recordFault lineStep shares sharingFrom strictFault lineFault sharedAt templateSize counted entriesOf endFault ended run displayOf overlapFrom overlapOf sheetOf ofBits add sub mul div lt ofInt
+    repeated passed ruleFrom recordStep recordFault lineStep shares sharingFrom strictFault lineFault sharedAt templateSize counted entriesOf endFault ended run foldOf brokenAt brokenFrom brokenOf isKind displayOf overlapFrom overlapOf sheetOf ofBits add sub mul div lt ofInt
     sheetBook sheetTracks tableRefusal addedFrom book isName
     sizeAfter listsAfter nameAfter recordAfter placementAfter shownAfter explicitLineNames writtenOut openTo allTracks recordsOf axisRefusal recordAnswerOf seek named?
 all = record {
@@ -265,7 +268,7 @@ all = record {
   rowEntries = refl;
   namedColumns = refl;
   namedRows = refl;
-  namedPanel = (refl, refl, refl, refl, refl);
+  namedPanel = (refl, refl, refl, refl, refl, refl);
 }
 
 -- ---- the answers, from any tables with stores long enough
@@ -351,13 +354,13 @@ bench-beside t u long further =
 
 pub orders-panel : SamePanel (viewOf firstOrder) (viewOf secondOrder)
 unfolding firstOrder secondOrder
-orders-panel = record { lines = λ a. refl; components = λ a. refl; areas = λ x. (λ h. h, λ h. h); placements = refl }
+orders-panel = record { lines = λ a. refl; components = λ a. refl; areas = λ x. (λ h. h, λ h. h); pictures = λ a. refl; placements = refl }
 
 same-list : {A : Type 0} {l m : List A} → l ≡ m → SameMembers l m
 same-list e x = (subst (List·Memᴰ x) e, subst (List·Memᴰ x) (sym e))
 
 pub named-panel : SamePanel (viewOf firstOrder) (viewOf namedRun)
-named-panel = record { lines = lines; components = components; areas = same-list (all .namedPanel .3); placements = all .namedPanel .4 }
+named-panel = record { lines = lines; components = components; areas = same-list (all .namedPanel .3); pictures = λ a. ap (drawnIn a) (all .namedPanel .5); placements = all .namedPanel .4 }
   where
     lines : (a : Axis) → viewIn (viewOf firstOrder) a .line ≡ viewIn (viewOf namedRun) a .line
     lines Column = all .namedPanel .0

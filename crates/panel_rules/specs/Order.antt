@@ -6,6 +6,7 @@ use Rattle.name_rules.specs.Conditions.{SameMembers}
 use Rattle.axis_tables.specs.View.{componentsOf}
 use Rattle.panel_tables.specs.View.{PanelView}
 use Rattle.panel_tables.specs.Axes.{viewIn}
+use Rattle.sheet_rules.specs.Contents.{drawnIn}
 use Rattle.panel_rules.specs.Runs.{Call}
 use Rattle.panel_rules.specs.Book.{CssTemplate, book}
 
@@ -16,6 +17,8 @@ pub record SamePanel (v w : PanelView) : Type 0 where
   pub components : (a : Axis) → componentsOf (viewIn v a .template) ≡ componentsOf (viewIn w a .template)
   -- the same areas, in any order
   pub areas : SameMembers (v .areas) (w .areas)
+  -- "the same areas means the same rows too" (document 02, request 07); as many rows of the same width are enough
+  pub pictures : (a : Axis) → drawnIn a (v .picture) ≡ drawnIn a (w .picture)
   pub placements : v .placements ≡ w .placements
 
 -- "the same accepted entries in any order", of the sheet's names and of the calls together

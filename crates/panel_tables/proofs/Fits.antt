@@ -53,14 +53,14 @@ fits-cond : (t : Bool) (a b : PanelOutcome) → FitsPanel (a .panel) → (t ≡ 
 fits-cond true a b f g = f
 fits-cond false a b f g = g refl
 
-raised-fits : (v : AxisView) (end : ℕ) → Fits v → Fits (raised v end)
+pub raised-fits : (v : AxisView) (end : ℕ) → Fits v → Fits (raised v end)
 raised-fits v end f = record { items = f .items; unended = f .unended; components = f .components; spares = f .spares; names = f .names; bytes = f .bytes; short = f .short }
 
 pub area-fits : (v : PanelView) (n : List ℕ) (e : AreaEdges) → FitsPanel v → FitsPanel (areaStep v n e .panel)
 unfolding areaStep
 area-fits v n e f =
     let a : Area = record { name = n; edges = e } in
-    let w : PanelView = record { columns = raised (v .columns) (e .columnend); rows = raised (v .rows) (e .rowend); areas = v .areas ++ (a ∷ []); placements = v .placements; stage = v .stage } in
+    let w : PanelView = record { columns = raised (v .columns) (e .columnend); rows = raised (v .rows) (e .rowend); areas = v .areas ++ (a ∷ []); picture = v .picture; placements = v .placements; stage = v .stage } in
     let o : PanelOutcome = cond (leb 64 (length (v .areas))) (refused 8 v) (accepted w) in
     fits-cond (edgesOutside e) (refused (namedFault (length n) 4) v) (cond (ltb 32 (length n)) (refused 2 v) o) f
     (λ x. fits-cond (ltb 32 (length n)) (refused 2 v) o f
@@ -78,7 +78,7 @@ pub place-fits : (v : PanelView) (axis : Axis) (s e : End) → FitsPanel v → F
 unfolding placeStep
 place-fits v axis s e f =
     let p : Placement = record { axis = axis; start = s; end = e } in
-    let w : PanelView = record { columns = v .columns; rows = v .rows; areas = v .areas; placements = v .placements ++ (p ∷ []); stage = v .stage } in
+    let w : PanelView = record { columns = v .columns; rows = v .rows; areas = v .areas; picture = v .picture; placements = v .placements ++ (p ∷ []); stage = v .stage } in
     let a : PanelOutcome = cond (leb 256 (length (v .placements))) (refused 8 v) (accepted w) in
     let b : PanelOutcome = cond (ltb 32 (length (e .name))) (refused 2 v) a in
     let d : PanelOutcome = cond (ltb 32 (length (s .name))) (refused 2 v) b in

@@ -27,7 +27,8 @@ use Rattle.panel_tables.specs.Areas.{edgesWord, putArea}
 use Rattle.coordinates.specs.Axes.{axisNumber}
 use Rattle.panel_tables.specs.Placements.{endWord, placementFault, putPlacement}
 use Rattle.panel_tables.specs.Regions.{panelWords, panelBytes, axisWordsIn, areaWordsIn, placementWordsIn, marksIn, areaBytesIn, placementBytesIn}
-use Rattle.panel_tables.specs.Written.{zeroPanel, zeroPanelReading, areaNameOf, areaEdgesWord, areaNameWord, areaBytesOf, areaRegions, areaWords, areaStore, AxisEnd, endsOf, endNameOf, axisEndWord, placementBytesOf, placementWords, placementStore, panelOf, PanelHeld, panelHeldOf, heldPanel, stepped, ofAreas, ofPlacements}
+use Rattle.picture_rules.specs.Steps.{rowsFrom}
+use Rattle.panel_tables.specs.Written.{zeroPanel, zeroPanelReading, areaNameOf, areaEdgesWord, areaNameWord, areaBytesOf, areaRegions, areaWords, areaStore, AxisEnd, endsOf, endNameOf, axisEndWord, placementBytesOf, placementWords, placementStore, panelOf, PanelHeld, panelHeldOf, heldPanel, stepped, ofAreas, ofPlacements, pictureReadingOf}
 use Rattle.panel_tables.proofs.Fits.{FitsPanel, area-bytes, placement-bytes}
 
 -- bytes in a store that has room
@@ -238,7 +239,7 @@ held s r w m n a b p q =
         grid = record { columns = s .grid; rows = s .grid; areas = 0; placements = 0 };
         room = record { columns = s .room; rows = s .room; areabytes = 0; placementbytes = 0 };
       };
-      reading = record { stage = 0; columns = r; rows = r };
+      reading = record { stage = 0; picture = record { rows = 0; width = 0; broken = false }; columns = r; rows = r };
       columns = w;
       rows = w;
       columnMarks = m;
@@ -257,7 +258,7 @@ parts s s2 r r2 w w2 m m2 n n2 a a2 b b2 p p2 q q2 e1 e2 e3 e4 e5 e6 e7 e8 e9 = 
 
 empty-same : heldPanel emptyView
     ≡ held zeroState zeroReading (replicate 12480 0) (replicate 30000 0) (replicate 32768 0) (replicate 128 0) (replicate 2048 0) (replicate 512 0) (replicate 16384 0)
-unfolding heldPanel emptyView
+unfolding heldPanel emptyView pictureReadingOf rowsFrom
 empty-same =
     parts (stateOf emptyAxis) zeroState (readingOf emptyAxis) zeroReading (axisWords emptyAxis) (replicate 12480 0) (emptyAxis .marks) (replicate 30000 0) (namesStore emptyAxis) (replicate 32768 0)
     (areaWords []) (replicate 128 0) (areaStore []) (replicate 2048 0) (placementWords []) (replicate 512 0) (placementStore []) (replicate 16384 0)

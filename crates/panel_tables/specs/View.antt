@@ -8,6 +8,7 @@ use lib.ListN.{length}
 use Rattle.coordinates.specs.declared.axis.Axis.{Axis}
 use Rattle.coordinates.specs.declared.axis.Axis.the-variants.{Column}
 use Rattle.text.specs.Split.{same}
+use Rattle.picture_rules.specs.Picture.{Picture}
 use Rattle.axis_tables.specs.View.{AxisView, namedFault, emptyAxis}
 use Rattle.panel_tables.specs.declared.AreaEdges.{AreaEdges}
 use Rattle.panel_tables.specs.declared.PlacementEnd.{PlacementEnd}
@@ -42,12 +43,14 @@ pub record PanelView : Type 0 where
   pub columns : AxisView
   pub rows : AxisView
   pub areas : List Area
+  -- the rows of words that were drawn
+  pub picture : Picture
   pub placements : List Placement
-  -- kind order: 0 where nothing but `axis` records was read, 1 after an `area`, 2 after any other
+  -- kind order: 0 where nothing but `axis` records was read, 1 after an `area`, 2 after a `row`, 3 after any other
   pub stage : ℕ
 
 unfoldable pub emptyView : PanelView
-emptyView = record { columns = emptyAxis; rows = emptyAxis; areas = []; placements = []; stage = 0 }
+emptyView = record { columns = emptyAxis; rows = emptyAxis; areas = []; picture = []; placements = []; stage = 0 }
 
 -- whether an area has that name
 abbrev pub hasArea : List ℕ → List Area → Bool
@@ -97,6 +100,7 @@ areaStep v n e =
       columns = raised (v .columns) (e .columnend);
       rows = raised (v .rows) (e .rowend);
       areas = v .areas ++ (record { name = n; edges = e } ∷ []);
+      picture = v .picture;
       placements = v .placements;
       stage = v .stage;
     }))))
@@ -121,6 +125,7 @@ placeStep v axis start end =
       columns = v .columns;
       rows = v .rows;
       areas = v .areas;
+      picture = v .picture;
       placements = v .placements ++ (record { axis = axis; start = start; end = end } ∷ []);
       stage = v .stage;
     }))))))

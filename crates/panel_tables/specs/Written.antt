@@ -1,6 +1,7 @@
 -- What the state and the tables of a panel hold for a view.
 use Prim.Native.Nat.{ℕ, _+_}
 use mathlib.Core.List.{List, [], _∷_, _++_, map}
+use mathlib.Core.Bool.{false}
 use lib.ListN.{length}
 use Rattle.coordinates.specs.declared.axis.Axis.{Axis}
 use Rattle.coordinates.specs.declared.axis.Axis.the-variants.{Column, Row}
@@ -9,7 +10,10 @@ use Rattle.axis_tables.specs.Runs.{bytesOf, wordsFrom}
 use Rattle.axis_tables.specs.View.{AxisView, AxisOutcome}
 use Rattle.axis_tables.specs.Store.{nameWord, zeroAxisGrid, zeroAxisRoom, zeroReading}
 use Rattle.axis_tables.specs.Written.{gridOf, roomOf, readingOf, axisWords, namesStore}
+use Rattle.picture_rules.specs.Picture.{Picture, widthOf}
+use Rattle.picture_rules.specs.Steps.{takenOf}
 use Rattle.panel_tables.specs.declared.Panel.{Panel}
+use Rattle.panel_tables.specs.declared.PictureReading.{PictureReading}
 use Rattle.panel_tables.specs.declared.Reading.{Reading}
 use Rattle.panel_tables.specs.View.{Area, End, Placement, PanelView, PanelOutcome}
 use Rattle.panel_tables.specs.Areas.{edgesWord, InAreas, put}
@@ -25,7 +29,7 @@ zeroPanel =
     }
 
 abbrev pub zeroPanelReading : Reading
-zeroPanelReading = record { stage = 0; columns = zeroReading; rows = zeroReading }
+zeroPanelReading = record { stage = 0; picture = record { rows = 0; width = 0; broken = false }; columns = zeroReading; rows = zeroReading }
 
 -- ---- areas
 abbrev pub areaNameOf : Area → List ℕ
@@ -86,8 +90,12 @@ panelOf v =
       };
     }
 
+-- what is kept of a picture
+unfoldable pub pictureReadingOf : Picture → PictureReading
+pictureReadingOf p = record { rows = length p; width = widthOf p; broken = takenOf p .broken }
+
 abbrev pub panelReadingOf : PanelView → Reading
-panelReadingOf v = record { stage = v .stage; columns = readingOf (v .columns); rows = readingOf (v .rows) }
+panelReadingOf v = record { stage = v .stage; picture = pictureReadingOf (v .picture); columns = readingOf (v .columns); rows = readingOf (v .rows) }
 
 -- state and tables together
 pub record PanelHeld : Type 0 where

@@ -36,10 +36,18 @@ pub struct Panel {
     pub room: Room,
 }
 
-// What only reading needs: the kind order (0 where nothing but `axis` records was read, 1 after an `area`, 2 after any other),
-// and what each axis needs.
+// What reading keeps of a picture: how many rows were read, the number of words of the first, and whether the cells of a name are no rectangle.
+pub struct PictureReading {
+    pub rows: u32,
+    pub width: u32,
+    pub broken: bool,
+}
+
+// What only reading needs: the kind order (0 where nothing but `axis` records was read, 1 after an `area`, 2 after a `row`, 3 after any
+// other), the picture, and what each axis needs.
 pub struct Reading {
     pub stage: u32,
+    pub picture: PictureReading,
     pub columns: AxisReading,
     pub rows: AxisReading,
 }

@@ -5,6 +5,7 @@ ghost use Rattle.panel_tables.specs.Written.{zeroPanel, zeroPanelReading
 use crate::Grid;
 use crate::Panel;
 use crate::PanelPut;
+use crate::PictureReading;
 use crate::Reading;
 use crate::Room;
 
@@ -36,6 +37,11 @@ pub fn zero_panel_reading() -> Reading
     let zero = axis_tables::state::zero_reading();
     Reading {
         stage: 0,
+        picture: PictureReading {
+            rows: 0,
+            width: 0,
+            broken: false,
+        },
         columns: zero,
         rows: zero,
     }

@@ -83,7 +83,7 @@ fn raised_to(room: AxisRoom, end: u32) -> AxisRoom
 }
 
 // Both axes with them.
-fn raised(room: Room, edges: AreaEdges) -> Room
+pub fn raised(room: Room, edges: AreaEdges) -> Room
     ensures { λ r. ⌜ r ≡ raised room edges ⌝ }
 {
     let columns = room.columns;

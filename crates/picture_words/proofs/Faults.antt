@@ -5,7 +5,7 @@ use mathlib.Core.List.{List, [], _∷_}
 use lib.ListN.{length, take, drop}
 use borrow.Author.Tests.{eq-eqb, ne-eqb}
 use Rattle.picture_words.specs.Words.{wordsLeft, wordEnd}
-use Rattle.picture_words.specs.Faults.{wordFault, wordsFault}
+use Rattle.sheet_forms.specs.Fields.{wordFault, wordsFault}
 use Rattle.picture_words.proofs.Words.{words-past, words-next}
 
 pub fault-past : (line : List ℕ) (at : ℕ) → length line < at → wordsFault (wordsLeft line at) ≡ 0

@@ -3,4 +3,3 @@ pub mod Words
 pub mod Dots
 pub mod Runs
 pub mod Faults
-pub mod Theorem

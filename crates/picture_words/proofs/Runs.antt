@@ -4,9 +4,10 @@ use mathlib.Core.Path.{_≡_, refl, sym, ap, _∙_}
 use mathlib.Core.List.{List, [], _∷_}
 use mathlib.Core.Bool.{Bool, true, false, cond}
 use mathlib.Core.Logic.{⊎-elim}
+use native.Mathlib.Nat.{le-of-suc-le-suc, not-suc-le-zero}
 use native.Mathlib.Numerals.{add-one}
 use native.Mathlib.Omega.{arith}
-use lib.ListN.{length, getD, take, drop}
+use lib.ListN.{length, getD, take, drop, length-drop}
 use Rattle.text.specs.Split.{same}
 use Rattle.text.specs.Places.{startsFrom}
 use Rattle.text.proofs.Which.{same-self}
@@ -96,3 +97,28 @@ run-runs line at fits =
 pub runs-past : (line : List ℕ) (at : ℕ) → length line < at → runsOf (wordsLeft line at) ≡ []
 unfolding runsOf
 runs-past line at h = rw (words-past line at h)
+
+-- the words of a run and those after it are all
+pub run-length : (line : List ℕ) (at : ℕ) → runAt line at .count + length (wordsLeft line (runAt line at .next)) ≡ length (wordsLeft line at)
+unfolding runAt
+run-length line at =
+    let le = first-le (wordsLeft line at) in
+    let after = words-after line (firstRun (wordsLeft line at)) at le in
+    omega (arith, le, ap length after, length-drop (firstRun (wordsLeft line at)) (wordsLeft line at))
+
+-- no word starts before the place that it is counted from
+starts-on : (at k : ℕ) (ws : List Word) → k ≤ length ws → at ≤ getD (startsFrom at ws) k 0
+unfolding startsFrom
+starts-on at zero [] h = omega arith
+starts-on at (suc k) [] h = absurd (not-suc-le-zero h)
+starts-on at zero (w ∷ ws) h = omega arith
+starts-on at (suc k) (w ∷ ws) h = omega (arith, starts-on (at + length w + 1) k ws (le-of-suc-le-suc h))
+
+first-moves : (at : ℕ) (w : Word) (ws : List Word) → at < getD (startsFrom at (w ∷ ws)) (firstRun (w ∷ ws)) 0
+unfolding startsFrom firstRun
+first-moves at w ws = omega (arith, starts-on (at + length w + 1) (againOf w ws) ws (again-le w ws))
+
+-- the word after a run starts later
+pub run-moves : (line : List ℕ) (at : ℕ) → at ≤ length line → at < runAt line at .next
+unfolding runAt
+run-moves line at fits = rw (words-next line at (wordEnd line at) fits refl) (first-moves at _ _)

@@ -1,4 +1,3 @@
 -- What the contracts on the words of a `row` line cite.
 pub mod Words
 pub mod Runs
-pub mod Faults

@@ -2,7 +2,7 @@
 ghost use mathlib.Core.Path.{_≡_};
 ghost use lib.ListN.{length};
 ghost use Rattle.picture_words.specs.Words.{wordsOf};
-ghost use Rattle.picture_words.specs.Faults.{wordsFault, manyFault, rowFault};
+ghost use Rattle.sheet_forms.specs.Fields.{wordsFault, manyFault, rowFault};
 use crate::word::TAB;
 use crate::word::first_word;
 use crate::word::word_end;

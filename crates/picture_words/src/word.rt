@@ -2,7 +2,7 @@
 ghost use mathlib.Core.Path.{_≡_};
 ghost use Rattle.picture_rules.specs.Picture.{allDots, isDots};
 ghost use Rattle.picture_words.specs.Words.{firstStart, wordEnd, wordAt};
-ghost use Rattle.picture_words.specs.Faults.{wordFault};
+ghost use Rattle.sheet_forms.specs.Fields.{wordFault};
 use sheet_forms::name_fault;
 use text::find;
 

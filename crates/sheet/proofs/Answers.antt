@@ -20,18 +20,18 @@ use Rattle.panel_tables.specs.declared.Panel.{Panel}
 use Rattle.panel_tables.specs.declared.Reading.{Reading}
 use Rattle.panel_tables.specs.Regions.{panelWords, panelBytes}
 use Rattle.panel_tables.specs.Written.{zeroPanel, zeroPanelReading, PanelHeld, panelHeldOf}
-use Rattle.panel_tables.proofs.Fits.{FitsPanel, empty-fits-panel}
+use Rattle.panel_tables.proofs.Fits.{FitsPanel}
 use Rattle.panel_tables.proofs.Same.{zeros-same}
 use Rattle.sheet_rules.specs.declared.Overlap.{Overlap}
 use Rattle.sheet_rules.specs.declared.SheetAnswer.{SheetAnswer}
-use Rattle.sheet_rules.specs.Sheet.{Outcome, run, displayOf, noOverlap, overlapFrom, overlapOf}
+use Rattle.sheet_rules.specs.Sheet.{Outcome, run, foldOf, brokenFrom, brokenOf, withBroken as outcomeWith, displayOf, noOverlap, overlapFrom, overlapOf}
 use Rattle.sheet_rules.specs.Panels.{sizedState, sizedPanel, Tables, tablesIn, pasted, tablesOf}
 use Rattle.sheet_rules.specs.Read.{SheetRead, shortStores, refusedSheet, readBy, strictBy, readSheet}
-use Rattle.sheet_rules.proofs.Fits.{display-fits}
+use Rattle.sheet_rules.proofs.Fits.{empty-fits-sheet, display-fits}
 use Rattle.sheet_rules.proofs.Chosen.{none-overlap}
-use Rattle.sheet.specs.Runs.{HeldRun, stopped, heldRun, heldOverlap, heldAfter, heldSheet}
+use Rattle.sheet.specs.Runs.{HeldRun, stopped, heldRun, heldOverlap, heldBroken, heldAfter, heldSheet, withBroken, heldJudged}
 use Rattle.sheet.specs.Steps.{refusedAnswer, overlapAnswer, judgedBy, readUnder}
-use Rattle.sheet.proofs.Follows.{heldSized, Follows, run-follows, overlap-follows}
+use Rattle.sheet.proofs.Follows.{heldSized, Follows, run-follows, overlap-follows, broken-follows}
 
 -- ---- the store of an axis
 
@@ -112,22 +112,41 @@ abbrev pub zeroHeld : PanelHeld
 zeroHeld = panelHeldOf zeroPanel zeroPanelReading (replicate panelWords 0) (replicate panelBytes 0) (replicate 32768 0) (replicate 32768 0)
 
 -- a sheet that is not too long
-sheet-follows : (s : List ℕ) → length s ≤ 32768 → Follows (heldSheet s zeroHeld) (displayOf s)
-unfolding displayOf heldSheet
-sheet-follows s k =
+fold-follows : (s : List ℕ) → length s ≤ 32768 → Follows (heldSheet s zeroHeld) (foldOf s)
+unfolding foldOf heldSheet
+fold-follows s k =
     rw (le-ltb 32768 (length s) k)
     (subst (λ (h : PanelHeld). Follows (heldAfter (heldRun 1 (split 10 s) h)) (run 1 (split 10 s) emptyView)) zeros-same
-    (run-follows 1 (split 10 s) emptyView empty-fits-panel))
+    (run-follows 1 (split 10 s) emptyView empty-fits-sheet))
+
+sheet-broken : (s : List ℕ) → length s ≤ 32768 → heldBroken 1 (split 10 s) zeroHeld ≡ brokenOf s
+unfolding brokenOf
+sheet-broken s k =
+    rw (le-ltb 32768 (length s) k)
+    (ap (heldBroken 1 (split 10 s)) (sym zeros-same) ∙ broken-follows 1 (split 10 s) emptyView empty-fits-sheet (omega arith))
+
+-- with the line of a broken picture
+broken-also : (b : ℕ) (r : HeldRun) (o : Outcome) → Follows r o → Follows (withBroken b r) (outcomeWith b o)
+broken-also b r o f = go (eqb b 0)
+  where
+    go : (t : Bool) → Follows (stopped (cond t (r .fault) 14) (cond t (r .line) b) (r .held)) (record { fault = cond t (o .fault) 14; line = cond t (o .line) b; view = o .view })
+    go true = record { fault = f .fault; line = f .line; held = f .held }
+    go false = record { fault = refl; line = λ y. refl; held = λ y. absurd (omega (arith, y)) }
+
+sheet-follows : (s : List ℕ) → length s ≤ 32768 → Follows (heldJudged s zeroHeld) (displayOf s)
+unfolding displayOf heldJudged
+sheet-follows s k =
+    subst (λ (b : ℕ). Follows (withBroken b (heldSheet s zeroHeld)) (outcomeWith (brokenOf s) (foldOf s))) (sym (sheet-broken s k)) (broken-also (brokenOf s) (heldSheet s zeroHeld) (foldOf s) (fold-follows s k))
 
 sheet-overlap : (s : List ℕ) → length s ≤ 32768 → heldOverlap 1 (split 10 s) zeroHeld ≡ overlapOf s
 unfolding overlapOf
 sheet-overlap s k =
     rw (le-ltb 32768 (length s) k)
-    (ap (heldOverlap 1 (split 10 s)) (sym zeros-same) ∙ overlap-follows 1 (split 10 s) emptyView empty-fits-panel)
+    (ap (heldOverlap 1 (split 10 s)) (sym zeros-same) ∙ overlap-follows 1 (split 10 s) emptyView empty-fits-sheet)
 
 -- a sheet too long
 pub read-long : (former : Bool) (s : List ℕ) (t : Tables) → 32768 < length s → refusedRead (refusedAnswer unread 0) t ≡ readUnder former s t
-unfolding readUnder readSheet strictBy overlapOf displayOf readBy
+unfolding readUnder readSheet strictBy overlapOf displayOf foldOf brokenOf readBy
 read-long former s t k = rw (lt-ltb 32768 (length s) k) (go former)
   where
     go : (b : Bool) → refusedRead (refusedAnswer unread 0) t ≡ cond b (refusedRead (refusedAnswer unread 0) t) (refusedRead (refusedAnswer unread 0) t)
@@ -135,7 +154,7 @@ read-long former s t k = rw (lt-ltb 32768 (length s) k) (go former)
     go false = refl
 
 -- what was read into zeros, under one of the rules
-module _ (former : Bool) (s : List ℕ) (r : HeldRun) (e : r ≡ heldSheet s zeroHeld) (o : Overlap) (d : o ≡ heldOverlap 1 (split 10 s) zeroHeld) (few : length s ≤ 32768) where
+module _ (former : Bool) (s : List ℕ) (r : HeldRun) (e : r ≡ heldJudged s zeroHeld) (o : Overlap) (d : o ≡ heldOverlap 1 (split 10 s) zeroHeld) (few : length s ≤ 32768) where
   read-follows : Follows r (displayOf s)
   read-follows = subst (λ (x : HeldRun). Follows x (displayOf s)) (sym e) (sheet-follows s few)
 

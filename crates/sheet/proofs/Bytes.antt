@@ -5,14 +5,14 @@ use mathlib.Core.List.{List, [], _∷_, _++_}
 use mathlib.Core.Bool.{Bool, true, false, cond}
 use native.Mathlib.Omega.{arith}
 use lib.Dec.{eqb, leb, ltb}
-use lib.ListN.{length, getD, length-append}
+use lib.ListN.{length, getD, drop, length-append}
 use borrow.Author.Tests.{ltb-false}
 use Rattle.coordinates.specs.declared.axis.Axis.{Axis}
 use Rattle.coordinates.specs.declared.axis.Axis.the-variants.{Column, Row}
 use Rattle.text.specs.Split.{split}
 use Rattle.text.proofs.Cut.{join, join-split}
 use Rattle.sheet_forms.specs.declared.Record.{Record}
-use Rattle.sheet_forms.specs.declared.Record.the-variants.{Fault, Axis as AxisLine, Area, Name, Track, Repeat, End as EndLine, Spare, Extra, Item, Place}
+use Rattle.sheet_forms.specs.declared.Record.the-variants.{Fault, Axis as AxisLine, Area, Name, Track, Repeat, End as EndLine, Spare, Extra, Item, Place, PictureRow}
 use Rattle.sheet_forms.specs.Words.{at}
 use Rattle.sheet_forms.specs.Forms.{name as nameKind, Of}
 use Rattle.sheet_forms.specs.Records.{recordOf}
@@ -23,9 +23,11 @@ use Rattle.axis_tables.specs.View.{AxisView, NameRecord, emptyAxis, nameOf, axi
 use Rattle.panel_tables.specs.declared.AreaEdges.{AreaEdges}
 use Rattle.panel_tables.specs.View.{End, PanelView, PanelOutcome, emptyView, refused as refusedPanel, accepted as acceptedPanel, raised, areaStep, placeStep, edgesOutside, endOutside}
 use Rattle.panel_tables.specs.Axes.{viewIn, withView}
-use Rattle.sheet_rules.specs.Lines.{bit, edgesOf, placedEnd, recordStep, stageOf, recordFault, atStage, lineStep}
+use Rattle.picture_rules.specs.Picture.{Word}
+use Rattle.sheet_rules.specs.Pictures.{areasOf, withWords, otherWidth, drawnRow, pictureStep}
+use Rattle.sheet_rules.specs.Lines.{bit, edgesOf, placedEnd, lateAt, recordStep, stageOf, recordFault, atStage, lineStep}
 use Rattle.sheet_rules.specs.Rows.{OnAxis}
-use Rattle.sheet_rules.specs.Sheet.{endFault, outcome, ended, run, displayOf, sheetOf}
+use Rattle.sheet_rules.specs.Sheet.{endFault, outcome, ended, run, foldOf, displayOf, sheetOf}
 use Rattle.sheet_rules.proofs.Says.{Says, record-says}
 use Rattle.sheet.proofs.Names.{Within, within-more, track-names, repeat-names, end-names, spare-names, item-names, extra-names, axis-names, name-within}
 
@@ -88,6 +90,7 @@ module _ (v : PanelView) (n k : ℕ) (p : BothWithin n v) where
         columns = raised (v .columns) (e .columnend);
         rows = raised (v .rows) (e .rowend);
         areas = v .areas ++ (record { name = m; edges = e } ∷ []);
+        picture = v .picture;
         placements = v .placements;
         stage = v .stage;
       }) a))
@@ -106,11 +109,22 @@ module _ (v : PanelView) (n k : ℕ) (p : BothWithin n v) where
         columns = v .columns;
         rows = v .rows;
         areas = v .areas;
+        picture = v .picture;
         placements = v .placements ++ (record { axis = b; start = s; end = e } ∷ []);
         stage = v .stage;
       }) a))
       placed Column = stays Column
       placed Row = stays Row
+
+  row-within : (ws : List Word) → BothWithin (n + k) (pictureStep v ws .panel)
+  unfolding pictureStep
+  row-within ws =
+      cond-within (leb 10000 (length (v .picture))) (refusedPanel 8 v) _ stays
+      (cond-within (ltb 64 (length (areasOf (withWords (v .picture) ws)))) (refusedPanel 8 v) _ stays (cond-within (otherWidth (v .picture) (length ws)) (refusedPanel 13 v) _ stays drawn))
+    where
+      drawn : (a : Axis) → Within (n + k) (axisNames (viewIn (drawnRow v ws) a))
+      drawn Column = stays Column
+      drawn Row = stays Row
 
   -- a `name` line of at least 8 bytes beside its name, or any other line
   record-within : (fs : List (List ℕ)) (r : Record) → ((a : Axis) → r ≡ Name a → (1 ≤ length (at fs 2)) × (length (at fs 2) + 8 ≤ k)) → BothWithin (n + k) (recordStep v fs r .panel)
@@ -129,6 +143,7 @@ module _ (v : PanelView) (n k : ℕ) (p : BothWithin n v) where
   record-within fs (Extra a m l) h = kept a _ (extra-names (viewIn v a) m l)
   record-within fs (Item a i) h = kept a _ (item-names (viewIn v a) i)
   record-within fs (Place a s e) h = place-within a (placedEnd (at fs 3) s) (placedEnd (at fs 6) e)
+  record-within fs (PictureRow m) h = cond-within (lateAt 2 (v .stage)) (acceptedPanel v) _ stays (row-within (drop 1 fs))
 
 -- the kind order holds no name
 stage-within : (n m : ℕ) (v : PanelView) → BothWithin n v → BothWithin n (atStage m v)
@@ -208,7 +223,7 @@ not-full (n ∷ ns) p = (omega (arith, p .names), omega (arith, p .bytes))
 
 -- a sheet that is read has at most 32,768 bytes
 sheet-within : (s : List ℕ) → BothWithin 32768 (sheetOf s .view)
-unfolding sheetOf displayOf
+unfolding sheetOf displayOf foldOf
 sheet-within s = go (ltb 32768 (length s)) refl
   where
     go : (t : Bool) → ltb 32768 (length s) ≡ t → BothWithin 32768 (cond t (outcome 1 0 emptyView) (run 1 (split 10 s) emptyView) .view)

@@ -1,6 +1,6 @@
 -- One line more of a run, and its end. Assumes nothing.
 use Prim.Native.Nat.{ℕ, _+_, min}
-use mathlib.Core.Path.{_≡_, refl, sym, ap, _∙_}
+use mathlib.Core.Path.{_≡_, refl, sym, ap, ap₂, _∙_}
 use mathlib.Core.List.{List, [], _∷_}
 use mathlib.Core.Bool.{Bool, true, false, cond}
 use lib.Dec.{eqb}
@@ -15,8 +15,9 @@ use Rattle.panel_tables.specs.Regions.{axisWordsIn, areaWordsIn, placementWords
 use Rattle.panel_tables.specs.Written.{PanelHeld, PanelStepped, panelHeldOf}
 use Rattle.sheet_rules.specs.declared.Overlap.{Overlap}
 use Rattle.sheet_rules.specs.Sheet.{noOverlap, overlapAt}
+use Rattle.sheet_rules.specs.Contents.{Line, linesFrom}
 use Rattle.sheet_faults.specs.Lines.{lineIn, lineShared}
-use Rattle.sheet.specs.Runs.{HeldRun, stopped, heldRun, notedAt, orElse, heldOverlap, EndedPanel, endedPanel, atEnd, heldAfter, heldSheet}
+use Rattle.sheet.specs.Runs.{HeldRun, stopped, heldRun, notedAt, orElse, heldOverlap, brokenNote, orLine, heldBroken, EndedPanel, endedPanel, atEnd, heldAfter, heldSheet, withBroken, heldJudged}
 
 -- there is always a part
 data Some (ps : List (List ℕ)) : Type 0 where
@@ -122,6 +123,53 @@ pub overlap-last : (n : ℕ) (l : List ℕ) (h : PanelHeld) → heldOverlap n (l
 unfolding heldOverlap
 overlap-last n l h = refl
 
+-- ---- the last row of a broken picture
+
+-- the first of three, in any grouping
+line-joined : (a b c : ℕ) → orLine a (orLine b c) ≡ orLine (orLine a b) c
+line-joined a b c = go (eqb a 0) refl
+  where
+    go : (t : Bool) → eqb a 0 ≡ t → cond t (orLine b c) a ≡ orLine (cond t b a) c
+    go true e = refl
+    go false e = sym (rw e)
+
+-- nothing is noted later
+pub none-later : (o : ℕ) → orLine o 0 ≡ o
+none-later o = go (eqb o 0) refl
+  where
+    go : (t : Bool) → eqb o 0 ≡ t → cond t 0 o ≡ o
+    go true e = sym (eqb-true o 0 e)
+    go false e = refl
+
+module _ (n : ℕ) (l : List ℕ) (h : PanelHeld) (o : ℕ) where
+  -- a line before others
+  broken-line : (ps : List (List ℕ)) → Some ps
+      → orLine o (heldBroken n (l ∷ ps) h)
+      ≡ orLine o (cond (eqb (lineIn h (split 9 l) .fault) 0) (orLine (brokenNote (lineIn h (split 9 l) .held .reading .picture .broken) (split 9 l) (linesFrom ps) n) (heldBroken (n + 1) ps (lineIn h (split 9 l) .held))) 0)
+  unfolding heldBroken
+  broken-line ps (some q qs e) = rw e
+
+  -- a line that has an end: accepted, and refused
+  module _ (b : ℕ) (x : List ℕ) (a : PanelStepped) (e : a ≡ lineIn h (split 9 l)) where
+    pub broken-next : a .fault ≡ 0
+        → orLine o (heldBroken n (l ∷ split b x) h) ≡ orLine (orLine o (brokenNote (a .held .reading .picture .broken) (split 9 l) (linesFrom (split b x)) n)) (heldBroken (n + 1) (split b x) (a .held))
+    broken-next z =
+        broken-line (split b x) (split-some b x)
+        ∙ rw (← e, eq-eqb (a .fault) 0 z) (line-joined o (brokenNote (a .held .reading .picture .broken) (split 9 l) (linesFrom (split b x)) n) (heldBroken (n + 1) (split b x) (a .held)))
+
+    pub broken-stop : (a .fault ≡ 0 → ⊥) → orLine o (heldBroken n (l ∷ split b x) h) ≡ o
+    broken-stop z = broken-line (split b x) (split-some b x) ∙ rw (← e, ne-eqb (a .fault) 0 z) (none-later o)
+
+-- whether the picture is broken, by the reading of what is held
+pub held-note : (p : Panel) (q : Reading) (w b c d : List ℕ) (o : ℕ) (fs : Line) (rest : List Line) (n : ℕ)
+    → orLine o (brokenNote (panelHeldOf p q w b c d .reading .picture .broken) fs rest n) ≡ orLine o (brokenNote (q .picture .broken) fs rest n)
+unfolding panelHeldOf
+held-note p q w b c d o fs rest n = refl
+
+pub broken-last : (n : ℕ) (l : List ℕ) (h : PanelHeld) → heldBroken n (l ∷ []) h ≡ 0
+unfolding heldBroken
+broken-last n l h = refl
+
 -- ---- the end after the lines
 
 module _ (s : List ℕ) (h : PanelHeld) where
@@ -145,3 +193,8 @@ module _ (s : List ℕ) (h : PanelHeld) where
   unfolding panelHeldOf
   end-words f n g p u q w v b c d r z e x y =
       rw (x, y) (end-after (stopped f n (panelHeldOf p q w b c d)) r z (record { fault = g; panel = u; columns = axisWordsIn Column v; rows = axisWordsIn Row v }) e)
+
+  -- with the line of a broken picture
+  pub judged-as : (b : ℕ) (r : HeldRun) → b ≡ heldBroken 1 (split 10 s) h → r ≡ heldSheet s h → withBroken b r ≡ heldJudged s h
+  unfolding heldJudged
+  judged-as b r e d = ap₂ withBroken e d

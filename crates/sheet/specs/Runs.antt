@@ -1,7 +1,7 @@
 -- The lines of a sheet one after the other, and what comes after the last, on what a panel holds.
 use Prim.Native.Nat.{ℕ, _+_, min}
 use mathlib.Core.List.{List, [], _∷_}
-use mathlib.Core.Bool.{cond}
+use mathlib.Core.Bool.{Bool, cond}
 use lib.Dec.{eqb}
 use lib.ListN.{length}
 use Rattle.text.specs.Split.{split}
@@ -14,6 +14,8 @@ use Rattle.panel_tables.specs.Written.{PanelHeld, PanelStepped}
 use Rattle.sheet_rules.specs.declared.Overlap.{Overlap}
 use Rattle.sheet_rules.specs.Sheet.{noOverlap, overlapAt}
 use Rattle.sheet_rules.specs.Panels.{withAxes}
+use Rattle.sheet_rules.specs.Contents.{Line, linesFrom}
+use Rattle.picture_end.specs.Steps.{brokenRow}
 use Rattle.sheet_faults.specs.Lines.{lineIn, lineShared}
 use Rattle.sheet_end.specs.End.{EndedAxis, endIn}
 
@@ -52,6 +54,24 @@ heldOverlap n (l ∷ []) h = noOverlap
 heldOverlap n (l ∷ m ∷ ls) h =
     let a : PanelStepped = lineIn h (split 9 l) in
     orElse (notedAt (lineShared h (split 9 l)) (h .panel .grid .areas) n) (cond (eqb (a .fault) 0) (heldOverlap (n + 1) (m ∷ ls) (a .held)) noOverlap)
+
+-- ---- the last row of a broken picture
+
+-- the number of a line that is it, else 0
+abbrev pub brokenNote : Bool → Line → List Line → ℕ → ℕ
+brokenNote broken fs rest n = cond (brokenRow broken fs rest) n 0
+
+-- one that was noted stays
+abbrev pub orLine : ℕ → ℕ → ℕ
+orLine noted here = cond (eqb noted 0) here noted
+
+-- from line n on, until a line is refused
+unfoldable pub heldBroken : ℕ → List (List ℕ) → PanelHeld → ℕ
+heldBroken n [] h = 0
+heldBroken n (l ∷ []) h = 0
+heldBroken n (l ∷ m ∷ ls) h =
+    let a : PanelStepped = lineIn h (split 9 l) in
+    cond (eqb (a .fault) 0) (orLine (brokenNote (a .held .reading .picture .broken) (split 9 l) (linesFrom (m ∷ ls)) n) (heldBroken (n + 1) (m ∷ ls) (a .held))) 0
 
 -- ---- after the last line
 
@@ -109,3 +129,16 @@ heldAfter r = cond (eqb (r .fault) 0) (heldEnd (r .line) (r .held)) r
 -- lines and end, from the first line on
 unfoldable pub heldSheet : List ℕ → PanelHeld → HeldRun
 heldSheet s h = heldAfter (heldRun 1 (split 10 s) h)
+
+-- a broken picture is refused by 14 at its last row
+abbrev pub brokenFault : ℕ → ℕ → ℕ
+brokenFault line fault = cond (eqb line 0) fault 14
+
+abbrev pub brokenPlace : ℕ → ℕ → ℕ
+brokenPlace line n = cond (eqb line 0) n line
+
+abbrev pub withBroken : ℕ → HeldRun → HeldRun
+withBroken line r = stopped (brokenFault line (r .fault)) (brokenPlace line (r .line)) (r .held)
+
+unfoldable pub heldJudged : List ℕ → PanelHeld → HeldRun
+heldJudged s h = withBroken (heldBroken 1 (split 10 s) h) (heldSheet s h)

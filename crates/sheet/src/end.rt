@@ -6,7 +6,7 @@ ghost use Rattle.coordinates.specs.declared.axis.Axis.the-variants.{Column, Row
 ghost use Rattle.panel_tables.specs.Regions.{axisWordsIn, areaWordsIn, placementWordsIn};
 ghost use Rattle.panel_tables.specs.Written.{zeroPanel, zeroPanelReading, panelHeldOf};
 ghost use Rattle.text.specs.Split.{split};
-ghost use Rattle.sheet.specs.Runs.{EndedPanel, endedPanel, heldSheet, heldOverlap};
+ghost use Rattle.sheet.specs.Runs.{EndedPanel, endedPanel, heldOverlap, brokenFault, brokenPlace, heldJudged};
 ghost use Rattle.sheet.specs.Steps.{endedIn};
 use crate::PanelEnd;
 use crate::SheetRun;
@@ -16,6 +16,7 @@ use axis_tables::AxisState;
 use axis_tables::layout::AXIS_BYTES;
 use axis_tables::layout::AXIS_WORDS;
 use coordinates::Axis;
+use coordinates::refusal::BROKEN;
 use panel_tables::Panel;
 use panel_tables::Reading;
 use panel_tables::axis::state_in;
@@ -56,6 +57,19 @@ pub(crate) fn end_panel(panel: Panel, reading: Reading, words: &mut [u64; PANEL_
     }
 }
 
+// A broken picture is refused by 14 at its last row: no line before that one is refused.
+fn with_broken(run: SheetRun) -> SheetRun
+    ensures { λ r. ⌜ r ≡ record { fault = brokenFault (run .broken) (run .fault); line = brokenPlace (run .broken) (run .line); panel = run .panel; reading = run .reading; overlap = run .overlap; broken = run .broken } ⌝ }
+{
+    if run.broken == 0 {
+        return run;
+    }
+    let mut refused = run;
+    refused.fault = BROKEN;
+    refused.line = run.broken;
+    refused
+}
+
 // The lines and the end of a sheet into the arrays. A refusal has its number and its line.
 pub(crate) fn read_panel(
     sheet: &[u8],
@@ -65,24 +79,25 @@ pub(crate) fn read_panel(
     rowbytes: &mut [u8; AXIS_BYTES],
 ) -> SheetRun
     requires { ⌜ length (now sheet) ≤ 32768 ⌝ }
-    ensures { λ r. ⌜ record { fault = r .fault; line = r .line; held = panelHeldOf (r .panel) (r .reading) (now (words .exit)) (now (bytes .exit)) (now (columnbytes .exit)) (now (rowbytes .exit)) } ≡ heldSheet (now (sheet .entry)) (panelHeldOf zeroPanel zeroPanelReading (now (words .entry)) (now (bytes .entry)) (now (columnbytes .entry)) (now (rowbytes .entry))) ⌝ }
+    ensures { λ r. ⌜ record { fault = r .fault; line = r .line; held = panelHeldOf (r .panel) (r .reading) (now (words .exit)) (now (bytes .exit)) (now (columnbytes .exit)) (now (rowbytes .exit)) } ≡ heldJudged (now (sheet .entry)) (panelHeldOf zeroPanel zeroPanelReading (now (words .entry)) (now (bytes .entry)) (now (columnbytes .entry)) (now (rowbytes .entry))) ⌝ }
     ensures overlap { λ r. ⌜ r .overlap ≡ heldOverlap 1 (split 10 (now (sheet .entry))) (panelHeldOf zeroPanel zeroPanelReading (now (words .entry)) (now (bytes .entry)) (now (columnbytes .entry)) (now (rowbytes .entry))) ⌝ }
 {
     let run = read_lines(sheet, words, bytes, columnbytes, rowbytes);
     let fault = run.fault;
     if fault != 0 {
-        return run;
+        return with_broken(run);
     }
     let panel = run.panel;
     let reading = run.reading;
     let end = end_panel(panel, reading, words);
     let sized = end.panel;
     let overlap = run.overlap;
-    SheetRun {
+    with_broken(SheetRun {
         fault: end.fault,
         line: run.line,
         panel: sized,
         reading,
         overlap,
-    }
+        broken: run.broken,
+    })
 }

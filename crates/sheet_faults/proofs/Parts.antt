@@ -2,10 +2,12 @@
 use Prim.Native.Nat.{ℕ}
 use mathlib.Core.Path.{_≡_, refl, sym, ap, ap₂, _∙_}
 use mathlib.Core.List.{List, []}
+use lib.ListN.{drop}
+use Rattle.picture_rules.specs.Picture.{Word}
 use Rattle.coordinates.specs.declared.axis.Axis.{Axis}
 use Rattle.coordinates.specs.declared.axis.Axis.the-variants.{Column, Row}
 use Rattle.sheet_forms.specs.declared.Record.{Record}
-use Rattle.sheet_forms.specs.declared.Record.the-variants.{Fault, Axis as AxisLine, Area, Name, Track, Repeat, End, Spare, Extra, Item, Place}
+use Rattle.sheet_forms.specs.declared.Record.the-variants.{Fault, Axis as AxisLine, Area, Name, Track, Repeat, End, Spare, Extra, Item, Place, PictureRow}
 use Rattle.sheet_forms.specs.Words.{at}
 use Rattle.sheet_forms.specs.Faults.{firstOf}
 use Rattle.sheet_forms.specs.Names.{firstName, secondName}
@@ -19,30 +21,31 @@ use Rattle.sheet_faults.specs.Parts.{axisPart, partOf, named, partStep, 
 
 module _ (h : PanelHeld) where
   -- a record of an axis is written to that axis's tables
-  axis-step : (fs : List (List ℕ)) (first second : List ℕ) (a : Axis) (r : Record) → axisRecord (axisHeld h a) fs r ≡ axisRecord (axisHeld h a) (named first) r
-      → onHeld h a fs r ≡ partStep h first second r (axisPart a)
-  axis-step fs first second Column r e = ap (heldIn h Column) e
-  axis-step fs first second Row r e = ap (heldIn h Row) e
+  axis-step : (fs : List (List ℕ)) (first second : List ℕ) (ws : List Word) (a : Axis) (r : Record) → axisRecord (axisHeld h a) fs r ≡ axisRecord (axisHeld h a) (named first) r
+      → onHeld h a fs r ≡ partStep h first second ws r (axisPart a)
+  axis-step fs first second ws Column r e = ap (heldIn h Column) e
+  axis-step fs first second ws Row r e = ap (heldIn h Row) e
 
   -- what is written there is what the record does
-  pub by-part : (first second : List ℕ) (r : Record) (q : Part) {x : PanelStepped} → partOf r ≡ q → x ≡ partStep h first second r q → x ≡ namedStep h first second r
-  by-part first second r q e k = k ∙ ap (partStep h first second r) (sym e)
+  pub by-part : (first second : List ℕ) (ws : List Word) (r : Record) (q : Part) {x : PanelStepped} → partOf r ≡ q → x ≡ partStep h first second ws r q → x ≡ namedStep h first second ws r
+  by-part first second ws r q e k = k ∙ ap (partStep h first second ws r) (sym e)
 
 module _ (h : PanelHeld) (fs : List (List ℕ)) where
   -- any record is written to its part, with its names
-  part-step : (r : Record) → heldStep h fs r ≡ namedStep h (firstName r fs) (secondName r fs) r
+  part-step : (r : Record) → heldStep h fs r ≡ namedStep h (firstName r fs) (secondName r fs) (drop 1 fs) r
   unfolding heldStep
   part-step (Fault n) = refl
-  part-step (AxisLine a) = axis-step h fs [] [] (a .axis) (AxisLine a) refl
+  part-step (AxisLine a) = axis-step h fs [] [] (drop 1 fs) (a .axis) (AxisLine a) refl
   part-step (Area a) = refl
-  part-step (Name a) = axis-step h fs (at fs 2) [] a (Name a) refl
-  part-step (Track a min max) = axis-step h fs [] [] a (Track a min max) refl
-  part-step (Repeat a n) = axis-step h fs [] [] a (Repeat a n) refl
-  part-step (End a) = axis-step h fs [] [] a (End a) refl
-  part-step (Spare a min max) = axis-step h fs [] [] a (Spare a min max) refl
-  part-step (Extra a n p) = axis-step h fs [] [] a (Extra a n p) refl
-  part-step (Item a i) = axis-step h fs [] [] a (Item a i) refl
+  part-step (Name a) = axis-step h fs (at fs 2) [] (drop 1 fs) a (Name a) refl
+  part-step (Track a min max) = axis-step h fs [] [] (drop 1 fs) a (Track a min max) refl
+  part-step (Repeat a n) = axis-step h fs [] [] (drop 1 fs) a (Repeat a n) refl
+  part-step (End a) = axis-step h fs [] [] (drop 1 fs) a (End a) refl
+  part-step (Spare a min max) = axis-step h fs [] [] (drop 1 fs) a (Spare a min max) refl
+  part-step (Extra a n p) = axis-step h fs [] [] (drop 1 fs) a (Extra a n p) refl
+  part-step (Item a i) = axis-step h fs [] [] (drop 1 fs) a (Item a i) refl
   part-step (Place a s e) = refl
+  part-step (PictureRow n) = refl
 
   -- twice looks at the reading, the areas and the name alone
   twice-of : (r : Record) → twiceIn h fs r ≡ twiceOf (h .panel .grid .areas) (h .reading) (h .areas) (h .areaBytes) (firstName r fs) r
@@ -57,6 +60,7 @@ module _ (h : PanelHeld) (fs : List (List ℕ)) where
   twice-of (Extra a n p) = refl
   twice-of (Item a i) = refl
   twice-of (Place a s e) = refl
+  twice-of (PictureRow n) = refl
 
   -- and so do the faults before
   before-of : (r : Record) → faultBefore h fs r ≡ beforeOf (h .panel .grid .areas) (h .reading) (h .areas) (h .areaBytes) (firstName r fs) r
@@ -69,14 +73,14 @@ module _ (h : PanelHeld) (fs : List (List ℕ)) where
 
   -- a line from its record and its names, its fault before, what it wrote and its place in the kind order
   pub line-by : {r : Record} {first second : List ℕ} {x : PanelStepped} {before stage fault : ℕ} → r ≡ recordOf fs → first ≡ firstName r fs → second ≡ secondName r fs
-      → before ≡ beforeOf (h .panel .grid .areas) (h .reading) (h .areas) (h .areaBytes) first r → x ≡ namedStep h first second r
+      → before ≡ beforeOf (h .panel .grid .areas) (h .reading) (h .areas) (h .areaBytes) first r → x ≡ namedStep h first second (drop 1 fs) r
       → stage ≡ stageIn (h .reading .stage) r → fault ≡ firstOf before (x .fault) → record { fault = fault; held = atStage stage (x .held) } ≡ lineIn h fs
   unfolding lineIn recordIn
   line-by {r} {first} {second} {x} {before} {stage} {fault} said one two earlier wrote reached top =
       ap (λ (n : ℕ). record { fault = n; held = atStage stage (x .held) }) top
       ∙ ap (λ (n : ℕ). made n stage x) (earlier ∙ ap (λ (n : List ℕ). beforeOf (h .panel .grid .areas) (h .reading) (h .areas) (h .areaBytes) n r) one ∙ sym (before-of r))
       ∙ ap (λ (n : ℕ). made (faultBefore h fs r) n x) reached
-      ∙ ap (made (faultBefore h fs r) (stageIn (h .reading .stage) r)) (wrote ∙ ap₂ (λ (m : List ℕ) (n : List ℕ). namedStep h m n r) one two ∙ sym (part-step r))
+      ∙ ap (made (faultBefore h fs r) (stageIn (h .reading .stage) r)) (wrote ∙ ap₂ (λ (m : List ℕ) (n : List ℕ). namedStep h m n (drop 1 fs) r) one two ∙ sym (part-step r))
       ∙ ap (recordIn h fs) said
 
   -- the area that it shares a cell with looks at the areas' edges alone
@@ -92,15 +96,16 @@ module _ (h : PanelHeld) (fs : List (List ℕ)) where
   shared-of (Extra a n p) = refl
   shared-of (Item a i) = refl
   shared-of (Place a s e) = refl
+  shared-of (PictureRow n) = refl
 
   -- the overlap of a line, by its fault before, the area found and what it wrote
   pub line-noted : {r : Record} {first second : List ℕ} {x : PanelStepped} {before shared noted : ℕ} → r ≡ recordOf fs → first ≡ firstName r fs → second ≡ secondName r fs
-      → before ≡ beforeOf (h .panel .grid .areas) (h .reading) (h .areas) (h .areaBytes) first r → x ≡ namedStep h first second r
+      → before ≡ beforeOf (h .panel .grid .areas) (h .reading) (h .areas) (h .areaBytes) first r → x ≡ namedStep h first second (drop 1 fs) r
       → shared ≡ sharedOf (h .panel .grid .areas) (h .areas) r → noted ≡ notedBy before shared (x .fault) → noted ≡ lineShared h fs
   unfolding lineShared
   line-noted {r} {first} {second} {x} {before} {shared} {noted} said one two earlier wrote found top =
       top
       ∙ ap (λ (n : ℕ). notedBy n shared (x .fault)) (earlier ∙ ap (λ (n : List ℕ). beforeOf (h .panel .grid .areas) (h .reading) (h .areas) (h .areaBytes) n r) one ∙ sym (before-of r))
       ∙ ap (λ (n : ℕ). notedBy (faultBefore h fs r) n (x .fault)) (found ∙ sym (shared-of r))
-      ∙ ap (λ (s : PanelStepped). notedBy (faultBefore h fs r) (sharedIn h r) (s .fault)) (wrote ∙ ap₂ (λ (m : List ℕ) (n : List ℕ). namedStep h m n r) one two ∙ sym (part-step r))
+      ∙ ap (λ (s : PanelStepped). notedBy (faultBefore h fs r) (sharedIn h r) (s .fault)) (wrote ∙ ap₂ (λ (m : List ℕ) (n : List ℕ). namedStep h m n (drop 1 fs) r) one two ∙ sym (part-step r))
       ∙ ap (λ (s : Record). notedBy (faultBefore h fs s) (sharedIn h s) (heldStep h fs s .fault)) said

@@ -10,11 +10,13 @@ use borrow.Author.Tests.{eq-eqb, ne-eqb, eqb-true, le-leb, lt-leb, leb-true, leb
 use Rattle.coordinates.specs.declared.axis.Axis.{Axis}
 use Rattle.coordinates.specs.declared.axis.Axis.the-variants.{Column, Row}
 use Rattle.sheet_forms.specs.declared.Record.{Record}
-use Rattle.sheet_forms.specs.declared.Record.the-variants.{Fault, Axis as AxisLine, Area, Name, Track, Repeat, End, Spare, Extra, Item, Place}
+use Rattle.sheet_forms.specs.declared.Record.the-variants.{Fault, Axis as AxisLine, Area, Name, Track, Repeat, End, Spare, Extra, Item, Place, PictureRow}
 use Rattle.sheet_forms.specs.Words.{at}
 use Rattle.sheet_forms.specs.Faults.{rankOf, firstOf}
 use Rattle.sheet_forms.specs.Records.{recordOf, faultOf}
-use Rattle.sheet_forms.proofs.Firsts.{first-joined}
+use Rattle.sheet_forms.proofs.Firsts.{first-zero, first-joined}
+use Rattle.sheet_forms.proofs.Bounds.{Bounded}
+use Rattle.sheet_forms.proofs.Theorem.{record-bounded}
 use Rattle.axis_tables.specs.View.{Unended, none, inside, AxisView}
 use Rattle.axis_tables.specs.Written.{repeatOf, readingOf}
 use Rattle.panel_tables.specs.View.{PanelView, refused, accepted}
@@ -23,8 +25,9 @@ use Rattle.panel_tables.specs.Written.{PanelStepped, panelReadingOf, heldPanel}
 use Rattle.panel_tables.proofs.Fits.{FitsPanel}
 use Rattle.panel_tables.proofs.Back.{has-back}
 use Rattle.panel_cells.proofs.Search.{sharing-back}
-use Rattle.sheet_rules.specs.Lines.{edgesOf, recordStep, twiceFault, stageOf, lateFault, sharedWith, recordFault, strictFault, lineFault, sharedAt, atStage as viewAtStage, recordOutcome, lineStep}
+use Rattle.sheet_rules.specs.Lines.{edgesOf, lateAt, recordStep, twiceFault, stageOf, lateFault, sharedWith, recordFault, strictFault, lineFault, sharedAt, atStage as viewAtStage, recordOutcome, lineStep}
 use Rattle.sheet_rules.specs.Steps.{heldStep}
+use Rattle.sheet_rules.proofs.Fits.{FitsSheet}
 use Rattle.sheet_rules.proofs.Same.{record-same}
 use Rattle.sheet_faults.specs.Lines.{twiceIn, stageIn, lateIn, faultBefore, sharedIn, notedBy, atStage, recordIn, lineIn, lineShared}
 
@@ -56,12 +59,16 @@ stage-same v (Spare a min max) = refl
 stage-same v (Extra a n p) = refl
 stage-same v (Item a i) = refl
 stage-same v (Place a s e) = refl
+stage-same v (PictureRow n) = refl
 
 -- late
 late-same : (v : PanelView) (r : Record) → lateIn (v .stage) r ≡ lateFault v r
-late-same v r = ap (λ (n : ℕ). cond (ltb n (v .stage)) 7 0) (stage-same v r)
+late-same v r = ap (λ (n : ℕ). cond (lateAt n (v .stage)) 7 0) (stage-same v r)
 
-module _ (v : PanelView) (f : FitsPanel v) (fs : List (List ℕ)) where
+module _ (v : PanelView) (sheet : FitsSheet v) (fs : List (List ℕ)) where
+  abbrev f : FitsPanel v
+  f = sheet .panel
+
   -- twice, by the areas read back
   twice-same : (r : Record) → twiceIn (heldPanel v) fs r ≡ twiceFault v fs r
   unfolding heldPanel
@@ -76,6 +83,7 @@ module _ (v : PanelView) (f : FitsPanel v) (fs : List (List ℕ)) where
   twice-same (Extra a n p) = refl
   twice-same (Item a i) = refl
   twice-same (Place a s e) = refl
+  twice-same (PictureRow n) = refl
 
   -- the faults before
   before-same : (r : Record) → faultBefore (heldPanel v) fs r ≡ firstOf (faultOf r) (firstOf (twiceFault v fs r) (lateFault v r))
@@ -85,15 +93,15 @@ module _ (v : PanelView) (f : FitsPanel v) (fs : List (List ℕ)) where
   -- ---- the line
 
   -- the record's fault
-  record-fault : (r : Record) → recordIn (heldPanel v) fs r .fault ≡ recordFault v fs r
+  record-fault : (r : Record) → Bounded fs r → recordIn (heldPanel v) fs r .fault ≡ recordFault v fs r
   unfolding recordIn recordFault
-  record-fault r =
+  record-fault r w =
       let a : ℕ = faultOf r in
       let b : ℕ = twiceFault v fs r in
       let c : ℕ = lateFault v r in
       let d : ℕ = recordStep v fs r .fault in
       ap (λ (n : ℕ). firstOf n (heldStep (heldPanel v) fs r .fault)) (before-same r)
-      ∙ ap (λ (s : PanelStepped). firstOf (firstOf a (firstOf b c)) (s .fault)) (record-same v f fs r)
+      ∙ ap (firstOf (firstOf a (firstOf b c))) (record-same v sheet fs r w .fault)
       ∙ first-joined a (firstOf b c) d
       ∙ ap (firstOf a) (first-joined b c d)
 
@@ -112,26 +120,32 @@ module _ (v : PanelView) (f : FitsPanel v) (fs : List (List ℕ)) where
   stage-held n w = refl
 
   -- a record without a fault
-  record-held : (r : Record) → recordFault v fs r ≡ 0 → recordIn (heldPanel v) fs r .held ≡ heldPanel (recordOutcome v fs r .panel)
+  record-held : (r : Record) → Bounded fs r → recordFault v fs r ≡ 0 → recordIn (heldPanel v) fs r .held ≡ heldPanel (recordOutcome v fs r .panel)
   unfolding recordIn
-  record-held r e =
+  record-held r w e =
       ap (λ (n : ℕ). atStage n (heldStep (heldPanel v) fs r .held)) (reading-stage ∙ stage-same v r)
-      ∙ ap (λ (s : PanelStepped). atStage (stageOf v r) (s .held)) (record-same v f fs r)
+      ∙ ap (atStage (stageOf v r)) (record-same v sheet fs r w .held step)
       ∙ stage-held (stageOf v r) (recordStep v fs r .panel)
       ∙ ap (λ (t : Bool). heldPanel (cond t (accepted (viewAtStage (stageOf v r) (recordStep v fs r .panel))) (refused (recordFault v fs r) v) .panel)) (sym (eq-eqb (recordFault v fs r) 0 e))
     where
+      step : recordStep v fs r .fault ≡ 0
+      step = unfold recordFault in last (first-zero (faultOf r) (firstOf (twiceFault v fs r) (firstOf (lateFault v r) (recordStep v fs r .fault))) e .1)
+        where
+          last : firstOf (twiceFault v fs r) (firstOf (lateFault v r) (recordStep v fs r .fault)) ≡ 0 → recordStep v fs r .fault ≡ 0
+          last z = first-zero (lateFault v r) (recordStep v fs r .fault) (first-zero (twiceFault v fs r) (firstOf (lateFault v r) (recordStep v fs r .fault)) z .1) .1
+
       reading-stage : stageIn (heldPanel v .reading .stage) r ≡ stageIn (v .stage) r
       reading-stage = unfold heldPanel in refl
 
 -- a line has the fault that it has on the view
-pub line-fault : (v : PanelView) → FitsPanel v → (fs : List (List ℕ)) → lineIn (heldPanel v) fs .fault ≡ lineStep v fs .fault
+pub line-fault : (v : PanelView) → FitsSheet v → (fs : List (List ℕ)) → lineIn (heldPanel v) fs .fault ≡ lineStep v fs .fault
 unfolding lineIn lineStep
-line-fault v f fs = record-fault v f fs (recordOf fs) ∙ sym (outcome-fault v f fs (recordOf fs))
+line-fault v f fs = record-fault v f fs (recordOf fs) (record-bounded fs) ∙ sym (outcome-fault v f fs (recordOf fs))
 
 -- and where that is none, what is held then is what is held for the view after it
-pub line-held : (v : PanelView) → FitsPanel v → (fs : List (List ℕ)) → lineStep v fs .fault ≡ 0 → lineIn (heldPanel v) fs .held ≡ heldPanel (lineStep v fs .panel)
+pub line-held : (v : PanelView) → FitsSheet v → (fs : List (List ℕ)) → lineStep v fs .fault ≡ 0 → lineIn (heldPanel v) fs .held ≡ heldPanel (lineStep v fs .panel)
 unfolding lineIn lineStep
-line-held v f fs e = record-held v f fs (recordOf fs) (sym (outcome-fault v f fs (recordOf fs)) ∙ e)
+line-held v f fs e = record-held v f fs (recordOf fs) (record-bounded fs) (sym (outcome-fault v f fs (recordOf fs)) ∙ e)
 
 -- ---- the overlap
 
@@ -149,12 +163,13 @@ shared-with v f (Spare a min max) = refl
 shared-with v f (Extra a n p) = refl
 shared-with v f (Item a i) = refl
 shared-with v f (Place a s e) = refl
+shared-with v f (PictureRow n) = refl
 
 -- a line notes what it notes on the view
-pub line-shared : (v : PanelView) → FitsPanel v → (fs : List (List ℕ)) → lineShared (heldPanel v) fs ≡ sharedAt v fs
+pub line-shared : (v : PanelView) → FitsSheet v → (fs : List (List ℕ)) → lineShared (heldPanel v) fs ≡ sharedAt v fs
 unfolding lineShared sharedAt lineFault strictFault
 line-shared v f fs =
     let r : Record = recordOf fs in
     ap (λ (n : ℕ). notedBy n (sharedIn (heldPanel v) r) (heldStep (heldPanel v) fs r .fault)) (before-same v f fs r)
-    ∙ ap (λ (n : ℕ). notedBy (firstOf (faultOf r) (firstOf (twiceFault v fs r) (lateFault v r))) n (heldStep (heldPanel v) fs r .fault)) (shared-with v f r)
-    ∙ ap (λ (s : PanelStepped). notedBy (firstOf (faultOf r) (firstOf (twiceFault v fs r) (lateFault v r))) (sharedWith v r) (s .fault)) (record-same v f fs r)
+    ∙ ap (λ (n : ℕ). notedBy (firstOf (faultOf r) (firstOf (twiceFault v fs r) (lateFault v r))) n (heldStep (heldPanel v) fs r .fault)) (shared-with v (f .panel) r)
+    ∙ ap (notedBy (firstOf (faultOf r) (firstOf (twiceFault v fs r) (lateFault v r))) (sharedWith v r)) (record-same v f fs r (record-bounded fs) .fault)

@@ -3,9 +3,9 @@
 use Prim.Native.Nat.{ℕ}
 use mathlib.Core.List.{List}
 use mathlib.Core.Bool.{cond}
-use lib.Dec.{eqb, ltb}
+use lib.Dec.{eqb}
 use Rattle.sheet_forms.specs.declared.Record.{Record}
-use Rattle.sheet_forms.specs.declared.Record.the-variants.{Fault, Axis as AxisLine, Area, Name, Track, Repeat, End, Spare, Extra, Item, Place}
+use Rattle.sheet_forms.specs.declared.Record.the-variants.{Fault, Axis as AxisLine, Area, Name, Track, Repeat, End, Spare, Extra, Item, Place, PictureRow}
 use Rattle.sheet_forms.specs.Words.{at}
 use Rattle.sheet_forms.specs.Faults.{firstOf}
 use Rattle.sheet_forms.specs.Records.{recordOf, faultOf}
@@ -13,7 +13,7 @@ use Rattle.panel_tables.specs.Areas.{hasAreaIn}
 use Rattle.panel_tables.specs.Axes.{readingIn}
 use Rattle.panel_tables.specs.Written.{PanelHeld, PanelStepped}
 use Rattle.panel_cells.specs.Steps.{firstSharingIn}
-use Rattle.sheet_rules.specs.Lines.{edgesOf}
+use Rattle.sheet_rules.specs.Lines.{lateAt, edgesOf}
 use Rattle.sheet_rules.specs.Steps.{heldStep}
 
 -- twice: an area name or axis record again
@@ -29,24 +29,26 @@ twiceIn h fs (Spare a min max) = 0
 twiceIn h fs (Extra a n p) = 0
 twiceIn h fs (Item a i) = 0
 twiceIn h fs (Place a s e) = 0
+twiceIn h fs (PictureRow n) = 0
 
 -- the place of a record in the kind order; a line that is no record keeps the one reached
 abbrev pub stageIn : ℕ → Record → ℕ
 stageIn stage (Fault n) = stage
 stageIn stage (AxisLine a) = 0
 stageIn stage (Area a) = 1
-stageIn stage (Name a) = 2
-stageIn stage (Track a min max) = 2
-stageIn stage (Repeat a n) = 2
-stageIn stage (End a) = 2
-stageIn stage (Spare a min max) = 2
-stageIn stage (Extra a n p) = 2
-stageIn stage (Item a i) = 2
-stageIn stage (Place a s e) = 2
+stageIn stage (Name a) = 3
+stageIn stage (Track a min max) = 3
+stageIn stage (Repeat a n) = 3
+stageIn stage (End a) = 3
+stageIn stage (Spare a min max) = 3
+stageIn stage (Extra a n p) = 3
+stageIn stage (Item a i) = 3
+stageIn stage (Place a s e) = 3
+stageIn stage (PictureRow n) = 2
 
 -- late: a record earlier in kind than one before it
 abbrev pub lateIn : ℕ → Record → ℕ
-lateIn stage r = cond (ltb (stageIn stage r) stage) 7 0
+lateIn stage r = cond (lateAt (stageIn stage r) stage) 7 0
 
 -- of the faults that a record has before it is written, the one that comes first
 unfoldable pub faultBefore : PanelHeld → List (List ℕ) → Record → ℕ
@@ -65,6 +67,7 @@ sharedIn h (Spare a min max) = 0
 sharedIn h (Extra a n p) = 0
 sharedIn h (Item a i) = 0
 sharedIn h (Place a s e) = 0
+sharedIn h (PictureRow n) = 0
 
 -- that number where an overlap is the first fault: after those before it is written, and before that of writing it
 abbrev pub notedBy : ℕ → ℕ → ℕ → ℕ
@@ -74,7 +77,7 @@ abbrev pub atStage : ℕ → PanelHeld → PanelHeld
 atStage n h =
     record {
       panel = h .panel;
-      reading = record { stage = n; columns = h .reading .columns; rows = h .reading .rows };
+      reading = record { stage = n; picture = h .reading .picture; columns = h .reading .columns; rows = h .reading .rows };
       columns = h .columns;
       rows = h .rows;
       columnMarks = h .columnMarks;

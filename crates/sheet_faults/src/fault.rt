@@ -1,6 +1,7 @@
 // The faults that a record has before it is written: by itself, by an earlier record of the same, by the kind order.
 ghost use mathlib.Core.Path.{_≡_};
 ghost use Rattle.sheet_forms.specs.Records.{faultOf};
+ghost use Rattle.sheet_rules.specs.Lines.{lateAt};
 ghost use Rattle.sheet_faults.specs.Lines.{stageIn, lateIn};
 ghost use Rattle.sheet_faults.specs.Parts.{axisTwice, areaTwice, twiceOf, beforeOf};
 use coordinates::Axis;
@@ -28,6 +29,7 @@ fn own(said: Record) -> u32
         Record::Extra(_, _, _) => 0,
         Record::Item(_, _) => 0,
         Record::Place(_, _, _) => 0,
+        Record::PictureRow(_) => 0,
     }
 }
 
@@ -78,7 +80,25 @@ fn twice(
         Record::Extra(_, _, _) => 0,
         Record::Item(_, _) => 0,
         Record::Place(_, _, _) => 0,
+        Record::PictureRow(_) => 0,
     }
+}
+
+// The kind order: `axis` records, then areas, or the rows of a picture, then the rest.
+const AREAS: u32 = 1;
+
+pub const ROWS: u32 = 2;
+
+const REST: u32 = 3;
+
+// Whether a place in the kind order comes too late: after a later one, or a row after an area.
+pub fn late_at(place: u32, reached: u32) -> bool
+    ensures { λ r. ⌜ r ≡ lateAt place reached ⌝ }
+{
+    if place < reached {
+        return true;
+    }
+    (place == ROWS) & (reached == AREAS)
 }
 
 // The place of a record in the kind order; a line that is no record keeps the one reached.
@@ -88,15 +108,16 @@ pub fn stage(reached: u32, said: Record) -> u32
     match said {
         Record::Fault(_) => reached,
         Record::Axis(_) => 0,
-        Record::Area(_) => 1,
-        Record::Name(_) => 2,
-        Record::Track(_, _, _) => 2,
-        Record::Repeat(_, _) => 2,
-        Record::End(_) => 2,
-        Record::Spare(_, _, _) => 2,
-        Record::Extra(_, _, _) => 2,
-        Record::Item(_, _) => 2,
-        Record::Place(_, _, _) => 2,
+        Record::Area(_) => AREAS,
+        Record::Name(_) => REST,
+        Record::Track(_, _, _) => REST,
+        Record::Repeat(_, _) => REST,
+        Record::End(_) => REST,
+        Record::Spare(_, _, _) => REST,
+        Record::Extra(_, _, _) => REST,
+        Record::Item(_, _) => REST,
+        Record::Place(_, _, _) => REST,
+        Record::PictureRow(_) => ROWS,
     }
 }
 
@@ -104,8 +125,7 @@ pub fn stage(reached: u32, said: Record) -> u32
 fn late(reached: u32, said: Record) -> u32
     ensures { λ r. ⌜ r ≡ lateIn reached said ⌝ }
 {
-    let place = stage(reached, said);
-    if place < reached {
+    if late_at(stage(reached, said), reached) {
         return LATE;
     }
     0

@@ -8,13 +8,14 @@ use panel_tables::Panel;
 use panel_tables::Reading;
 use sheet_forms::PlaceEnd;
 
-// What a record is written to.
+// What a record is written to; a row of a picture with its number of words.
 pub enum Part {
     Nothing,
     Columns,
     Rows,
     Areas(AreaEdges),
     Placements(Axis, PlaceEnd, PlaceEnd),
+    Picture(u32),
 }
 
 // A line that was read: the number of its fault, 0 where it has none, the number of the first area that it shares a cell with, 0 where an

@@ -6,12 +6,12 @@ use mathlib.Core.List.{List}
 use mathlib.Core.Bool.{Bool, true, false, cond}
 use mathlib.Core.Logic.{⊎-elim}
 use native.Mathlib.Omega.{arith}
-use lib.Dec.{eqb, leb}
-use lib.ListN.{length}
-use borrow.Author.Tests.{eq-eqb, ne-eqb, eqb-false, leb-false}
+use lib.Dec.{eqb, ltb, leb}
+use lib.ListN.{length, drop}
+use borrow.Author.Tests.{eq-eqb, ne-eqb, eqb-false, leb-false, ltb-false}
 use Rattle.text.specs.Split.{index}
 use Rattle.sheet_forms.specs.declared.Record.{Record}
-use Rattle.sheet_forms.specs.declared.Record.the-variants.{Fault, Axis, Area, Name, Track, Repeat, End, Spare, Extra, Item, Place}
+use Rattle.sheet_forms.specs.declared.Record.the-variants.{Fault, Axis, Area, Name, Track, Repeat, End, Spare, Extra, Item, Place, PictureRow}
 use Rattle.sheet_forms.specs.declared.RepeatRecord.{RepeatRecord}
 use Rattle.sheet_forms.specs.declared.field.AxisField.{AxisField}
 use Rattle.sheet_forms.specs.declared.field.Field.{Field}
@@ -21,14 +21,15 @@ use Rattle.sheet_forms.specs.declared.Position.the-variants.{Minimum, Ma
 use Rattle.sheet_forms.specs.declared.EndField.{EndField}
 use Rattle.sheet_forms.specs.Words.{at, ruleWords}
 use Rattle.sheet_forms.specs.Faults.{firstOf}
-use Rattle.sheet_forms.specs.Fields.{axisOf, ruleOf, countOf, repetitionOf, nameFault}
+use Rattle.sheet_forms.specs.Fields.{axisOf, ruleOf, countOf, repetitionOf, nameFault, rowFault}
 use Rattle.sheet_forms.specs.Sizes.{innerOf, sizeOf}
 use Rattle.sheet_forms.specs.Ends.{endOf}
-use Rattle.sheet_forms.specs.Records.{unless, madeAxis, edgesOf, madeArea, madeName, madeSizes, madeRepeat, madeEnd, madeExtra, madeItem, madePlace, axisLine, areaLine, nameLine, sizesLine, repeatLine, endLine, extraLine, itemLine, placeLine}
-use Rattle.sheet_forms.specs.Forms.{InNameRange, Kind, axis, area, name, track, repeat, end, spare, extra, item, place}
+use Rattle.sheet_forms.specs.Records.{unless, madeAxis, edgesOf, madeArea, madeName, madeSizes, madeRepeat, madeEnd, madeExtra, madeItem, madePlace, axisLine, areaLine, nameLine, sizesLine, repeatLine, endLine, extraLine, itemLine, placeLine, rowLine}
+use Rattle.sheet_forms.specs.Forms.{InNameRange, Kind, axis, area, name, track, repeat, end, spare, extra, item, place, row}
 use Rattle.sheet_forms.proofs.Codes.{count-most}
 use Rattle.sheet_forms.proofs.Firsts.{none-or-some, first-zero}
 use Rattle.sheet_forms.proofs.LineFaults.{lineOf}
+use Rattle.sheet_forms.proofs.WordRows.{RowBounded, row-bounded}
 use Rattle.sheet_forms.proofs.FieldBounds.{EndBounded, RepeatBounded, word-most, name-good, count-least, repetition-bounded, end-bounded}
 
 pub record AreaBounded (f : List ℕ) (a b c d : ℕ) : Type 0 where
@@ -49,6 +50,7 @@ Bounded fs (Spare a min max) = Unit {0}
 Bounded fs (Extra a n p) = (n ≤ 10000) × (p ≤ 10000)
 Bounded fs (Item a i) = i ≤ 29999
 Bounded fs (Place a s e) = EndBounded (at fs 3) s × EndBounded (at fs 6) e
+Bounded fs (PictureRow n) = RowBounded (drop 1 fs) n
 
 unless-bounded : (fs : List (List ℕ)) (n : ℕ) (r : Record) → (n ≡ 0 → Bounded fs r) → Bounded fs (unless n r)
 unless-bounded fs n r h = ⊎-elim (λ e. rw (eq-eqb n 0 e) (h e)) (λ k. rw (ne-eqb n 0 k) k) (none-or-some n)
@@ -122,7 +124,7 @@ unfolding ruleOf
 rule-most f = word-most 1 (index f ruleWords)
 
 pub line-bounded : (k : Kind) (fs : List (List ℕ)) → Bounded fs (lineOf k fs)
-unfolding axisLine areaLine nameLine sizesLine repeatLine endLine extraLine itemLine placeLine
+unfolding axisLine areaLine nameLine sizesLine repeatLine endLine extraLine itemLine placeLine rowLine
 line-bounded axis fs =
     let a = axisOf (at fs 1) in
     let i = innerOf (at fs 2) in
@@ -171,3 +173,8 @@ line-bounded place fs =
     let e = endOf (at fs 5) (at fs 6) (at fs 7) in
     fields-bounded fs (eqb (length fs) 8) (madePlace a s e)
     (place-bounded fs a s e (end-bounded (at fs 2) (at fs 3) (at fs 4)) (end-bounded (at fs 5) (at fs 6) (at fs 7)))
+line-bounded row fs = go (ltb (length fs) 2) refl
+  where
+    go : (t : Bool) → ltb (length fs) 2 ≡ t → Bounded fs (cond t (Fault 1) (unless (rowFault (drop 1 fs)) (PictureRow (length (drop 1 fs)))))
+    go true q = fault-one
+    go false q = unless-bounded fs (rowFault (drop 1 fs)) (PictureRow (length (drop 1 fs))) (row-bounded fs (ltb-false (length fs) 2 q))

@@ -8,11 +8,12 @@ use Rattle.text.specs.Split.{split, onto, same, index}
 use Rattle.text.specs.Whole.{digitsOf, naturalOf, nonNegative, negative, wholeOf, countIn, indexIn}
 use Rattle.text.specs.Hexadecimal.{bitsFrom, bitsOf}
 use Rattle.sizing.specs.Ranges.{upTo, minimumKind, largestOf, valueInRange, lengthInRange}
+use Rattle.picture_rules.specs.Picture.{allDots, isDots}
 use Rattle.sheet_forms.specs.Faults.{rankOf, firstOf}
-use Rattle.sheet_forms.specs.Fields.{axisOf, ruleOf, countOf, repetitionOf, codes, nameFault}
+use Rattle.sheet_forms.specs.Fields.{axisOf, ruleOf, countOf, repetitionOf, codes, nameFault, wordFault, wordsFault, rowFault}
 use Rattle.sheet_forms.specs.Sizes.{kindOf, sizeOf, innerOf}
 use Rattle.sheet_forms.specs.Ends.{endKind, endName, endNumber, endOf}
-use Rattle.sheet_forms.specs.Records.{axisLine, areaLine, nameLine, sizesLine, repeatLine, endLine, extraLine, itemLine, placeLine, byKind, recordOf, faultOf}
+use Rattle.sheet_forms.specs.Records.{axisLine, areaLine, nameLine, sizesLine, repeatLine, endLine, extraLine, itemLine, placeLine, rowLine, fixedKind, byKind, recordOf, faultOf}
 
 pub record Case : Type 0 where
   pub line : List ℕ
@@ -82,6 +83,12 @@ cases =
     ∷ is (112 ∷ 108 ∷ 97 ∷ 99 ∷ 101 ∷ 9 ∷ 99 ∷ 9 ∷ 97 ∷ 117 ∷ 116 ∷ 111 ∷ 9 ∷ 45 ∷ 9 ∷ 49 ∷ 9 ∷ 97 ∷ 117 ∷ 116 ∷ 111 ∷ 9 ∷ 45 ∷ 9 ∷ 48 ∷ []) 1  -- place c auto - 1 auto - 0
     ∷ is (112 ∷ 108 ∷ 97 ∷ 99 ∷ 101 ∷ 9 ∷ 99 ∷ 9 ∷ 97 ∷ 117 ∷ 116 ∷ 111 ∷ 9 ∷ 9 ∷ 48 ∷ 9 ∷ 97 ∷ 117 ∷ 116 ∷ 111 ∷ 9 ∷ 45 ∷ 9 ∷ 48 ∷ []) 1  -- place c auto  0 auto - 0
     ∷ is (112 ∷ 108 ∷ 97 ∷ 99 ∷ 101 ∷ 9 ∷ 99 ∷ 9 ∷ 110 ∷ 97 ∷ 109 ∷ 101 ∷ 100 ∷ 9 ∷ 9 ∷ 49 ∷ 9 ∷ 97 ∷ 117 ∷ 116 ∷ 111 ∷ 9 ∷ 45 ∷ 9 ∷ 48 ∷ []) 2  -- place c named  1 auto - 0
+    ∷ is (114 ∷ 111 ∷ 119 ∷ 9 ∷ 97 ∷ 9 ∷ 46 ∷ 46 ∷ 46 ∷ 9 ∷ 97 ∷ 46 ∷ 98 ∷ []) 0  -- row a ... a.b
+    ∷ is (114 ∷ 111 ∷ 119 ∷ []) 1  -- row
+    ∷ is (114 ∷ 111 ∷ 119 ∷ 9 ∷ []) 2  -- row and a tab
+    ∷ is (114 ∷ 111 ∷ 119 ∷ 9 ∷ 97 ∷ 9 ∷ 9 ∷ 98 ∷ []) 2  -- row a, an empty word, b
+    ∷ is (114 ∷ 111 ∷ 119 ∷ 9 ∷ 46 ∷ 46 ∷ 46 ∷ 46 ∷ 46 ∷ 46 ∷ 46 ∷ 46 ∷ 46 ∷ 46 ∷ 46 ∷ 46 ∷ 46 ∷ 46 ∷ 46 ∷ 46 ∷ 46 ∷ 46 ∷ 46 ∷ 46 ∷ 46 ∷ 46 ∷ 46 ∷ 46 ∷ 46 ∷ 46 ∷ 46 ∷ 46 ∷ 46 ∷ 46 ∷ 46 ∷ 46 ∷ 46 ∷ []) 0  -- row and 33 dots
+    ∷ is (114 ∷ 111 ∷ 119 ∷ 9 ∷ 97 ∷ 97 ∷ 97 ∷ 97 ∷ 97 ∷ 97 ∷ 97 ∷ 97 ∷ 97 ∷ 97 ∷ 97 ∷ 97 ∷ 97 ∷ 97 ∷ 97 ∷ 97 ∷ 97 ∷ 97 ∷ 97 ∷ 97 ∷ 97 ∷ 97 ∷ 97 ∷ 97 ∷ 97 ∷ 97 ∷ 97 ∷ 97 ∷ 97 ∷ 97 ∷ 97 ∷ 97 ∷ 97 ∷ []) 2  -- row and a name of 33 bytes
     ∷ is [] 1  -- (empty)
     ∷ is (103 ∷ 114 ∷ 105 ∷ 100 ∷ 9 ∷ 99 ∷ []) 1  -- grid c
     ∷ []
@@ -90,5 +97,5 @@ pub worked : T (all cases)
 unfolding all right cases is
     split onto same index digitsOf naturalOf nonNegative negative wholeOf countIn indexIn bitsFrom bitsOf
     upTo minimumKind largestOf valueInRange lengthInRange rankOf firstOf axisOf ruleOf countOf repetitionOf codes nameFault
-    kindOf sizeOf innerOf endKind endName endNumber endOf axisLine areaLine nameLine sizesLine repeatLine endLine extraLine itemLine placeLine byKind recordOf ofBits
+    kindOf sizeOf innerOf endKind endName endNumber endOf axisLine areaLine nameLine sizesLine repeatLine endLine extraLine itemLine placeLine rowLine fixedKind byKind recordOf allDots isDots wordFault wordsFault rowFault ofBits
 worked = tt

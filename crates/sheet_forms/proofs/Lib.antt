@@ -5,6 +5,7 @@ pub mod Firsts
 pub mod FieldRows
 pub mod PartRows
 pub mod EndRows
+pub mod WordRows
 pub mod LineRows
 pub mod LineFaults
 pub mod FieldBounds

@@ -1,4 +1,5 @@
--- The order in which the faults of one line are named: no two numbers have one place, 12 stands after 6 and 7 and before 8, and 10 is last.
+-- The order in which the faults of one line are named: no two numbers have one place, 12 stands after 6 and 7 and before 8, 13 after 8, 14 after
+-- 13, and 10 is last.
 -- Assumes nothing.
 use Prim.Native.Nat.{ℕ, suc, _<_, _≤_}
 use mathlib.Core.Path.{_≡_, refl, sym, _∙_}
@@ -29,7 +30,12 @@ pub overlap-order : (rankOf 6 < rankOf 12) × (rankOf 7 < rankOf 12) × (rankOf 
 unfolding rankOf
 overlap-order = (omega arith, omega arith, omega arith)
 
--- "10 after all of these"
-pub short-last : (rankOf 8 < rankOf 10) × (rankOf 12 < rankOf 10)
+-- "lowest number first", and "14 .. after 13"
+pub picture-order : (rankOf 8 < rankOf 13) × (rankOf 13 < rankOf 14)
 unfolding rankOf
-short-last = (omega arith, omega arith)
+picture-order = (omega arith, omega arith)
+
+-- "10 after all of these", and both "come before 10"
+pub short-last : (rankOf 8 < rankOf 10) × (rankOf 12 < rankOf 10) × (rankOf 14 < rankOf 10)
+unfolding rankOf
+short-last = (omega arith, omega arith, omega arith)

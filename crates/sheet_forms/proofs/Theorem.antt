@@ -14,12 +14,12 @@ use Rattle.sheet_forms.specs.declared.Record.{Record}
 use Rattle.sheet_forms.specs.Words.{at, kindWords}
 use Rattle.sheet_forms.specs.Faults.{rankOf, noRow, firstRow}
 use Rattle.sheet_forms.specs.Records.{recordOf, faultOf}
-use Rattle.sheet_forms.specs.Forms.{Kind, axis, area, name, track, repeat, end, spare, extra, item, place, kindNumber, fieldsOf, partsOf, Of}
+use Rattle.sheet_forms.specs.Forms.{Kind, axis, area, name, track, repeat, end, spare, extra, item, place, row, kindNumber, Fields, partsOf, Of}
 use Rattle.sheet_forms.specs.Rows.{Row, unread, badName, badValue, badCount, badArea, numberOf, Holds, First}
 use Rattle.sheet_forms.proofs.Firsts.{numbers, first-same, first-unique, at-unread}
 use Rattle.sheet_forms.proofs.FieldRows.{below-or}
 use Rattle.sheet_forms.proofs.LineRows.{SomeHolds, parts-first, word-index, kind-below, kindAt, number-back, same-kind, line-holds, line-not}
-use Rattle.sheet_forms.proofs.LineFaults.{lineOf, line-record, no-record, short-line, line-fault}
+use Rattle.sheet_forms.proofs.LineFaults.{lineOf, fields-or, line-record, no-record, short-line, line-fault}
 use Rattle.sheet_forms.proofs.Bounds.{Bounded, fault-one, line-bounded}
 use Rattle.sheet_forms.proofs.AreaRows.{area-first}
 
@@ -54,6 +54,7 @@ of-kind k fs of = ⊎-elim (λ e. is e) other (area-or k)
     area-or extra = inr (λ e. omega (arith, ap kindNumber e))
     area-or item = inr (λ e. omega (arith, ap kindNumber e))
     area-or place = inr (λ e. omega (arith, ap kindNumber e))
+    area-or row = inr (λ e. omega (arith, ap kindNumber e))
 
     is : k ≡ area → First (Holds fs) (faultOf (lineOf k fs))
     is e = subst (λ (j : Kind). First (Holds fs) (faultOf (lineOf j fs))) (sym e) (area-first fs (subst (Of fs) e of))
@@ -69,22 +70,20 @@ of-kind k fs of = ⊎-elim (λ e. is e) other (area-or k)
     other a = subst (First (Holds fs)) (sym (line-fault k fs a (of .fields))) (first-same (line-holds fs k of) (no-area a) (parts-first fs (partsOf k)))
 
 of-word : (k : Kind) (fs : List (List ℕ)) → at fs 0 ≡ getD kindWords (kindNumber k) [] → First (Holds fs) (faultOf (recordOf fs))
-of-word k fs e = subst (λ (r : Record). First (Holds fs) (faultOf r)) (sym (line-record k fs e)) (go (eqb (length fs) (fieldsOf k)) refl)
+of-word k fs e = subst (λ (r : Record). First (Holds fs) (faultOf r)) (sym (line-record k fs e)) (go (fields-or k (length fs)))
   where
-    go : (t : Bool) → eqb (length fs) (fieldsOf k) ≡ t → First (Holds fs) (faultOf (lineOf k fs))
-    go true q = of-kind k fs (record { word = e; fields = eqb-true (length fs) (fieldsOf k) q })
-    go false q =
-        let h : length fs ≡ fieldsOf k → ⊥ = eqb-false (length fs) (fieldsOf k) q in
-        at-unread (short-line k fs h) (λ j o f. h (o .fields ∙ ap fieldsOf (same-kind fs j k (o .word) e)))
+    go : Fields k (length fs) ⊎ (Fields k (length fs) → ⊥) → First (Holds fs) (faultOf (lineOf k fs))
+    go (inl h) = of-kind k fs (record { word = e; fields = h })
+    go (inr h) = at-unread (short-line k fs h) (λ j o f. h (subst (λ (i : Kind). Fields i (length fs)) (same-kind fs j k (o .word) e) (o .fields)))
 
-of-none : (fs : List (List ℕ)) → 10 ≤ index (at fs 0) kindWords → First (Holds fs) (faultOf (recordOf fs))
+of-none : (fs : List (List ℕ)) → 11 ≤ index (at fs 0) kindWords → First (Holds fs) (faultOf (recordOf fs))
 of-none fs h = at-unread (ap faultOf (no-record fs h)) (λ j o f. omega (arith, word-index fs j (o .word), kind-below j))
 
 -- the kind that the first field names, where it names one
 abbrev kindOf : List (List ℕ) → Kind
 kindOf fs = kindAt (index (at fs 0) kindWords)
 
-named : (fs : List (List ℕ)) → index (at fs 0) kindWords < 10 → at fs 0 ≡ getD kindWords (kindNumber (kindOf fs)) []
+named : (fs : List (List ℕ)) → index (at fs 0) kindWords < 11 → at fs 0 ≡ getD kindWords (kindNumber (kindOf fs)) []
 named fs h = index-word (at fs 0) kindWords h ∙ ap (λ (i : ℕ). getD kindWords i []) (sym (number-back (index (at fs 0) kindWords) h))
 
 -- every line
@@ -93,7 +92,7 @@ record-first fs =
     ⊎-elim
     (λ h. of-word (kindOf fs) fs (named fs h))
     (of-none fs)
-    (below-or (index (at fs 0) kindWords) 10)
+    (below-or (index (at fs 0) kindWords) 11)
 
 -- a record says fault n exactly if n is the number of the row that comes first
 pub fault-exactly : (fs : List (List ℕ)) (n : ℕ) → (faultOf (recordOf fs) ≡ n) ↔ First (Holds fs) n
@@ -126,4 +125,4 @@ record-bounded fs =
     ⊎-elim
     (λ h. subst (Bounded fs) (sym (line-record (kindOf fs) fs (named fs h))) (line-bounded (kindOf fs) fs))
     (λ h. subst (Bounded fs) (sym (no-record fs h)) fault-one)
-    (below-or (index (at fs 0) kindWords) 10)
+    (below-or (index (at fs 0) kindWords) 11)

@@ -1,5 +1,5 @@
 -- Which of the faults of one line is named (document 01, the table of refusals): "lowest number first at one line"; 12 comes
--- "after 6 and 7 and before 8" (document 02, request 03).
+-- "after 6 and 7 and before 8" (document 02, request 03); 14 comes "after 13; both come before 10" (request 07).
 use Prim.Native.Nat.{ℕ, suc, _<_}
 use mathlib.Core.Path.{_≡_}
 use mathlib.Core.List.{List, [], _∷_}
@@ -8,7 +8,7 @@ use lib.Dec.{eqb, leb}
 
 -- the numbers of the table in that order; "10 after all of these"
 abbrev pub inOrder : List ℕ
-inOrder = 1 ∷ 2 ∷ 3 ∷ 4 ∷ 5 ∷ 6 ∷ 7 ∷ 12 ∷ 8 ∷ 9 ∷ 10 ∷ []
+inOrder = 1 ∷ 2 ∷ 3 ∷ 4 ∷ 5 ∷ 6 ∷ 7 ∷ 12 ∷ 8 ∷ 9 ∷ 13 ∷ 14 ∷ 10 ∷ []
 
 -- how many numbers of a list come before n; any other number comes after them all, by itself
 abbrev pub placeIn : List ℕ → ℕ → ℕ

@@ -12,6 +12,8 @@ use Rattle.text.specs.declared.Count.the-variants.{Unread, Outside, Value}
 use Rattle.sheet_forms.specs.declared.field.Field.{Field}
 use Rattle.sheet_forms.specs.declared.field.AxisField.{AxisField}
 use Rattle.sheet_forms.specs.declared.RepeatRecord.{RepeatRecord}
+use Rattle.picture_rules.specs.Picture.{Word, isDots}
+use Rattle.sheet_forms.specs.Faults.{firstOf}
 use Rattle.sheet_forms.specs.Words.{axisWords, ruleWords, repeatWords}
 
 abbrev pub good : ℕ → Field
@@ -64,3 +66,20 @@ codes (b ∷ bs) = cond (ltb b 33) false (cond (ltb 126 b) false (codes bs))
 -- a name is 1 to 32 bytes of these codes, else 2
 unfoldable pub nameFault : List ℕ → ℕ
 nameFault f = cond (eqb (length f) 0) 2 (cond (ltb 32 (length f)) 2 (cond (codes f) 0 2))
+
+-- ---- the words of a row (document 02, request 07)
+
+-- "every word is a name or dots", else 2
+unfoldable pub wordFault : Word → ℕ
+wordFault w = cond (isDots w) 0 (nameFault w)
+
+unfoldable pub wordsFault : List Word → ℕ
+wordsFault [] = 0
+wordsFault (w ∷ ws) = cond (eqb (wordFault w) 0) (wordsFault ws) (wordFault w)
+
+-- "one past 10,000 words is refused by 4"
+abbrev pub manyFault : ℕ → ℕ
+manyFault words = cond (ltb 10000 words) 4 0
+
+unfoldable pub rowFault : List Word → ℕ
+rowFault ws = firstOf (wordsFault ws) (manyFault (length ws))

@@ -82,7 +82,7 @@ pub data EndForm (f name number : List ℕ) : Type 0 where
   span : isSpan f → name ≡ dash → Whole number → EndForm f name number
   nspan : isNspan f → Whole number → EndForm f name number
 
--- ---- the parts of a line, each with the number of its first field
+-- ---- the parts of a line, each with the number of its first field; the words of a row go to the end of the line
 
 pub data Part : Type 0 where
   anAxis : ℕ → Part
@@ -93,6 +93,7 @@ pub data Part : Type 0 where
   aSize : Position → ℕ → Part
   aRepetition : ℕ → Part
   anEnd : ℕ → Part
+  theWords : ℕ → Part
 
 -- a part of the form that the sheet's rules give it; what a used name holds is row 2's
 abbrev pub Formed : List (List ℕ) → Part → Type 0
@@ -104,11 +105,12 @@ Formed fs (aRule k) = OneOf ruleWords (at fs k)
 Formed fs (aSize p k) = ((j : ℕ) × SizeKind j (at fs k) × Allowed p j) × Size (at fs (suc k))
 Formed fs (aRepetition k) = OneOf repeatWords (at fs k) ⊎ Whole (at fs k)
 Formed fs (anEnd k) = EndForm (at fs k) (at fs (suc k)) (at fs (suc (suc k)))
+Formed fs (theWords k) = Unit {0}
 
 -- ---- a line
 
 pub data Kind : Type 0 where
-  axis area name track repeat end spare extra item place : Kind
+  axis area name track repeat end spare extra item place row : Kind
 
 -- its number in the order of `kindWords`
 abbrev pub kindNumber : Kind → ℕ
@@ -122,19 +124,21 @@ kindNumber spare = 6
 kindNumber extra = 7
 kindNumber item = 8
 kindNumber place = 9
+kindNumber row = 10
 
--- how many fields a line of a kind has, its word the first
-abbrev pub fieldsOf : Kind → ℕ
-fieldsOf axis = 6
-fieldsOf area = 6
-fieldsOf name = 3
-fieldsOf track = 6
-fieldsOf repeat = 3
-fieldsOf end = 2
-fieldsOf spare = 6
-fieldsOf extra = 4
-fieldsOf item = 3
-fieldsOf place = 8
+-- that a line of a kind may have n fields, its word the first
+abbrev pub Fields : Kind → ℕ → Type 0
+Fields axis n = n ≡ 6
+Fields area n = n ≡ 6
+Fields name n = n ≡ 3
+Fields track n = n ≡ 6
+Fields repeat n = n ≡ 3
+Fields end n = n ≡ 2
+Fields spare n = n ≡ 6
+Fields extra n = n ≡ 4
+Fields item n = n ≡ 3
+Fields place n = n ≡ 8
+Fields row n = 2 ≤ n
 
 -- what stands in them
 abbrev pub partsOf : Kind → List Part
@@ -148,11 +152,12 @@ partsOf spare = anAxis 1 ∷ aSize Minimum 2 ∷ aSize Maximum 4 ∷ []
 partsOf extra = anAxis 1 ∷ aCount 0 10000 2 ∷ aCount 0 10000 3 ∷ []
 partsOf item = anAxis 1 ∷ aCount 0 29999 2 ∷ []
 partsOf place = anAxis 1 ∷ anEnd 2 ∷ anEnd 5 ∷ []
+partsOf row = theWords 1 ∷ []
 
 -- a line of a kind, by its first field and how many fields there are
 pub record Of (fs : List (List ℕ)) (k : Kind) : Type 0 where
   pub word : at fs 0 ≡ getD kindWords (kindNumber k) []
-  pub fields : length fs ≡ fieldsOf k
+  pub fields : Fields k (length fs)
 
 abbrev pub Every : (Part → Type 0) → List Part → Type 0
 Every P [] = Unit {0}

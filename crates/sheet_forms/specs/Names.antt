@@ -2,7 +2,7 @@
 use Prim.Native.Nat.{ℕ}
 use mathlib.Core.List.{List, []}
 use Rattle.sheet_forms.specs.declared.Record.{Record}
-use Rattle.sheet_forms.specs.declared.Record.the-variants.{Fault, Axis, Area, Name, Track, Repeat, End, Spare, Extra, Item, Place}
+use Rattle.sheet_forms.specs.declared.Record.the-variants.{Fault, Axis, Area, Name, Track, Repeat, End, Spare, Extra, Item, Place, PictureRow}
 use Rattle.sheet_forms.specs.Words.{at}
 
 -- what is there of a field by its number, for the field of the first name
@@ -18,6 +18,7 @@ ofFirst none field (Spare a min max) = none
 ofFirst none field (Extra a n p) = none
 ofFirst none field (Item a i) = none
 ofFirst none field (Place a s e) = field 3
+ofFirst none field (PictureRow n) = none
 
 -- and for that of the second
 abbrev pub ofSecond : {A : Type 0} → A → (ℕ → A) → Record → A
@@ -32,6 +33,7 @@ ofSecond none field (Spare a min max) = none
 ofSecond none field (Extra a n p) = none
 ofSecond none field (Item a i) = none
 ofSecond none field (Place a s e) = field 6
+ofSecond none field (PictureRow n) = none
 
 -- the names themselves, empty where there is none
 abbrev pub firstName : Record → List (List ℕ) → List ℕ

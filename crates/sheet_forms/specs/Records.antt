@@ -2,11 +2,11 @@
 use Prim.Native.Nat.{ℕ}
 use mathlib.Core.List.{List}
 use mathlib.Core.Bool.{Bool, true, false, cond}
-use lib.Dec.{eqb, leb}
-use lib.ListN.{length}
+use lib.Dec.{eqb, ltb, leb}
+use lib.ListN.{length, drop}
 use Rattle.text.specs.Split.{index}
 use Rattle.sheet_forms.specs.declared.Record.{Record}
-use Rattle.sheet_forms.specs.declared.Record.the-variants.{Fault, Axis, Area, Name, Track, Repeat, End, Spare, Extra, Item, Place}
+use Rattle.sheet_forms.specs.declared.Record.the-variants.{Fault, Axis, Area, Name, Track, Repeat, End, Spare, Extra, Item, Place, PictureRow}
 use Rattle.sheet_forms.specs.declared.RepeatRecord.{RepeatRecord}
 use Rattle.sheet_forms.specs.declared.field.Field.{Field}
 use Rattle.sheet_forms.specs.declared.field.AxisField.{AxisField}
@@ -16,7 +16,7 @@ use Rattle.sheet_forms.specs.declared.Position.the-variants.{Minimum, Ma
 use Rattle.sheet_forms.specs.declared.EndField.{EndField}
 use Rattle.sheet_forms.specs.Words.{at, kindWords}
 use Rattle.sheet_forms.specs.Faults.{firstOf}
-use Rattle.sheet_forms.specs.Fields.{axisOf, ruleOf, countOf, repetitionOf, nameFault}
+use Rattle.sheet_forms.specs.Fields.{axisOf, ruleOf, countOf, repetitionOf, nameFault, rowFault}
 use Rattle.sheet_forms.specs.Sizes.{sizeOf, innerOf}
 use Rattle.sheet_forms.specs.Ends.{endOf}
 
@@ -106,9 +106,13 @@ madePlace a s e = unless (firstOf (a .fault) (firstOf (s .fault) (e .fault))) (P
 unfoldable pub placeLine : List (List ℕ) → Record
 placeLine fs = ofFields 8 fs (madePlace (axisOf (at fs 1)) (endOf (at fs 2) (at fs 3) (at fs 4)) (endOf (at fs 5) (at fs 6) (at fs 7)))
 
--- by the number of the kind's word; any other line is unread
-unfoldable pub byKind : ℕ → List (List ℕ) → Record
-byKind k fs =
+-- `row`, then one or more words
+unfoldable pub rowLine : List (List ℕ) → Record
+rowLine fs = cond (ltb (length fs) 2) (Fault 1) (unless (rowFault (drop 1 fs)) (PictureRow (length (drop 1 fs))))
+
+-- a line of a kind with a fixed number of fields, by the number of the kind's word; any other line is unread
+unfoldable pub fixedKind : ℕ → List (List ℕ) → Record
+fixedKind k fs =
     cond (eqb k 0) (axisLine fs)
     (cond (eqb k 1) (areaLine fs)
     (cond (eqb k 2) (nameLine fs)
@@ -119,6 +123,9 @@ byKind k fs =
     (cond (eqb k 7) (extraLine fs)
     (cond (eqb k 8) (itemLine fs)
     (cond (eqb k 9) (placeLine fs) (Fault 1))))))))))
+
+unfoldable pub byKind : ℕ → List (List ℕ) → Record
+byKind k fs = cond (eqb k 10) (rowLine fs) (fixedKind k fs)
 
 unfoldable pub recordOf : List (List ℕ) → Record
 recordOf fs = byKind (index (at fs 0) kindWords) fs
@@ -136,3 +143,4 @@ faultOf (Spare a min max) = 0
 faultOf (Extra a n p) = 0
 faultOf (Item a i) = 0
 faultOf (Place a s e) = 0
+faultOf (PictureRow n) = 0

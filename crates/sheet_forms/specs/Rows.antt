@@ -1,17 +1,28 @@
 -- Rows 1 to 5 of document 01's table over the fields of one line, in the words of its panel sheet and panel ranges.
 -- They don't name the reader; proofs/Theorem.antt shows that it follows them.
-use Prim.Native.Nat.{ℕ, suc}
+use Prim.Native.Nat.{ℕ, suc, _<_}
 use mathlib.Core.Path.{_≡_}
 use mathlib.Core.List.{List, [], _∷_}
 use mathlib.Core.Bool.{false}
 use mathlib.Core.Logic.{_⊎_}
 use lib.IntN.{ℤ, pos}
+use lib.ListN.{length, getD, drop}
 use lib.Signed.{_<ℤ_}
+use Rattle.picture_rules.specs.Picture.{Word, Dots}
 use Rattle.text.specs.Spelling.{Writes, WritesBits}
 use Rattle.sizing.specs.Ranges.{valueInRange, lengthInRange}
 use Rattle.sheet_forms.specs.Faults.{FirstBy}
 use Rattle.sheet_forms.specs.Words.{at}
-use Rattle.sheet_forms.specs.Forms.{Every, Formed, InNameRange, Kind, Of, OutsideCounts, OutsideIndexes, OutsideRange, Part, SizeKind, aCount, aName, aRepetition, aRule, aSize, anAxis, anEnd, anInner, area, isLine, isNamed, isNspan, isSpan, partsOf}
+use Rattle.sheet_forms.specs.Forms.{Every, Formed, InNameRange, Kind, Of, OutsideCounts, OutsideIndexes, OutsideRange, Part, SizeKind, aCount, aName, aRepetition, aRule, aSize, anAxis, anEnd, anInner, area, isLine, isNamed, isNspan, isSpan, partsOf, theWords}
+
+-- a word that is neither dots nor in the name range
+pub record BadWord (w : Word) : Type 0 where
+  pub dots : Dots w → ⊥
+  pub name : InNameRange w → ⊥
+
+-- some word is
+abbrev pub BadWords : List Word → Type 0
+BadWords ws = (i : ℕ) × (i < length ws) × BadWord (getD ws i [])
 
 -- a used name outside the name range
 abbrev pub NameOutside : List (List ℕ) → Part → Type 0
@@ -23,6 +34,7 @@ NameOutside fs (aRule k) = ⊥
 NameOutside fs (aSize p k) = ⊥
 NameOutside fs (aRepetition k) = ⊥
 NameOutside fs (anEnd k) = (isNamed (at fs k) ⊎ isNspan (at fs k)) × (InNameRange (at fs (suc k)) → ⊥)
+NameOutside fs (theWords k) = BadWords (drop k fs)
 
 -- a size outside its range; "a keyword has value zero, else 3"
 abbrev pub ValueOutside : List (List ℕ) → Part → Type 0
@@ -34,8 +46,9 @@ ValueOutside fs (aRule k) = ⊥
 ValueOutside fs (aSize p k) = (j : ℕ) × (bits : ℕ) × SizeKind j (at fs k) × WritesBits (at fs (suc k)) bits × (valueInRange j bits ≡ false)
 ValueOutside fs (aRepetition k) = ⊥
 ValueOutside fs (anEnd k) = ⊥
+ValueOutside fs (theWords k) = ⊥
 
--- a whole number outside its range
+-- a whole number outside its range; more words than a row may have
 abbrev pub CountOutside : List (List ℕ) → Part → Type 0
 CountOutside fs (anAxis k) = ⊥
 CountOutside fs (aName k) = ⊥
@@ -47,6 +60,7 @@ CountOutside fs (aRepetition k) = OutsideCounts (at fs k)
 CountOutside fs (anEnd k) =
     ((isLine (at fs k) ⊎ isNamed (at fs k)) × OutsideIndexes (at fs (suc (suc k))))
     ⊎ ((isSpan (at fs k) ⊎ isNspan (at fs k)) × OutsideCounts (at fs (suc (suc k))))
+CountOutside fs (theWords k) = 10000 < length (drop k fs)
 
 abbrev pub Some : (Part → Type 0) → List Part → Type 0
 Some P [] = ⊥

@@ -22,7 +22,7 @@ axisWords =
     ∷ (114 ∷ [])
     ∷ []
 
--- `axis`, `area`, `name`, `track`, `repeat`, `end`, `spare`, `extra`, `item`, `place`
+-- `axis`, `area`, `name`, `track`, `repeat`, `end`, `spare`, `extra`, `item`, `place`, `row`
 abbrev pub kindWords : List (List ℕ)
 kindWords =
     (97 ∷ 120 ∷ 105 ∷ 115 ∷ [])
@@ -35,6 +35,7 @@ kindWords =
     ∷ (101 ∷ 120 ∷ 116 ∷ 114 ∷ 97 ∷ [])
     ∷ (105 ∷ 116 ∷ 101 ∷ 109 ∷ [])
     ∷ (112 ∷ 108 ∷ 97 ∷ 99 ∷ 101 ∷ [])
+    ∷ (114 ∷ 111 ∷ 119 ∷ [])
     ∷ []
 
 -- `len`, `pct`, `fr`, `auto`, `min`, `max`, `fitl`, `fitp`

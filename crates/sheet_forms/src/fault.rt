@@ -1,10 +1,13 @@
 // Which of the faults of one line is named.
 ghost use mathlib.Core.Path.{_≡_};
 ghost use Rattle.sheet_forms.specs.Faults.{rankOf, firstOf};
+use coordinates::refusal::BROKEN;
 use coordinates::refusal::OVERLAP;
+use coordinates::refusal::SHORT;
+use coordinates::refusal::UNEQUAL;
 
-// A fault's place in the order in which the faults of one line are looked at: the lowest number first, but 12 before 8. A number that
-// is none of the table's comes after all of these.
+// A fault's place in the order in which the faults of one line are looked at: the lowest number first, but 12 before 8 and 10 last. A number
+// that is none of the table's comes after all of these.
 pub fn rank(number: u32) -> u64
     ensures { λ r. ⌜ r ≡ rankOf number ⌝ }
 {
@@ -19,8 +22,10 @@ pub fn rank(number: u32) -> u64
         OVERLAP => 7,
         8 => 8,
         9 => 9,
-        10 => 10,
-        _ => number as u64 + 11,
+        UNEQUAL => 10,
+        BROKEN => 11,
+        SHORT => 12,
+        _ => number as u64 + 13,
     }
 }
 

@@ -40,7 +40,7 @@ pub struct PlaceEnd {
 }
 
 // What a line says. A size is one word, its kind times 2^32 and its bits. Names stay in the line: field 1 of an `area`,
-// field 2 of a `name`, fields 3 and 6 of a `place`.
+// field 2 of a `name`, fields 3 and 6 of a `place`. The words of a `row` are its fields from 1 on; the record says how many there are.
 pub enum Record {
     Fault(u32),
     Axis(AxisRecord),
@@ -53,6 +53,7 @@ pub enum Record {
     Extra(Axis, u32, u32),
     Item(Axis, u32),
     Place(Axis, PlaceEnd, PlaceEnd),
+    PictureRow(u32),
 }
 
 pub struct NumberField {

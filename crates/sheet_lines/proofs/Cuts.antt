@@ -12,12 +12,12 @@ use Rattle.text.specs.declared.fields.Place.{Place as Placed}
 use Rattle.text.specs.Places.{partAt, placeBy, fieldBy, fieldsBy}
 use Rattle.text.proofs.Places.{startsOf, field-part, fields-parts, length-fields}
 use Rattle.sheet_forms.specs.declared.Record.{Record}
-use Rattle.sheet_forms.specs.declared.Record.the-variants.{Fault, Axis, Area, Name, Track, Repeat, End, Spare, Extra, Item, Place}
+use Rattle.sheet_forms.specs.declared.Record.the-variants.{Fault, Axis, Area, Name, Track, Repeat, End, Spare, Extra, Item, Place, PictureRow}
 use Rattle.sheet_forms.specs.Words.{at, kindWords}
 use Rattle.sheet_forms.specs.Names.{ofFirst, ofSecond, firstName, secondName}
-use Rattle.sheet_forms.specs.Records.{axisLine, areaLine, nameLine, sizesLine, repeatLine, endLine, extraLine, itemLine, placeLine, byKind, recordOf}
+use Rattle.sheet_forms.specs.Records.{axisLine, areaLine, nameLine, sizesLine, repeatLine, endLine, extraLine, itemLine, placeLine, rowLine, fixedKind, byKind, recordOf}
 
--- a line of more than 8 fields is of no form
+-- a line of more than 8 fields is of no form that has a fixed number of them
 module _ (fs : List (List ℕ)) (h : 8 < length fs) where
   other : (n : ℕ) → n ≤ 8 → eqb (length fs) n ≡ false
   other n l = ne-eqb (length fs) n (λ e. omega arith)
@@ -26,8 +26,8 @@ module _ (fs : List (List ℕ)) (h : 8 < length fs) where
   both true r e = refl
   both false r e = e
 
-  many : (k : ℕ) → byKind k fs ≡ Fault 1
-  unfolding byKind axisLine areaLine nameLine sizesLine repeatLine endLine extraLine itemLine placeLine
+  many : (k : ℕ) → fixedKind k fs ≡ Fault 1
+  unfolding fixedKind axisLine areaLine nameLine sizesLine repeatLine endLine extraLine itemLine placeLine
   many k =
       rw (other 2 (omega arith), other 3 (omega arith), other 4 (omega arith), other 6 (omega arith), other 8 (omega arith))
       (both (eqb k 0) _ (both (eqb k 1) _ (both (eqb k 2) _ (both (eqb k 3) _ (both (eqb k 4) _ (both (eqb k 5) _
@@ -38,16 +38,22 @@ module _ (line : List ℕ) where
   abbrev cut : List (List ℕ)
   cut = fieldsBy (startsOf 9 line) line (length (split 9 line))
 
-  pub cut-record : byKind (index (fieldBy (startsOf 9 line) line 0) kindWords) cut ≡ recordOf (split 9 line)
-  unfolding recordOf
-  cut-record = go (leb (length (split 9 line)) 14) refl
+  -- the record of the kind with a number, of the fields as they were cut; that of a row, of its words
+  abbrev cutKind : ℕ → Record
+  cutKind k = cond (eqb k 10) (rowLine (split 9 line)) (fixedKind k cut)
+
+  cut-fixed : (k : ℕ) → fixedKind k cut ≡ fixedKind k (split 9 line)
+  cut-fixed k = go (leb (length (split 9 line)) 14) refl
     where
-      go : (t : Bool) → leb (length (split 9 line)) 14 ≡ t
-          → byKind (index (fieldBy (startsOf 9 line) line 0) kindWords) cut ≡ byKind (index (at (split 9 line) 0) kindWords) (split 9 line)
-      go true e = rw (field-part 9 line 0 (omega arith), fields-parts 9 line (leb-true (length (split 9 line)) 14 e))
+      go : (t : Bool) → leb (length (split 9 line)) 14 ≡ t → fixedKind k cut ≡ fixedKind k (split 9 line)
+      go true e = rw (fields-parts 9 line (leb-true (length (split 9 line)) 14 e))
       go false e =
           let l = leb-false (length (split 9 line)) 14 e in
-          many cut (omega (arith, length-fields (startsOf 9 line) line 0 (length (split 9 line)))) _ ∙ sym (many (split 9 line) (omega arith) _)
+          many cut (omega (arith, length-fields (startsOf 9 line) line 0 (length (split 9 line)))) k ∙ sym (many (split 9 line) (omega arith) k)
+
+  pub cut-record : cutKind (index (fieldBy (startsOf 9 line) line 0) kindWords) ≡ recordOf (split 9 line)
+  unfolding recordOf byKind
+  cut-record = rw (field-part 9 line 0 (omega arith), cut-fixed (index (at (split 9 line) 0) kindWords))
 
   -- where a name lies by the number of its field, 14 where there is none
   abbrev named : ℕ → List ℕ
@@ -66,6 +72,7 @@ module _ (line : List ℕ) where
   first-there (Extra a n p) = refl
   first-there (Item a i) = refl
   first-there (Place a s e) = field-part 9 line 3 (omega arith)
+  first-there (PictureRow n) = refl
 
   pub second-there : (r : Record) → named (ofSecond 14 (λ k. k) r) ≡ ofSecond [] (at (split 9 line)) r
   unfolding placeBy
@@ -80,11 +87,12 @@ module _ (line : List ℕ) where
   second-there (Extra a n p) = refl
   second-there (Item a i) = refl
   second-there (Place a s e) = field-part 9 line 6 (omega arith)
+  second-there (PictureRow n) = refl
 
   -- what the steps of reading a line give together
   pub read-there : (starts f : List ℕ) (n k i j : ℕ) (said : Record) (first second : Placed)
       → n ≡ length (split 9 line) → starts ≡ startsOf 9 line
-      → f ≡ fieldBy starts line 0 → k ≡ index f kindWords → said ≡ byKind k (fieldsBy starts line n)
+      → f ≡ fieldBy starts line 0 → k ≡ index f kindWords → said ≡ cond (eqb k 10) (rowLine (split 9 line)) (fixedKind k (fieldsBy starts line n))
       → i ≡ ofFirst 14 (λ k. k) said → first ≡ placeBy starts i → j ≡ ofSecond 14 (λ k. k) said → second ≡ placeBy starts j
       → (said ≡ recordOf (split 9 line)) × (partAt line first ≡ firstName said (split 9 line)) × (partAt line second ≡ secondName said (split 9 line))
   read-there starts f n k i j said first second en es ef ek er ei ep ej eq = (

@@ -1,16 +1,19 @@
 // The record of any line, by its kind, and where its names lie.
 ghost use mathlib.Core.Path.{_≡_};
+ghost use mathlib.Core.Bool.{cond};
+ghost use lib.Dec.{eqb};
 ghost use Rattle.text.specs.Split.{split, index};
 ghost use Rattle.text.specs.Places.{partAt, fieldsBy};
 ghost use Rattle.sheet_forms.specs.Words.{kindWords};
 ghost use Rattle.sheet_forms.specs.Names.{ofFirst, ofSecond, firstName, secondName};
-ghost use Rattle.sheet_forms.specs.Records.{byKind, recordOf};
+ghost use Rattle.sheet_forms.specs.Records.{rowLine, fixedKind, recordOf};
 use crate::LineRecord;
 use crate::lines::area_line;
 use crate::lines::extra_line;
 use crate::lines::item_line;
 use crate::lines::name_line;
 use crate::lines::place_line;
+use crate::row::row_line;
 use crate::templates::axis_line;
 use crate::templates::end_line;
 use crate::templates::repeat_line;
@@ -21,9 +24,9 @@ use text::field_place;
 use text::fields::FIELDS;
 use text::fields::STARTS;
 
-// A line of the kind with that number; any other is unread.
+// A line of the kind with that number; any other is unread. The words of a row may be more than the fields that are kept.
 fn by_kind(k: usize, line: &[u8], starts: &[usize; STARTS], fields: usize) -> Record
-    ensures { λ r. ⌜ r ≡ byKind k (fieldsBy (now (starts .entry)) (now (line .entry)) fields) ⌝ }
+    ensures { λ r. ⌜ r ≡ cond (eqb k 10) (rowLine (split 9 (now (line .entry)))) (fixedKind k (fieldsBy (now (starts .entry)) (now (line .entry)) fields)) ⌝ }
 {
     match k {
         0 => axis_line(line, starts, fields),
@@ -36,12 +39,13 @@ fn by_kind(k: usize, line: &[u8], starts: &[usize; STARTS], fields: usize) -> Re
         7 => extra_line(line, starts, fields),
         8 => item_line(line, starts, fields),
         9 => place_line(line, starts, fields),
+        10 => row_line(line),
         _ => Record::Fault(UNREAD),
     }
 }
 
 // Which kind of record a first field names, the commonest asked first.
-fn kind(f: &[u8]) -> usize
+pub fn kind(f: &[u8]) -> usize
     ensures { λ r. ⌜ r ≡ index (now (f .entry)) kindWords ⌝ }
 {
     if text::equal(b"name", f) {
@@ -74,7 +78,10 @@ fn kind(f: &[u8]) -> usize
     if text::equal(b"axis", f) {
         return 0;
     }
-    10
+    if text::equal(b"row", f) {
+        return 10;
+    }
+    11
 }
 
 // The field of a record that holds its first name; past the fields that are kept where there is none.
@@ -93,6 +100,7 @@ fn first_name_field(said: Record) -> usize
         Record::Extra(_, _, _) => FIELDS,
         Record::Item(_, _) => FIELDS,
         Record::Place(_, _, _) => 3,
+        Record::PictureRow(_) => FIELDS,
     }
 }
 
@@ -112,6 +120,7 @@ fn second_name_field(said: Record) -> usize
         Record::Extra(_, _, _) => FIELDS,
         Record::Item(_, _) => FIELDS,
         Record::Place(_, _, _) => 6,
+        Record::PictureRow(_) => FIELDS,
     }
 }
 

@@ -11,11 +11,11 @@ use borrow.Author.Tests.{eqb-true, eqb-false, ltb-false}
 use Rattle.coordinates.specs.declared.axis.Axis.{Axis}
 use Rattle.text.specs.Split.{same}
 use Rattle.sheet_forms.specs.Words.{at, kindWords}
-use Rattle.sheet_forms.specs.Forms.{Kind, axis, area, name, track, repeat, end, spare, extra, item, kindNumber}
+use Rattle.sheet_forms.specs.Forms.{Kind, axis, area, name, track, repeat, end, spare, extra, item, row, kindNumber}
 use Rattle.axis_tables.specs.View.{Sizes, Piece, name as aName, track as aTrack, Repeat as ARepeat, Item as AnItem, single, repeat as aRepeat, Unended, none, inside, AxisView, AxisOutcome, noLine, tracksIn, componentsOf, refused, accepted, withTemplate, withName, withItem, withPiece, morePieces, noRoom, axisNames, axisBytes, trackBy, trackStep, repeatKind, repeatBy, repeatStep, endBy, endStep, nameStep, spareStep, itemStep, extraStep, axisStep, namedFault}
 use Rattle.panel_tables.specs.View.{raised}
 use Rattle.panel_tables.proofs.Rooms.{fault-stays}
-use Rattle.sheet_rules.specs.Contents.{Line, those, isOf, isOn, linesWith, linesIn, isTemplate, templateIn, countIn, sizesIn, axisLineIn, spanIn, TemplateLine, piece, opening, closing, templateLineIn, itemLines, templateLines, lastOf, largest, isAmong}
+use Rattle.sheet_rules.specs.Contents.{Line, those, isOf, isOn, linesWith, linesIn, isTemplate, templateIn, countIn, sizesIn, axisLineIn, wordsIn, drawnIn, spanIn, TemplateLine, piece, opening, closing, templateLineIn, itemLines, templateLines, lastOf, largest, isAmong}
 use Rattle.sheet_rules.proofs.LineFields.{not-zero}
 
 -- ---- one more at the end of a list
@@ -77,9 +77,10 @@ pub record Chosen : Type 0 where
   pub extras : List Line
   pub items : List Line
   pub areas : List Line
+  pub rows : List Line
 
 abbrev pub chosen : Axis → List Line → Chosen
-chosen a ls = record { axes = linesIn axis a ls; template = templateIn a ls; spares = linesIn spare a ls; extras = linesIn extra a ls; items = linesIn item a ls; areas = linesWith area ls }
+chosen a ls = record { axes = linesIn axis a ls; template = templateIn a ls; spares = linesIn spare a ls; extras = linesIn extra a ls; items = linesIn item a ls; areas = linesWith area ls; rows = linesWith row ls }
 
 abbrev pub word : Kind → List ℕ
 word k = getD kindWords (kindNumber k) []
@@ -94,10 +95,11 @@ grown j b c l =
       extras = more (same (word j) (word extra) && b) (c .extras) l;
       items = more (same (word j) (word item) && b) (c .items) l;
       areas = more (same (word j) (word area)) (c .areas) l;
+      rows = more (same (word j) (word row)) (c .rows) l;
     }
 
 pub chosen-more : (j : Kind) (b : Bool) (a : Axis) (ls : List Line) (l : Line) → at l 0 ≡ word j → isOn a l ≡ b → chosen a (ls ++ (l ∷ [])) ≡ grown j b (chosen a ls) l
-chosen-more j b a ls l w o = λ i. record { axes = on axis i; template = templates i; spares = on spare i; extras = on extra i; items = on item i; areas = drawn i }
+chosen-more j b a ls l w o = λ i. record { axes = on axis i; template = templates i; spares = on spare i; extras = on extra i; items = on item i; areas = drawn area i; rows = drawn row i }
   where
     on : (k : Kind) → linesIn k a (ls ++ (l ∷ [])) ≡ more (same (word j) (word k) && b) (linesIn k a ls) l
     on k =
@@ -109,8 +111,8 @@ chosen-more j b a ls l w o = λ i. record { axes = on axis i; template = templat
         those-more (λ m. isTemplate m && isOn a m) ls l
         ∙ ap₂ (λ (f : List ℕ) (t : Bool). more ((same f (word name) || (same f (word track) || (same f (word repeat) || same f (word end)))) && t) (templateIn a ls) l) w o
 
-    drawn : linesWith area (ls ++ (l ∷ [])) ≡ more (same (word j) (word area)) (linesWith area ls) l
-    drawn = those-more (isOf area) ls l ∙ ap (λ (f : List ℕ). more (same f (word area)) (linesWith area ls) l) w
+    drawn : (k : Kind) → linesWith k (ls ++ (l ∷ [])) ≡ more (same (word j) (word k)) (linesWith k ls) l
+    drawn k = those-more (isOf k) ls l ∙ ap (λ (f : List ℕ). more (same f (word k)) (linesWith k ls) l) w
 
 -- the lines of a repeat that has no end yet
 abbrev pub openLines : Unended → List TemplateLine
@@ -133,7 +135,7 @@ pub record AxisAgrees (a : Axis) (c : Chosen) (x : AxisView) : Type 0 where
   pub positive : x .positive ≡ lastOf 0 (map (λ l. countIn (at l 3)) (c .extras))
   pub held : length (x .marks) ≡ 30000
   pub marks : (i : ℕ) → i < 30000 → getD (x .marks) i 0 ≡ cond (isAmong i (map itemIn (c .items))) 1 0
-  pub areas : x .areas ≡ largest (map (spanIn a) (c .areas))
+  pub areas : x .areas ≡ max (drawnIn a (map wordsIn (c .rows))) (largest (map (spanIn a) (c .areas)))
 
 -- what a line of the template does: it is one line more, and nothing else changes
 pub record Written (x : AxisView) (before : List TemplateLine) (t : TemplateLine) (y : AxisView) : Type 0 where
@@ -237,7 +239,7 @@ module _ (x : AxisView) where
 module _ (a : Axis) (c : Chosen) (x : AxisView) (agrees : AxisAgrees a c x) (l : Line) where
   -- a line of the template; the lists of the others are as they were
   pub template-agrees : (t : TemplateLine) (y : AxisView) → Written x (allLines x) t y → templateLineIn l ≡ t
-      → AxisAgrees a (record { axes = c .axes; template = c .template ++ (l ∷ []); spares = c .spares; extras = c .extras; items = c .items; areas = c .areas }) y
+      → AxisAgrees a (record { axes = c .axes; template = c .template ++ (l ∷ []); spares = c .spares; extras = c .extras; items = c .items; areas = c .areas; rows = c .rows }) y
   template-agrees t y w e =
       rw (w .kept)
       (record {
@@ -374,5 +376,29 @@ module _ (a : Axis) (c : Chosen) (x : AxisView) (agrees : AxisAgrees a c x) (l :
     marks = agrees .marks;
     areas =
         ap₂ max (agrees .areas) e
-        ∙ sym (ap largest (map-append (spanIn a) (c .areas) (l ∷ [])) ∙ largest-more (map (spanIn a) (c .areas)) (spanIn a l));
+        ∙ joined (drawnIn a (map wordsIn (c .rows))) (largest (map (spanIn a) (c .areas))) (spanIn a l)
+        ∙ ap (max (drawnIn a (map wordsIn (c .rows)))) (sym (ap largest (map-append (spanIn a) (c .areas) (l ∷ [])) ∙ largest-more (map (spanIn a) (c .areas)) (spanIn a l)));
   }
+    where
+      joined : (m n k : ℕ) → max (max m n) k ≡ max m (max n k)
+      joined m n k = omega arith
+
+  -- a row, whatever its second field is
+  pub row-agrees : (b : Bool) (n : ℕ) → max (drawnIn a (map wordsIn (c .rows))) (n - 1) ≡ drawnIn a (map wordsIn (c .rows ++ (l ∷ []))) → AxisAgrees a (grown row b c l) (raised x n)
+  unfolding same more
+  row-agrees b n e = record {
+    line = agrees .line;
+    template = agrees .template;
+    spares = agrees .spares;
+    negative = agrees .negative;
+    positive = agrees .positive;
+    held = agrees .held;
+    marks = agrees .marks;
+    areas =
+        ap (λ (m : ℕ). max m (n - 1)) (agrees .areas)
+        ∙ turned (drawnIn a (map wordsIn (c .rows))) (largest (map (spanIn a) (c .areas))) (n - 1)
+        ∙ ap (λ (m : ℕ). max m (largest (map (spanIn a) (c .areas)))) e;
+  }
+    where
+      turned : (m n k : ℕ) → max (max m n) k ≡ max (max m k) n
+      turned m n k = omega arith

@@ -12,7 +12,7 @@ use Rattle.text.specs.Split.{split}
 use Rattle.panel_tables.specs.View.{PanelView, emptyView}
 use Rattle.sheet_rules.specs.declared.Overlap.{Overlap}
 use Rattle.sheet_rules.specs.Lines.{sharedAt, lineStep}
-use Rattle.sheet_rules.specs.Sheet.{Outcome, outcome, run, displayOf, noOverlap, overlapAt, overlapFrom, overlapOf, chosen, sheetOf}
+use Rattle.sheet_rules.specs.Sheet.{Outcome, outcome, run, foldOf, brokenOf, displayOf, noOverlap, overlapAt, overlapFrom, overlapOf, chosen, sheetOf}
 
 pub accepted-former : (s : List ℕ) → sheetOf s .fault ≡ 0 → (overlapOf s .later ≡ 0) × (displayOf s .fault ≡ 0)
 unfolding sheetOf
@@ -21,6 +21,30 @@ accepted-former s = go (eqb (overlapOf s .later) 0) refl
     go : (t : Bool) → eqb (overlapOf s .later) 0 ≡ t → cond t (displayOf s .fault) 12 ≡ 0 → (overlapOf s .later ≡ 0) × (displayOf s .fault ≡ 0)
     go true e z = (eqb-true (overlapOf s .later) 0 e, z)
     go false e z = absurd (omega arith)
+
+-- nor a broken picture
+pub display-former : (s : List ℕ) → displayOf s .fault ≡ 0 → (brokenOf s ≡ 0) × (foldOf s .fault ≡ 0)
+unfolding displayOf
+display-former s = go (eqb (brokenOf s) 0) refl
+  where
+    go : (t : Bool) → eqb (brokenOf s) 0 ≡ t → cond t (foldOf s .fault) 14 ≡ 0 → (brokenOf s ≡ 0) × (foldOf s .fault ≡ 0)
+    go true e z = (eqb-true (brokenOf s) 0 e, z)
+    go false e z = absurd (omega arith)
+
+-- without one the display call comes to what the lines come to
+pub whole-outcome : (s : List ℕ) → brokenOf s ≡ 0 → displayOf s ≡ foldOf s
+unfolding displayOf
+whole-outcome s e = rw (eq-eqb (brokenOf s) 0 e)
+
+-- with one a sheet is refused by 14, at the last row's line
+pub broken-refused : (s : List ℕ) → (brokenOf s ≡ 0 → ⊥) → (displayOf s .fault ≡ 14) × (displayOf s .line ≡ brokenOf s)
+unfolding displayOf
+broken-refused s h = rw (ne-eqb (brokenOf s) 0 h) (refl, refl)
+
+-- the view is the lines' either way
+pub display-view : (s : List ℕ) → displayOf s .view ≡ foldOf s .view
+unfolding displayOf
+display-view s = refl
 
 -- without an overlap a sheet comes to what it came to before
 pub former-outcome : (s : List ℕ) → overlapOf s .later ≡ 0 → sheetOf s ≡ displayOf s

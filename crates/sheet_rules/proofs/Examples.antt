@@ -18,15 +18,20 @@ use Rattle.template_rules.specs.Repetitions.{fittingOf, heldOf, repetitionsOf}
 use Rattle.template_rules.specs.Whole.{floorOf, ceilingOf}
 use Rattle.name_rules.specs.Template.{repeated, passed, ruleFrom}
 use Rattle.sheet_forms.specs.Faults.{rankOf, firstOf}
-use Rattle.sheet_forms.specs.Fields.{axisOf, ruleOf, countOf, repetitionOf, codes, nameFault}
+use Rattle.sheet_forms.specs.Fields.{axisOf, ruleOf, countOf, repetitionOf, codes, nameFault, wordFault, wordsFault, rowFault}
 use Rattle.sheet_forms.specs.Sizes.{kindOf, sizeOf, innerOf}
 use Rattle.sheet_forms.specs.Ends.{endKind, endName, endNumber, endOf}
-use Rattle.sheet_forms.specs.Records.{axisLine, areaLine, nameLine, sizesLine, repeatLine, endLine, extraLine, itemLine, placeLine, byKind, recordOf}
+use Rattle.sheet_forms.specs.Records.{axisLine, areaLine, nameLine, sizesLine, repeatLine, endLine, extraLine, itemLine, placeLine, rowLine, fixedKind, byKind, recordOf}
 use Rattle.axis_tables.specs.View.{emptyAxis, trackStep, repeatStep, endStep, nameStep, spareStep, itemStep, extraStep, axisStep, AxisView}
 use Rattle.panel_tables.specs.View.{emptyView, areaStep, placeStep}
 use Rattle.panel_cells.specs.Steps.{shares, sharingFrom}
+use Rattle.picture_rules.specs.Picture.{allDots, isDots}
+use Rattle.picture_rules.specs.Steps.{withWord, runsOf, drawn, fits, runStep, runsFrom, rowStep, rowsFrom}
+use Rattle.sheet_rules.specs.Kinds.{isKind, rowFollows}
+use Rattle.sheet_rules.specs.Contents.{linesFrom}
+use Rattle.sheet_rules.specs.Pictures.{pictureStep}
 use Rattle.sheet_rules.specs.Lines.{recordStep, recordFault, strictFault, lineFault, sharedAt, lineStep}
-use Rattle.sheet_rules.specs.Sheet.{sizeOf as templateSize, counted, explicitOf, entriesOf, endFault, ended, run, displayOf, overlapFrom, overlapOf, sheetOf, Outcome}
+use Rattle.sheet_rules.specs.Sheet.{sizeOf as templateSize, counted, explicitOf, entriesOf, endFault, ended, run, foldOf, brokenAt, brokenFrom, brokenOf, displayOf, overlapFrom, overlapOf, sheetOf, Outcome}
 
 -- repetitions, explicit count and name entries of an axis
 pub record Size : Type 0 where
@@ -109,14 +114,38 @@ cases =
     ∷ accepted (114 ∷ 101 ∷ 112 ∷ 101 ∷ 97 ∷ 116 ∷ 9 ∷ 99 ∷ 9 ∷ 52 ∷ 48 ∷ 57 ∷ 55 ∷ 10 ∷ 110 ∷ 97 ∷ 109 ∷ 101 ∷ 9 ∷ 99 ∷ 9 ∷ 120 ∷ 10 ∷ 101 ∷ 110 ∷ 100 ∷ 9 ∷ 99 ∷ 10 ∷ []) (size 0 0 0) (size 0 0 0)
     -- names without any track, beside rows whose names count
     ∷ accepted (110 ∷ 97 ∷ 109 ∷ 101 ∷ 9 ∷ 99 ∷ 9 ∷ 120 ∷ 10 ∷ 110 ∷ 97 ∷ 109 ∷ 101 ∷ 9 ∷ 114 ∷ 9 ∷ 121 ∷ 10 ∷ 116 ∷ 114 ∷ 97 ∷ 99 ∷ 107 ∷ 9 ∷ 114 ∷ 9 ∷ 97 ∷ 117 ∷ 116 ∷ 111 ∷ 9 ∷ 48 ∷ 48 ∷ 48 ∷ 48 ∷ 48 ∷ 48 ∷ 48 ∷ 48 ∷ 9 ∷ 97 ∷ 117 ∷ 116 ∷ 111 ∷ 9 ∷ 48 ∷ 48 ∷ 48 ∷ 48 ∷ 48 ∷ 48 ∷ 48 ∷ 48 ∷ 10 ∷ 110 ∷ 97 ∷ 109 ∷ 101 ∷ 9 ∷ 114 ∷ 9 ∷ 122 ∷ 10 ∷ []) (size 0 0 0) (size 0 1 2)
+    -- area pictures (document 02, request 07)
+    -- a picture whose second row breaks it, then a line of no form and one more row of it: the line of no form comes first
+    ∷ is (114 ∷ 111 ∷ 119 ∷ 9 ∷ 97 ∷ 9 ∷ 46 ∷ 9 ∷ 97 ∷ 10 ∷ 106 ∷ 117 ∷ 110 ∷ 107 ∷ 10 ∷ 114 ∷ 111 ∷ 119 ∷ 9 ∷ 97 ∷ 9 ∷ 97 ∷ 9 ∷ 97 ∷ 10 ∷ []) 1 2
+    -- the same with a line of a later kind between: the last row not late is the first
+    ∷ is (114 ∷ 111 ∷ 119 ∷ 9 ∷ 97 ∷ 9 ∷ 46 ∷ 9 ∷ 97 ∷ 10 ∷ 110 ∷ 97 ∷ 109 ∷ 101 ∷ 9 ∷ 99 ∷ 9 ∷ 120 ∷ 10 ∷ 114 ∷ 111 ∷ 119 ∷ 9 ∷ 97 ∷ 9 ∷ 97 ∷ 9 ∷ 97 ∷ 10 ∷ []) 14 1
+    -- 14 stands at the last row, not at the first that breaks, and comes before a later fault
+    ∷ is (114 ∷ 111 ∷ 119 ∷ 9 ∷ 97 ∷ 9 ∷ 46 ∷ 9 ∷ 97 ∷ 10 ∷ 106 ∷ 117 ∷ 110 ∷ 107 ∷ 10 ∷ []) 14 1
+    ∷ is (114 ∷ 111 ∷ 119 ∷ 9 ∷ 97 ∷ 9 ∷ 46 ∷ 9 ∷ 97 ∷ 10 ∷ 114 ∷ 111 ∷ 119 ∷ 9 ∷ 98 ∷ 9 ∷ 46 ∷ 9 ∷ 98 ∷ 10 ∷ 114 ∷ 111 ∷ 119 ∷ 9 ∷ 97 ∷ 9 ∷ 97 ∷ 9 ∷ 97 ∷ 10 ∷ 101 ∷ 120 ∷ 116 ∷ 114 ∷ 97 ∷ 9 ∷ 99 ∷ 9 ∷ 48 ∷ 9 ∷ 48 ∷ 10 ∷ []) 14 3
+    -- and before what comes after the last line
+    ∷ is (114 ∷ 111 ∷ 119 ∷ 9 ∷ 97 ∷ 9 ∷ 46 ∷ 9 ∷ 97 ∷ 10 ∷ 114 ∷ 101 ∷ 112 ∷ 101 ∷ 97 ∷ 116 ∷ 9 ∷ 99 ∷ 9 ∷ 50 ∷ 10 ∷ []) 14 1
+    -- an unended last line is no row
+    ∷ is (114 ∷ 111 ∷ 119 ∷ 9 ∷ 97 ∷ 9 ∷ 46 ∷ 9 ∷ 97 ∷ 10 ∷ 114 ∷ 111 ∷ 119 ∷ 9 ∷ 97 ∷ 9 ∷ 97 ∷ 9 ∷ 97 ∷ []) 14 1
+    -- another width is 13 at its own line, before 14
+    ∷ is (114 ∷ 111 ∷ 119 ∷ 9 ∷ 97 ∷ 9 ∷ 46 ∷ 9 ∷ 97 ∷ 10 ∷ 114 ∷ 111 ∷ 119 ∷ 9 ∷ 97 ∷ 9 ∷ 97 ∷ 10 ∷ 114 ∷ 111 ∷ 119 ∷ 9 ∷ 98 ∷ 9 ∷ 98 ∷ 9 ∷ 98 ∷ 10 ∷ []) 13 2
+    -- a row after an area record, an area record after a row, a name that the picture has
+    ∷ is (97 ∷ 114 ∷ 101 ∷ 97 ∷ 9 ∷ 97 ∷ 9 ∷ 49 ∷ 9 ∷ 50 ∷ 9 ∷ 49 ∷ 9 ∷ 50 ∷ 10 ∷ 114 ∷ 111 ∷ 119 ∷ 9 ∷ 98 ∷ 10 ∷ []) 7 2
+    ∷ is (114 ∷ 111 ∷ 119 ∷ 9 ∷ 98 ∷ 10 ∷ 97 ∷ 114 ∷ 101 ∷ 97 ∷ 9 ∷ 97 ∷ 9 ∷ 49 ∷ 9 ∷ 50 ∷ 9 ∷ 49 ∷ 9 ∷ 50 ∷ 10 ∷ []) 7 2
+    ∷ is (114 ∷ 111 ∷ 119 ∷ 9 ∷ 98 ∷ 10 ∷ 97 ∷ 114 ∷ 101 ∷ 97 ∷ 9 ∷ 98 ∷ 9 ∷ 49 ∷ 9 ∷ 50 ∷ 9 ∷ 49 ∷ 9 ∷ 50 ∷ 10 ∷ []) 6 2
+    -- an axis record after a row
+    ∷ is (114 ∷ 111 ∷ 119 ∷ 9 ∷ 98 ∷ 10 ∷ 97 ∷ 120 ∷ 105 ∷ 115 ∷ 9 ∷ 99 ∷ 9 ∷ 45 ∷ 9 ∷ 109 ∷ 97 ∷ 120 ∷ 9 ∷ 108 ∷ 101 ∷ 110 ∷ 9 ∷ 48 ∷ 48 ∷ 48 ∷ 48 ∷ 48 ∷ 48 ∷ 48 ∷ 48 ∷ 10 ∷ []) 7 2
+    -- a picture of two areas around an empty cell
+    ∷ accepted (114 ∷ 111 ∷ 119 ∷ 9 ∷ 97 ∷ 9 ∷ 97 ∷ 9 ∷ 98 ∷ 10 ∷ 114 ∷ 111 ∷ 119 ∷ 9 ∷ 46 ∷ 9 ∷ 46 ∷ 9 ∷ 98 ∷ 10 ∷ []) (size 0 3 0) (size 0 2 0)
+    -- rows of dots alone raise the counts too
+    ∷ accepted (97 ∷ 120 ∷ 105 ∷ 115 ∷ 9 ∷ 99 ∷ 9 ∷ 45 ∷ 9 ∷ 109 ∷ 97 ∷ 120 ∷ 9 ∷ 108 ∷ 101 ∷ 110 ∷ 9 ∷ 48 ∷ 48 ∷ 48 ∷ 48 ∷ 48 ∷ 48 ∷ 48 ∷ 48 ∷ 10 ∷ 114 ∷ 111 ∷ 119 ∷ 9 ∷ 46 ∷ 46 ∷ 9 ∷ 46 ∷ 9 ∷ 46 ∷ 46 ∷ 46 ∷ 9 ∷ 46 ∷ 10 ∷ 114 ∷ 111 ∷ 119 ∷ 9 ∷ 46 ∷ 9 ∷ 46 ∷ 9 ∷ 46 ∷ 9 ∷ 46 ∷ 10 ∷ []) (size 0 4 0) (size 0 2 0)
     ∷ []
 
 pub worked : T (every cases)
 unfolding every right cases
     split onto same index digitsOf naturalOf nonNegative negative wholeOf countIn indexIn bitsFrom bitsOf
     upTo minimumKind largestOf valueInRange lengthInRange floatUpTo sizingOfKind sizingOf rankOf firstOf axisOf ruleOf countOf repetitionOf codes nameFault
-    kindOf sizeOf innerOf endKind endName endNumber endOf axisLine areaLine nameLine sizesLine repeatLine endLine extraLine itemLine placeLine byKind recordOf
+    kindOf sizeOf innerOf endKind endName endNumber endOf axisLine areaLine nameLine sizesLine repeatLine endLine extraLine itemLine placeLine rowLine fixedKind byKind recordOf
     emptyAxis trackStep repeatStep endStep nameStep spareStep itemStep extraStep axisStep emptyView areaStep placeStep
     templateSizeOf outsideCount automaticCount beforeCount automaticTracks anyEmpty allFixed everyFixed outsideSpace repetitionSpace fittingOf heldOf repetitionsOf floorOf ceilingOf
-    repeated passed ruleFrom recordStep recordFault lineStep shares sharingFrom strictFault lineFault sharedAt templateSize counted entriesOf endFault ended run displayOf overlapFrom overlapOf sheetOf ofBits add sub mul div lt ofInt
+    repeated passed ruleFrom recordStep recordFault lineStep shares sharingFrom strictFault lineFault sharedAt templateSize counted entriesOf endFault ended run foldOf brokenAt brokenFrom brokenOf displayOf overlapFrom isKind rowFollows linesFrom pictureStep allDots isDots wordFault wordsFault rowFault withWord runsOf drawn fits runStep runsFrom rowStep rowsFrom overlapOf sheetOf ofBits add sub mul div lt ofInt
 worked = tt

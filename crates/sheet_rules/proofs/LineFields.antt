@@ -7,7 +7,7 @@ use mathlib.Core.Logic.{⊎-elim}
 use native.Mathlib.Omega.{arith}
 use lib.Dec.{eqb, leb, ltb}
 use lib.IntN.{pos, negsuc}
-use lib.ListN.{length, getD}
+use lib.ListN.{length, getD, drop}
 use borrow.Author.Tests.{eq-eqb, ne-eqb}
 use Rattle.sizing.specs.Ranges.{valueInRange, lengthInRange}
 use Rattle.sizing.specs.Words.{sizeWordOf}
@@ -21,7 +21,7 @@ use Rattle.text.specs.declared.Index.the-variants.{Outside as OutsideIndex, Val
 use Rattle.sheet_forms.specs.declared.NumberField.{NumberField}
 use Rattle.text.specs.declared.Bits.the-variants.{Unread, Value}
 use Rattle.sheet_forms.specs.declared.Record.{Record}
-use Rattle.sheet_forms.specs.declared.Record.the-variants.{Fault, Axis as AxisLine, Area, Name, Track, Repeat, End, Spare, Extra, Item, Place}
+use Rattle.sheet_forms.specs.declared.Record.the-variants.{Fault, Axis as AxisLine, Area, Name, Track, Repeat, End, Spare, Extra, Item, Place, PictureRow}
 use Rattle.sheet_forms.specs.declared.RepeatRecord.{RepeatRecord}
 use Rattle.sheet_forms.specs.declared.AxisRecord.{AxisRecord}
 use Rattle.sheet_forms.specs.declared.PlaceEnd.{PlaceEnd}
@@ -33,11 +33,11 @@ use Rattle.sheet_forms.specs.declared.SizeField.{SizeField}
 use Rattle.sheet_forms.specs.declared.InnerField.{InnerField}
 use Rattle.sheet_forms.specs.Words.{at, dash, nought, kindWords, sizeWords, ruleWords, repeatWords, endWords}
 use Rattle.sheet_forms.specs.Faults.{firstOf}
-use Rattle.sheet_forms.specs.Fields.{good, faulty, wordOf, countField, axisOf, ruleOf, countOf, repetitionOf, repetitionAt, nameFault}
+use Rattle.sheet_forms.specs.Fields.{good, faulty, wordOf, countField, axisOf, ruleOf, countOf, repetitionOf, repetitionAt, nameFault, rowFault}
 use Rattle.sheet_forms.specs.Sizes.{allowedAt, faultySize, sizeField, sizeOf, kindOf, innerField, noInner, someInner, innerOf}
 use Rattle.sheet_forms.specs.Ends.{endKind, endName, endNumber, indexField, faultyNumber, spanField, unusedNumber, endOf}
-use Rattle.sheet_forms.specs.Records.{unless, edgesOf, madeAxis, madeArea, madeName, madeSizes, madeRepeat, madeEnd, madeExtra, madeItem, madePlace, axisLine, areaLine, nameLine, sizesLine, repeatLine, endLine, extraLine, itemLine, placeLine, recordOf}
-use Rattle.sheet_forms.specs.Forms.{Kind, axis, area, name, track, repeat, end, spare, extra, item, place}
+use Rattle.sheet_forms.specs.Records.{unless, edgesOf, madeAxis, madeArea, madeName, madeSizes, madeRepeat, madeEnd, madeExtra, madeItem, madePlace, axisLine, areaLine, nameLine, sizesLine, repeatLine, endLine, extraLine, itemLine, placeLine, rowLine, recordOf}
+use Rattle.sheet_forms.specs.Forms.{Kind, axis, area, name, track, repeat, end, spare, extra, item, place, row}
 use Rattle.sheet_forms.proofs.Firsts.{none-or-some, first-zero}
 use Rattle.sheet_forms.proofs.FieldRows.{below-or}
 use Rattle.sheet_forms.proofs.LineRows.{kindAt, number-back}
@@ -231,6 +231,7 @@ Reads fs (Spare a low high) = (low ≡ sizeIn (at fs 2) (at fs 3)) × (high ≡ 
 Reads fs (Extra a n p) = (n ≡ countIn (at fs 2)) × (p ≡ countIn (at fs 3))
 Reads fs (Item a i) = i ≡ countIn (at fs 2)
 Reads fs (Place a s e) = EndReads (at fs 2) (at fs 4) s × EndReads (at fs 5) (at fs 7) e
+Reads fs (PictureRow n) = Unit {0}
 
 unless-reads : (fs : Line) (n : ℕ) (r : Record) → (n ≡ 0 → Reads fs r) → Reads fs (unless n r)
 unless-reads fs n r h = ⊎-elim (λ e. rw (eq-eqb n 0 e) (h e)) (λ k. rw (ne-eqb n 0 k) k) (none-or-some n)
@@ -258,7 +259,7 @@ sizes-reads fs isSpare a low high p q =
     go false h = h
 
 line-reads : (k : Kind) (fs : Line) → Reads fs (lineOf k fs)
-unfolding axisLine areaLine nameLine sizesLine repeatLine endLine extraLine itemLine placeLine
+unfolding axisLine areaLine nameLine sizesLine repeatLine endLine extraLine itemLine placeLine rowLine
 line-reads axis fs =
     let a = axisOf (at fs 1) in
     let i = innerOf (at fs 2) in
@@ -331,6 +332,11 @@ line-reads place fs =
     (unless-reads fs (firstOf (a .fault) (firstOf (s .fault) (e .fault))) (Place (a .axis) (s .end) (e .end))
     (λ z. let y = first-zero (s .fault) (e .fault) (first-zero (a .fault) (firstOf (s .fault) (e .fault)) z .1) in
     (end-value (at fs 2) (at fs 3) (at fs 4) (y .0), end-value (at fs 5) (at fs 6) (at fs 7) (y .1))))
+line-reads row fs = go (ltb (length fs) 2)
+  where
+    go : (t : Bool) → Reads fs (cond t (Fault 1) (unless (rowFault (drop 1 fs)) (PictureRow (length (drop 1 fs)))))
+    go true = not-zero 0
+    go false = unless-reads fs (rowFault (drop 1 fs)) (PictureRow (length (drop 1 fs))) (λ z. tt)
 
 -- every line
 pub record-reads : (fs : Line) → Reads fs (recordOf fs)
@@ -341,4 +347,4 @@ record-reads fs =
     let w = index-word (at fs 0) kindWords h ∙ ap (λ (i : ℕ). getD kindWords i []) (sym (number-back (index (at fs 0) kindWords) h)) in
     subst (Reads fs) (sym (line-record k fs w)) (line-reads k fs))
     (λ h. subst (Reads fs) (sym (no-record fs h)) (not-zero 0))
-    (below-or (index (at fs 0) kindWords) 10)
+    (below-or (index (at fs 0) kindWords) 11)

@@ -9,20 +9,28 @@ use native.Mathlib.Omega.{arith}
 use lib.Dec.{eqb, ltb}
 use borrow.Author.Tests.{le-ltb, eqb-true, eqb-false}
 use Rattle.sheet_forms.specs.declared.Record.{Record}
-use Rattle.sheet_forms.specs.declared.Record.the-variants.{Fault, Axis as AxisLine, Area, Name, Track, Repeat, End, Spare, Extra, Item, Place}
+use Rattle.sheet_forms.specs.declared.Record.the-variants.{Fault, Axis as AxisLine, Area, Name, Track, Repeat, End, Spare, Extra, Item, Place, PictureRow}
 use Rattle.sheet_forms.specs.Faults.{rankOf, firstOf, FirstBy, noRow, firstRow}
 use Rattle.sheet_forms.specs.Records.{recordOf, faultOf}
-use Rattle.sheet_forms.specs.Forms.{Kind, axis, area, name, track, repeat, end, spare, extra, item, place, Of}
+use Rattle.sheet_forms.specs.Forms.{Kind, axis, area, name, track, repeat, end, spare, extra, item, place, row, Of}
 use Rattle.sheet_forms.proofs.Firsts.{firsts-by, first-same, first-unique, first-none, first-left, first-joined, first-without}
 use Rattle.sheet_forms.proofs.Bounds.{Bounded}
 use Rattle.sheet_forms.proofs.Theorem.{record-bounded}
 use Rattle.panel_tables.specs.View.{PanelView, PanelOutcome, refused, accepted}
-use Rattle.sheet_rules.specs.Lines.{recordStep, twiceFault, stageOf, lateFault, sharedWith, overlapFault, recordFault, strictFault, lineFault, sharedAt, recordOutcome, lineStep}
-use Rattle.sheet_rules.specs.Rows.{MisnestedBy, TwiceBy, LateBy, CrowdedBy, AtKind, Row, unread, badName, badValue, badCount, badArea, twice, late, crowded, overlap, numberOf, Holds, First}
+use Rattle.sheet_rules.specs.Lines.{lateAt, recordStep, twiceFault, stageOf, lateFault, sharedWith, overlapFault, recordFault, strictFault, lineFault, sharedAt, recordOutcome, lineStep}
+use Rattle.sheet_rules.specs.Rows.{MisnestedBy, TwiceBy, LateBy, CrowdedBy, AtKind, Row, unread, badName, badValue, badCount, badArea, twice, late, crowded, overlap, unequal, broken, numberOf, Holds, First}
 use Rattle.sheet_rules.proofs.LineFields.{record-reads, Reads}
 use Rattle.sheet_rules.proofs.Says.{Says, record-says}
 use Rattle.sheet_rules.proofs.Only.{Only, OwnRows, own-first, some-number}
-use Rattle.sheet_rules.proofs.LineRows.{IsRecord, TwiceRow, LateRow, OverlapRow, StepRow, twice-first, late-first, overlap-first, step-first}
+use Rattle.sheet_rules.proofs.LineRows.{late-yes, IsRecord, TwiceRow, LateRow, OverlapRow, StepRow, twice-first, late-first, overlap-first, step-first}
+
+-- a place in the kind order is not late after itself
+never-late : (n : ℕ) → lateAt n n ≡ false
+never-late n = go (lateAt n n) refl
+  where
+    go : (t : Bool) → lateAt n n ≡ t → t ≡ false
+    go true e = absurd (⊎-elim (λ l. omega (arith, l)) (λ (p, q). omega (arith, p, q)) (late-yes n n e))
+    go false e = refl
 
 module _ (v : PanelView) (fs : List (List ℕ)) where
   -- ---- a line that is a record
@@ -40,6 +48,8 @@ module _ (v : PanelView) (fs : List (List ℕ)) where
   own-to late x = absurd x
   own-to crowded x = absurd x
   own-to overlap x = absurd x
+  own-to unequal x = absurd x
+  own-to broken x = absurd x
 
   all-to : (r : Row) → AllRows r → Holds v fs r
   all-to r (inl (inl x)) = own-to r x
@@ -47,7 +57,8 @@ module _ (v : PanelView) (fs : List (List ℕ)) where
   all-to r (inl (inr (inr (e, x)))) = subst (Holds v fs) (sym e) x
   all-to r (inr (inl (e, x))) = subst (Holds v fs) (sym e) x
   all-to r (inr (inr (inl (e, x)))) = subst (Holds v fs) (sym e) (inr x)
-  all-to r (inr (inr (inr (e, x)))) = subst (Holds v fs) (sym e) x
+  all-to r (inr (inr (inr (inl (e, x))))) = subst (Holds v fs) (sym e) x
+  all-to r (inr (inr (inr (inr (e, x))))) = subst (Holds v fs) (sym e) x
 
   all-not : (r : Row) → (AllRows r → ⊥) → Holds v fs r → ⊥
   all-not unread h (inl x) = h (inl (inl x))
@@ -58,8 +69,10 @@ module _ (v : PanelView) (fs : List (List ℕ)) where
   all-not badArea h x = h (inl (inl x))
   all-not twice h x = h (inl (inr (inl (refl, x))))
   all-not late h x = h (inl (inr (inr (refl, x))))
-  all-not crowded h x = h (inr (inr (inr (refl, x))))
+  all-not crowded h x = h (inr (inr (inr (inl (refl, x)))))
   all-not overlap h x = h (inr (inl (refl, x)))
+  all-not unequal h x = h (inr (inr (inr (inr (refl, x)))))
+  all-not broken h x = x
 
   record-row : (r : Record) → recordOf fs ≡ r → IsRecord r → First (Holds v fs) (strictFault v fs r)
   unfolding strictFault
@@ -77,7 +90,7 @@ module _ (v : PanelView) (fs : List (List ℕ)) where
 
   fault-fault : (n : ℕ) → strictFault v fs (Fault n) ≡ n
   unfolding strictFault recordStep firstOf
-  fault-fault n = rw (le-ltb (v .stage) (v .stage) (omega arith)) (first-none (firstOf n 0) ∙ first-none n)
+  fault-fault n = rw (never-late (v .stage)) (first-none (firstOf n 0) ∙ first-none n)
 
   -- a line of those kinds that is none is unread
   not-misnested : (n : ℕ) → Says fs (Fault n) → (n ≡ 1 → ⊥) → AtKind MisnestedBy v fs → ⊥
@@ -91,6 +104,7 @@ module _ (v : PanelView) (fs : List (List ℕ)) where
   not-misnested n (r, e) h (extra, o, x) = x
   not-misnested n (r, e) h (item, o, x) = x
   not-misnested n (r, e) h (place, o, x) = x
+  not-misnested n (r, e) h (row, o, x) = x
 
   fault-row : (n : ℕ) → Says fs (Fault n) → (n ≡ 0 → ⊥) → First (OwnRows fs) n → First (Holds v fs) n
   unfolding rankOf
@@ -107,6 +121,8 @@ module _ (v : PanelView) (fs : List (List ℕ)) where
       few late x = absurd x
       few crowded x = absurd x
       few overlap x = absurd x
+      few unequal x = absurd x
+      few broken x = absurd x
 
       lower : (r : Row) → n ≡ numberOf r → OwnRows fs r → ((q : Row) → rankOf (numberOf q) < rankOf (numberOf r) → OwnRows fs q → ⊥)
           → (q : Row) → rankOf (numberOf q) < rankOf (numberOf r) → Holds v fs q → ⊥
@@ -120,6 +136,8 @@ module _ (v : PanelView) (fs : List (List ℕ)) where
       lower r e h l late m x = omega (arith, m, few r h)
       lower r e h l crowded m x = omega (arith, m, few r h)
       lower r e h l overlap m x = omega (arith, m, few r h)
+      lower r e h l unequal m x = omega (arith, m, few r h)
+      lower r e h l broken m x = x
 
   -- ---- every line
 
@@ -138,6 +156,7 @@ module _ (v : PanelView) (fs : List (List ℕ)) where
   record-rows (Extra a n p) e = record-row (Extra a n p) e tt
   record-rows (Item a i) e = record-row (Item a i) e tt
   record-rows (Place a s t) e = record-row (Place a s t) e tt
+  record-rows (PictureRow n) e = record-row (PictureRow n) e tt
 
   outcome-fault : (r : Record) → recordOutcome v fs r .fault ≡ recordFault v fs r
   outcome-fault r = go (eqb (recordFault v fs r) 0) _ _ refl

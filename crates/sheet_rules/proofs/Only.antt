@@ -8,7 +8,7 @@ use Rattle.sheet_forms.specs.Faults.{rankOf, FirstBy, noRow, firstRow}
 use Rattle.sheet_forms.specs.Records.{recordOf, faultOf}
 use Rattle.sheet_forms.specs.Rows.{Row as LineRow, unread as unread', badName as badName', badValue as badValue', badCount as badCount', badArea as badArea', numberOf as lineNumber, Holds as LineHolds, UnreadLine, BadName, BadValue, BadCount, BadArea}
 use Rattle.sheet_forms.proofs.Theorem.{record-first}
-use Rattle.sheet_rules.specs.Rows.{Row, unread, badName, badValue, badCount, badArea, twice, late, crowded, overlap, numberOf, First}
+use Rattle.sheet_rules.specs.Rows.{Row, unread, badName, badValue, badCount, badArea, twice, late, crowded, overlap, unequal, broken, numberOf, First}
 
 pub some-number : (r : Row) → numberOf r ≡ 0 → ⊥
 some-number unread z = omega arith
@@ -20,6 +20,8 @@ some-number twice z = omega arith
 some-number late z = omega arith
 some-number crowded z = omega arith
 some-number overlap z = omega arith
+some-number unequal z = omega arith
+some-number broken z = omega arith
 
 -- ---- one row
 
@@ -53,6 +55,8 @@ OwnRows fs twice = ⊥
 OwnRows fs late = ⊥
 OwnRows fs crowded = ⊥
 OwnRows fs overlap = ⊥
+OwnRows fs unequal = ⊥
+OwnRows fs broken = ⊥
 
 abbrev pub rowOf : LineRow → Row
 rowOf unread' = unread
@@ -86,6 +90,8 @@ no-own fs W h twice w x = x
 no-own fs W h late w x = x
 no-own fs W h crowded w x = x
 no-own fs W h overlap w x = x
+no-own fs W h unequal w x = x
+no-own fs W h broken w x = x
 
 own-lift : (fs : List (List ℕ)) {n : ℕ} → FirstBy lineNumber (LineHolds fs) n → First (OwnRows fs) n
 own-lift fs (noRow e h) = noRow e (λ q. no-own fs (λ (i : ℕ). Unit {0}) (λ r u. h r) q tt)

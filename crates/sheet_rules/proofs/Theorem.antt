@@ -17,10 +17,13 @@ use Rattle.sheet_forms.proofs.Firsts.{firsts-by, first-same}
 use Rattle.axis_tables.specs.View.{Unended, none, inside, AxisView}
 use Rattle.panel_tables.specs.View.{PanelView, emptyView}
 use Rattle.sheet_rules.specs.Lines.{lineFault, sharedAt, lineStep}
-use Rattle.sheet_rules.specs.Sheet.{explicitOf, entriesOf, openFault, countFault, entriesFault, axisFault, endFault, Outcome, outcome, ended, run, displayOf, noOverlap, overlapAt, overlapFrom, overlapOf, chosen, sheetOf}
-use Rattle.sheet_rules.specs.Rows.{Opened, Open, Row, unread, badName, badValue, badCount, badArea, twice, late, crowded, overlap, numberOf, Holds, HoldsAfter, HoldsLast, HoldsFrom, HoldsAt, First, FirstAt, Nowhere}
+use Rattle.sheet_rules.specs.Sheet.{explicitOf, entriesOf, openFault, countFault, entriesFault, axisFault, endFault, Outcome, outcome, ended, run, foldOf, brokenAt, brokenFrom, brokenOf, withBroken, displayOf, noOverlap, overlapAt, overlapFrom, overlapOf, chosen, sheetOf}
+use Rattle.sheet_rules.specs.Rows.{Opened, Open, Row, unread, badName, badValue, badCount, badArea, twice, late, crowded, overlap, unequal, broken, numberOf, Holds, HoldsLine, HoldsAfter, HoldsLast, HoldsFrom, HoldsAt, First, FirstAt, Nowhere}
 use Rattle.sheet_rules.proofs.Only.{Only, only-no, only-yes, only-if, some-number}
+use Rattle.sheet_rules.specs.Contents.{Line, linesFrom}
 use Rattle.sheet_rules.proofs.LineTheorem.{line-first, line-former, line-overlap}
+use Rattle.sheet_rules.proofs.Pictures.{broken-yes, broken-no, broken-stage}
+use Rattle.sheet_rules.proofs.Apart.{overlap-none}
 
 -- ---- the line after the last
 
@@ -61,6 +64,8 @@ module _ (v : PanelView) where
   after-not crowded h (inl x) = h (inl (inr (inr (refl, x))))
   after-not crowded h (inr x) = h (inr (inr (inr (refl, x))))
   after-not overlap h x = x
+  after-not unequal h x = x
+  after-not broken h x = x
 
   pub after-first : First (HoldsAfter v) (endFault v)
   unfolding endFault
@@ -119,47 +124,99 @@ unended-found (b ∷ l) from v = rw (ne-eqb (suc (length l)) 0 (λ e. omega arit
     lower : (q : Row) → rankOf (numberOf q) < rankOf 1 → q ≡ unread → ⊥
     lower q m e = omega (arith, m, ap (λ (x : Row). rankOf (numberOf x)) e)
 
--- what the lines are judged by: an overlap among them, or the outcome where that is no fault
+-- what the lines are judged by: an overlap among them, a broken picture, or the outcome where neither is a fault
 abbrev judged : ℕ → List (List ℕ) → PanelView → Outcome
-judged from ls v = chosen (overlapFrom from ls v) (run from ls v)
+judged from ls v = chosen (overlapFrom from ls v) (withBroken (brokenFrom from ls v) (run from ls v))
 
-run-found : (ls : List (List ℕ)) (from : ℕ) (v : PanelView) → Found (λ k. HoldsFrom k ls v) from (judged from ls v .fault) (judged from ls v .line)
-unfolding run overlapFrom
-run-found [] from v = ended-found (λ k. HoldsFrom k [] v) from v (λ r x. x) (λ r x. x) (λ k r x. x)
-run-found (l ∷ []) from v = unended-found l from v
-run-found (l ∷ m ∷ ls) from v = go (λ w. run-found (m ∷ ls) (from + 1) w) (eqb (sharedAt v (split 9 l)) 0) (eqb (lineStep v (split 9 l) .fault) 0) refl refl
+-- 14 comes last of the rows at one line
+last-rank : (r : Row) → rankOf 14 < rankOf (numberOf r) → ⊥
+unfolding rankOf
+last-rank unread m = omega arith
+last-rank badName m = omega arith
+last-rank badValue m = omega arith
+last-rank badCount m = omega arith
+last-rank badArea m = omega arith
+last-rank twice m = omega arith
+last-rank late m = omega arith
+last-rank crowded m = omega arith
+last-rank overlap m = omega arith
+last-rank unequal m = omega arith
+last-rank broken m = omega arith
+
+module _ (v : PanelView) (fs : Line) (after : List Line) where
+  -- a line with a fault of its own
+  line-more : {n : ℕ} → (n ≡ 0 → ⊥) → First (Holds v fs) n → First (HoldsLine v fs after) n
+  line-more z (noRow e h) = absurd (z e)
+  line-more z (firstRow r e h l) = firstRow r e (inl h) (λ q m. ⊎-elim (l q m) (λ (x, y). last-rank r (subst (λ (p : Row). rankOf (numberOf p) < rankOf (numberOf r)) x m)))
+
+  -- a line with none, that is the last row of a broken picture
+  line-broken : lineStep v fs .fault ≡ 0 → ((r : Row) → Holds v fs r → ⊥) → brokenAt (lineStep v fs .panel) fs after ≡ true → First (HoldsLine v fs after) 14
+  line-broken z h e =
+      firstRow broken refl (inr (refl, broken-yes v fs after z e)) (λ q m. ⊎-elim (h q) (λ (x, y). omega (arith, m, ap (λ (p : Row). rankOf (numberOf p)) x)))
+
+  -- and that is not
+  line-whole : lineStep v fs .fault ≡ 0 → ((r : Row) → Holds v fs r → ⊥) → brokenAt (lineStep v fs .panel) fs after ≡ false → (r : Row) → HoldsLine v fs after r → ⊥
+  line-whole z h e r = ⊎-elim (h r) (λ (x, y). broken-no v fs after z e y)
+
+run-found : (ls : List (List ℕ)) (from : ℕ) (v : PanelView) → 1 ≤ from → Found (λ k. HoldsFrom k ls v) from (judged from ls v .fault) (judged from ls v .line)
+unfolding run overlapFrom brokenFrom
+run-found [] from v one = ended-found (λ k. HoldsFrom k [] v) from v (λ r x. x) (λ r x. x) (λ k r x. x)
+run-found (l ∷ []) from v one = unended-found l from v
+run-found (l ∷ m ∷ ls) from v one =
+    go (λ w. run-found (m ∷ ls) (from + 1) w (omega arith)) (eqb (sharedAt v (split 9 l)) 0) (eqb (lineStep v (split 9 l) .fault) 0)
+    (brokenAt (lineStep v (split 9 l) .panel) (split 9 l) (linesFrom (m ∷ ls))) refl refl refl
   where
-    fs : List (List ℕ)
+    fs : Line
     fs = split 9 l
 
+    after : List Line
+    after = linesFrom (m ∷ ls)
+
+    next : PanelView
+    next = lineStep v fs .panel
+
     go : ((w : PanelView) → Found (λ k. HoldsFrom k (m ∷ ls) w) (from + 1) (judged (from + 1) (m ∷ ls) w .fault) (judged (from + 1) (m ∷ ls) w .line))
-        → (u t : Bool) → eqb (sharedAt v fs) 0 ≡ u → eqb (lineStep v fs .fault) 0 ≡ t
-        → let o = chosen (cond u (cond t (overlapFrom (from + 1) (m ∷ ls) (lineStep v fs .panel)) noOverlap) (overlapAt (sharedAt v fs) (length (v .areas)) from))
-        (cond t (run (from + 1) (m ∷ ls) (lineStep v fs .panel)) (outcome (lineStep v fs .fault) from v)) in
+        → (u t b : Bool) → eqb (sharedAt v fs) 0 ≡ u → eqb (lineStep v fs .fault) 0 ≡ t → brokenAt next fs after ≡ b
+        → let o = chosen (cond u (cond t (overlapFrom (from + 1) (m ∷ ls) next) noOverlap) (overlapAt (sharedAt v fs) (length (v .areas)) from))
+        (withBroken (cond t (cond b from (brokenFrom (from + 1) (m ∷ ls) next)) 0) (cond t (run (from + 1) (m ∷ ls) next) (outcome (lineStep v fs .fault) from v))) in
         Found (λ k. HoldsFrom k (l ∷ m ∷ ls) v) from (o .fault) (o .line)
-    go rest false t d e =
+    go rest false t b d e f =
         rw (ne-eqb (length (v .areas) + 1) 0 (λ z. omega arith))
-        (stopped from (subst (First (Holds v fs)) (line-overlap v fs (eqb-false (sharedAt v fs) 0 d)) (line-first v fs)) (λ z. omega arith))
-    go rest true true d e =
-        later from (none-holds (line-former v fs (eqb-true (sharedAt v fs) 0 d) ∙ eqb-true (lineStep v fs .fault) 0 e) (line-first v fs)) (rest (lineStep v fs .panel))
-    go rest true false d e =
-        stopped from (subst (First (Holds v fs)) (line-former v fs (eqb-true (sharedAt v fs) 0 d)) (line-first v fs)) (eqb-false (lineStep v fs .fault) 0 e)
+        (stopped from (line-more v fs after (λ z. omega arith) (subst (First (Holds v fs)) (line-overlap v fs (eqb-false (sharedAt v fs) 0 d)) (line-first v fs))) (λ z. omega arith))
+    go rest true true b d e f = pick b f
+      where
+        fine : lineStep v fs .fault ≡ 0
+        fine = eqb-true (lineStep v fs .fault) 0 e
+
+        none : (r : Row) → Holds v fs r → ⊥
+        none = none-holds (line-former v fs (eqb-true (sharedAt v fs) 0 d) ∙ fine) (line-first v fs)
+
+        pick : (b : Bool) → brokenAt next fs after ≡ b
+            → let o = chosen (overlapFrom (from + 1) (m ∷ ls) next) (withBroken (cond b from (brokenFrom (from + 1) (m ∷ ls) next)) (run (from + 1) (m ∷ ls) next)) in
+            Found (λ k. HoldsFrom k (l ∷ m ∷ ls) v) from (o .fault) (o .line)
+        pick true g =
+            rw (overlap-none (from + 1) (m ∷ ls) next (omega (arith, broken-stage v fs after fine g)), ne-eqb from 0 (λ z. omega arith))
+            (stopped from (line-broken v fs after fine none g) (λ z. omega arith))
+        pick false g = later from (line-whole v fs after fine none g) (rest next)
+    go rest true false b d e f =
+        let some = eqb-false (lineStep v fs .fault) 0 e in
+        stopped from (line-more v fs after some (subst (First (Holds v fs)) (line-former v fs (eqb-true (sharedAt v fs) 0 d)) (line-first v fs))) some
 
 -- ---- the sheet
 
 pub sheet-found : (s : List ℕ) → Found (HoldsAt s) 0 (sheetOf s .fault) (sheetOf s .line)
-unfolding sheetOf displayOf overlapOf
+unfolding sheetOf displayOf foldOf brokenOf overlapOf
 sheet-found s = go (ltb 32768 (length s)) refl
   where
     go : (t : Bool) → ltb 32768 (length s) ≡ t
-        → let o = chosen (cond t noOverlap (overlapFrom 1 (split 10 s) emptyView)) (cond t (outcome 1 0 emptyView) (run 1 (split 10 s) emptyView)) in
+        → let o = chosen (cond t noOverlap (overlapFrom 1 (split 10 s) emptyView)) (withBroken (cond t 0 (brokenFrom 1 (split 10 s) emptyView)) (cond t (outcome 1 0 emptyView) (run 1 (split 10 s) emptyView))) in
         Found (HoldsAt s) 0 (o .fault) (o .line)
     go true e =
         stopped 0 (firstRow unread refl (refl, ltb-true 32768 (length s) e) (λ q m (z, y). lower q m z)) (λ z. omega arith)
       where
         lower : (q : Row) → rankOf (numberOf q) < rankOf 1 → q ≡ unread → ⊥
         lower q m z = omega (arith, m, ap (λ (x : Row). rankOf (numberOf x)) z)
-    go false e = later 0 (λ r (z, y). omega (arith, ltb-false 32768 (length s) e, y)) (run-found (split 10 s) 1 emptyView)
+    go false e = later 0 (λ r (z, y). omega (arith, ltb-false 32768 (length s) e, y)) (run-found (split 10 s) 1 emptyView (omega arith))
 
 -- a sheet is accepted exactly if no row holds at any line
 pub accepted-exactly : (s : List ℕ) → (sheetOf s .fault ≡ 0) ↔ Nowhere (HoldsAt s)
@@ -185,7 +242,12 @@ rowAt (suc (suc (suc (suc (suc zero))))) = badArea
 rowAt (suc (suc (suc (suc (suc (suc zero)))))) = twice
 rowAt (suc (suc (suc (suc (suc (suc (suc zero))))))) = late
 rowAt (suc (suc (suc (suc (suc (suc (suc (suc zero)))))))) = crowded
-rowAt (suc (suc (suc (suc (suc (suc (suc (suc (suc n))))))))) = overlap
+rowAt (suc (suc (suc (suc (suc (suc (suc (suc (suc zero))))))))) = overlap
+rowAt (suc (suc (suc (suc (suc (suc (suc (suc (suc (suc zero)))))))))) = overlap
+rowAt (suc (suc (suc (suc (suc (suc (suc (suc (suc (suc (suc zero))))))))))) = overlap
+rowAt (suc (suc (suc (suc (suc (suc (suc (suc (suc (suc (suc (suc zero)))))))))))) = overlap
+rowAt (suc (suc (suc (suc (suc (suc (suc (suc (suc (suc (suc (suc (suc zero))))))))))))) = unequal
+rowAt (suc (suc (suc (suc (suc (suc (suc (suc (suc (suc (suc (suc (suc (suc n)))))))))))))) = broken
 
 row-back : (r : Row) → rowAt (numberOf r) ≡ r
 unfolding rowAt
@@ -198,6 +260,8 @@ row-back twice = refl
 row-back late = refl
 row-back crowded = refl
 row-back overlap = refl
+row-back unequal = refl
+row-back broken = refl
 
 same-row : (p q : Row) → numberOf p ≡ numberOf q → p ≡ q
 same-row p q e = sym (row-back p) ∙ ap rowAt e ∙ row-back q

@@ -6,7 +6,7 @@ use mathlib.Core.List.{List, [], _∷_, _++_, map}
 use mathlib.Core.Bool.{Bool, false, cond, _&&_, _||_}
 use lib.Dec.{eqb}
 use lib.IntN.{ℤ, pos, negsuc}
-use lib.ListN.{length, getD}
+use lib.ListN.{length, getD, drop}
 use Rattle.coordinates.specs.declared.axis.Axis.{Axis}
 use Rattle.coordinates.specs.declared.axis.Axis.the-variants.{Column, Row}
 use Rattle.sizing.specs.Words.{sizeWordOf}
@@ -17,10 +17,12 @@ use Rattle.text.specs.declared.Bits.{Bits}
 use Rattle.text.specs.declared.Bits.the-variants.{Unread, Value}
 use Rattle.sheet_forms.specs.Words.{at, dash, axisWords, kindWords, sizeWords, ruleWords, repeatWords, endWords}
 use Rattle.sheet_forms.specs.Ends.{usesName}
-use Rattle.sheet_forms.specs.Forms.{Kind, axis, area, name, track, repeat, end, spare, extra, item, place, kindNumber}
+use Rattle.sheet_forms.specs.Forms.{Kind, axis, area, name, track, repeat, end, spare, extra, item, place, row, kindNumber}
 use Rattle.axis_tables.specs.View.{Sizes, Piece, name as aName, track as aTrack, Item, single, repeat as aRepeat, none, AxisLine, AxisView, noLine, tracksOf, nameOf, axisNames}
 use Rattle.panel_tables.specs.View.{Area, End, Placement, PanelView}
 use Rattle.panel_tables.specs.Axes.{viewIn}
+use Rattle.picture_rules.specs.Picture.{Word, Picture, widthOf}
+use Rattle.sheet_rules.specs.Pictures.{areasOf}
 
 -- ---- which lines
 
@@ -131,6 +133,19 @@ areaIn l =
       };
     }
 
+-- "`row` and then its words parted by tabs"
+abbrev pub wordsIn : Line → List Word
+wordsIn l = drop 1 l
+
+-- the rows of a picture, in order
+abbrev pub pictureIn : List Line → Picture
+pictureIn ls = map wordsIn (linesWith row ls)
+
+-- the tracks that a picture needs on an axis: "the rows and their width"
+abbrev pub drawnIn : Axis → Picture → ℕ
+drawnIn Column p = widthOf p
+drawnIn Row p = length p
+
 -- the tracks that an area needs on an axis: its end - 1
 abbrev pub spanIn : Axis → Line → ℕ
 spanIn Column l = countIn (at l 5) - 1
@@ -205,10 +220,12 @@ pub record AxisSays (a : Axis) (ls : List Line) (x : AxisView) : Type 0 where
   -- a byte for each track index, 0 to 29,999: 1 exactly where an `item` line has that index
   pub bytes : length (x .marks) ≡ 30000
   pub marks : (i : ℕ) → i < 30000 → getD (x .marks) i 0 ≡ cond (isAmong i (map (λ l. countIn (at l 2)) (linesIn item a ls))) 1 0
-  -- "largest area end - 1"
-  pub areas : x .areas ≡ largest (map (spanIn a) (linesWith area ls))
+  -- "largest area end - 1", and what a picture needs
+  pub areas : x .areas ≡ max (drawnIn a (pictureIn ls)) (largest (map (spanIn a) (linesWith area ls)))
 
 pub record PanelSays (ls : List Line) (v : PanelView) : Type 0 where
   pub axes : (a : Axis) → AxisSays a ls (viewIn v a)
-  pub areas : v .areas ≡ map areaIn (linesWith area ls)
+  pub picture : v .picture ≡ pictureIn ls
+  -- those of the picture, or of the `area` lines: a sheet that has both is refused
+  pub areas : v .areas ≡ areasOf (pictureIn ls) ++ map areaIn (linesWith area ls)
   pub placements : v .placements ≡ map placementIn (linesWith place ls)

@@ -2,10 +2,11 @@
 -- SHEET.md, Lines of a sheet).
 use Prim.Native.Nat.{ℕ}
 use mathlib.Core.List.{List, []}
-use mathlib.Core.Bool.{Bool, cond}
+use mathlib.Core.Bool.{Bool, cond, _&&_, _||_}
 use lib.Dec.{eqb, ltb}
+use lib.ListN.{drop}
 use Rattle.sheet_forms.specs.declared.Record.{Record}
-use Rattle.sheet_forms.specs.declared.Record.the-variants.{Fault, Axis as AxisLine, Area, Name, Track, Repeat, End, Spare, Extra, Item, Place}
+use Rattle.sheet_forms.specs.declared.Record.the-variants.{Fault, Axis as AxisLine, Area, Name, Track, Repeat, End, Spare, Extra, Item, Place, PictureRow}
 use Rattle.sheet_forms.specs.declared.AreaRecord.{AreaRecord}
 use Rattle.sheet_forms.specs.declared.PlaceEnd.{PlaceEnd}
 use Rattle.sheet_forms.specs.Words.{at}
@@ -17,8 +18,15 @@ use Rattle.panel_tables.specs.declared.AreaEdges.{AreaEdges}
 use Rattle.panel_tables.specs.View.{PanelView, PanelOutcome, End as PlacedEnd, hasArea, refused, accepted, areaStep, placeStep}
 use Rattle.panel_tables.specs.Axes.{viewIn, stepIn}
 use Rattle.panel_cells.specs.Steps.{firstSharing}
+use Rattle.sheet_rules.specs.Pictures.{pictureStep}
 
--- ---- what the record of a line writes, and the fault of its own: 1 by nesting, 8 by a limit
+-- ---- the kind order
+
+-- a place in it is late after a later one; "a row after an area record is late", though both have one place in document 01's order
+abbrev pub lateAt : ℕ → ℕ → Bool
+lateAt place stage = ltb place stage || (eqb place 2 && eqb stage 1)
+
+-- ---- what the record of a line writes, and the fault of its own: 1 by nesting, 8 by a limit, 13 by the width of a row
 
 abbrev pub bit : Bool → ℕ
 bit b = cond b 1 0
@@ -42,6 +50,8 @@ recordStep v fs (Spare a min max) = stepIn v a (spareStep (viewIn v a) min max)
 recordStep v fs (Extra a n p) = stepIn v a (extraStep (viewIn v a) n p)
 recordStep v fs (Item a i) = stepIn v a (itemStep (viewIn v a) i)
 recordStep v fs (Place a s e) = placeStep v a (placedEnd (at fs 3) s) (placedEnd (at fs 6) e)
+-- a late row draws nothing
+recordStep v fs (PictureRow n) = cond (lateAt 2 (v .stage)) (accepted v) (pictureStep v (drop 1 fs))
 
 -- ---- faults by the lines before it
 
@@ -58,24 +68,26 @@ twiceFault v fs (Spare a min max) = 0
 twiceFault v fs (Extra a n p) = 0
 twiceFault v fs (Item a i) = 0
 twiceFault v fs (Place a s e) = 0
+twiceFault v fs (PictureRow n) = 0
 
--- "kind order: `axis`, then `area`, then the rest, freely mixed"; a line that is no record has no place in it
+-- "kind order: `axis`, then `area`, then the rest, freely mixed"; a line that is no record has no place in it. "Rows stand where area records do"
 abbrev pub stageOf : PanelView → Record → ℕ
 stageOf v (Fault n) = v .stage
 stageOf v (AxisLine a) = 0
 stageOf v (Area a) = 1
-stageOf v (Name a) = 2
-stageOf v (Track a min max) = 2
-stageOf v (Repeat a n) = 2
-stageOf v (End a) = 2
-stageOf v (Spare a min max) = 2
-stageOf v (Extra a n p) = 2
-stageOf v (Item a i) = 2
-stageOf v (Place a s e) = 2
+stageOf v (Name a) = 3
+stageOf v (Track a min max) = 3
+stageOf v (Repeat a n) = 3
+stageOf v (End a) = 3
+stageOf v (Spare a min max) = 3
+stageOf v (Extra a n p) = 3
+stageOf v (Item a i) = 3
+stageOf v (Place a s e) = 3
+stageOf v (PictureRow n) = 2
 
 -- late: a record earlier in kind than one before it
 abbrev pub lateFault : PanelView → Record → ℕ
-lateFault v r = cond (ltb (stageOf v r) (v .stage)) 7 0
+lateFault v r = cond (lateAt (stageOf v r) (v .stage)) 7 0
 
 -- the number of the first area before it that shares a cell with an area, from 1; 0 where none does
 abbrev pub sharedWith : PanelView → Record → ℕ
@@ -90,6 +102,7 @@ sharedWith v (Spare a min max) = 0
 sharedWith v (Extra a n p) = 0
 sharedWith v (Item a i) = 0
 sharedWith v (Place a s e) = 0
+sharedWith v (PictureRow n) = 0
 
 -- overlap: an area that shares a cell with one before it (document 02, request 03)
 abbrev pub overlapFault : PanelView → Record → ℕ
@@ -102,7 +115,7 @@ unfoldable pub recordFault : PanelView → List (List ℕ) → Record → ℕ
 recordFault v fs r = firstOf (faultOf r) (firstOf (twiceFault v fs r) (firstOf (lateFault v r) (recordStep v fs r .fault)))
 
 abbrev pub atStage : ℕ → PanelView → PanelView
-atStage n v = record { columns = v .columns; rows = v .rows; areas = v .areas; placements = v .placements; stage = n }
+atStage n v = record { columns = v .columns; rows = v .rows; areas = v .areas; picture = v .picture; placements = v .placements; stage = n }
 
 -- a refused line changes nothing
 abbrev pub recordOutcome : PanelView → List (List ℕ) → Record → PanelOutcome

@@ -2,7 +2,7 @@
 -- SHEET.md, Lines of a sheet; SHEET.md, Refusals).
 use Prim.Native.Nat.{ℕ, _+_, max}
 use mathlib.Core.List.{List, [], _∷_}
-use mathlib.Core.Bool.{cond}
+use mathlib.Core.Bool.{Bool, cond, not, _&&_}
 use lib.Dec.{eqb, ltb}
 use lib.ListN.{length}
 use Rattle.sizing.specs.Words.{floatUpTo, largestBits, sizingOf}
@@ -20,6 +20,10 @@ use Rattle.sheet_forms.specs.Faults.{firstOf}
 use Rattle.axis_tables.specs.View.{Piece, name, track, Repeat, Item, single, repeat, Unended, none, inside, AxisLine, AxisView, componentsOf}
 use Rattle.panel_tables.specs.View.{PanelView, PanelOutcome, emptyView}
 use Rattle.sheet_rules.specs.declared.Overlap.{Overlap}
+use Rattle.sheet_forms.specs.Forms.{row}
+use Rattle.picture_rules.specs.Steps.{takenOf}
+use Rattle.sheet_rules.specs.Kinds.{isKind, rowFollows}
+use Rattle.sheet_rules.specs.Contents.{Line, linesFrom}
 use Rattle.sheet_rules.specs.Lines.{sharedAt, lineStep}
 
 -- ---- what an axis comes to
@@ -119,9 +123,34 @@ run n (l ∷ m ∷ ls) v =
     let a : PanelOutcome = lineStep v (split 9 l) in
     cond (eqb (a .fault) 0) (run (n + 1) (m ∷ ls) (a .panel)) (outcome (a .fault) n v)
 
--- the rule that the display call keeps: an overlap is no fault. A sheet of more than 32,768 bytes is unread at line 0
+-- a sheet where neither an overlap nor a broken picture is a fault; one of more than 32,768 bytes is unread at line 0
+unfoldable pub foldOf : List ℕ → Outcome
+foldOf s = cond (ltb 32768 (length s)) (outcome 1 0 emptyView) (run 1 (split 10 s) emptyView)
+
+-- ---- a broken picture (document 02, request 07)
+
+-- whether a line is the last row of a picture that is broken after it, and lines follow that have no row of it
+unfoldable pub brokenAt : PanelView → Line → List Line → Bool
+brokenAt after l rest = isKind row l && (takenOf (after .picture) .broken && not (rowFollows rest))
+
+-- from line n on, as far as lines are accepted: the line of that row, 0 where there is none
+unfoldable pub brokenFrom : ℕ → List (List ℕ) → PanelView → ℕ
+brokenFrom n [] v = 0
+brokenFrom n (l ∷ []) v = 0
+brokenFrom n (l ∷ m ∷ ls) v =
+    let a : PanelOutcome = lineStep v (split 9 l) in
+    cond (eqb (a .fault) 0) (cond (brokenAt (a .panel) (split 9 l) (linesFrom (m ∷ ls))) n (brokenFrom (n + 1) (m ∷ ls) (a .panel))) 0
+
+unfoldable pub brokenOf : List ℕ → ℕ
+brokenOf s = cond (ltb 32768 (length s)) 0 (brokenFrom 1 (split 10 s) emptyView)
+
+-- a broken picture is refused by 14, at that line
+abbrev pub withBroken : ℕ → Outcome → Outcome
+withBroken line o = outcome (cond (eqb line 0) (o .fault) 14) (cond (eqb line 0) (o .line) line) (o .view)
+
+-- the rule that the display call keeps: an overlap is no fault
 unfoldable pub displayOf : List ℕ → Outcome
-displayOf s = cond (ltb 32768 (length s)) (outcome 1 0 emptyView) (run 1 (split 10 s) emptyView)
+displayOf s = withBroken (brokenOf s) (foldOf s)
 
 -- ---- the first overlap (document 02, requests 03 and 09)
 

@@ -1,6 +1,8 @@
 -- A record written into its regions of the lent words and bytes is written into what a panel holds, and into nothing else of it. Assumes nothing.
 use Prim.Native.Nat.{ℕ, _+_, _-_, _≤_}
-use mathlib.Core.Path.{_≡_, sym, ap, ap₂, _∙_}
+use mathlib.Core.Path.{_≡_, refl, sym, ap, ap₂, _∙_}
+use mathlib.Core.Bool.{Bool, true, false, cond}
+use lib.Dec.{leb}
 use mathlib.Core.List.{List, _++_}
 use native.Mathlib.Omega.{arith}
 use lib.ListN.{length, take, drop, length-append, length-drop}
@@ -22,9 +24,14 @@ use Rattle.panel_tables.specs.Areas.{InAreas, putArea}
 use Rattle.panel_tables.specs.Axes.{stateIn, readingIn, withState, withReading, heldIn}
 use Rattle.panel_tables.specs.Regions.{firstWord, firstMark, axisWordsIn, marksIn, areaWordsIn, areaBytesIn, placementWordsIn, placementBytesIn}
 use Rattle.panel_tables.specs.Written.{PanelHeld, PanelStepped, panelHeldOf, ofAreas, ofPlacements}
-use Rattle.sheet_rules.specs.Steps.{axisRecord, onHeld}
+use Rattle.picture_rules.specs.Picture.{Word}
+use Rattle.picture_areas.specs.Runs.{InPicture}
+use Rattle.picture_rows.specs.Steps.{rowIn}
+use Rattle.sheet_forms.specs.Faults.{firstOf}
+use Rattle.sheet_rules.specs.Lines.{lateAt}
+use Rattle.sheet_rules.specs.Steps.{axisRecord, onHeld, stayed, widthFault, ofRow, heldRow}
 use Rattle.sheet_faults.specs.Parts.{named, placeIn}
-use Rattle.sheet_step.specs.Regions.{axisIn, axisBack, onAxis, partsBack, onAreas, onPlacements}
+use Rattle.sheet_step.specs.Regions.{axisIn, axisBack, onAxis, partsBack, onAreas, onPlacements, pictureBack, onDrawing, drawnRead, InPanel, unchanged, drawnIn, onPicture}
 
 -- ---- what was written into parts, put back
 
@@ -55,6 +62,17 @@ parts-put f n g m g₀ j k w b op x eg ej ek e =
     ∙ ap (λ (z : ℕ). partsBack f j z k w b (op (partOf w f j) (partOf b z k))) eg
     ∙ ap (λ (z : ℕ). partsBack f z g k w b (op (partOf w f z) (partOf b g k))) ej
     ∙ ap (λ (z : ℕ). partsBack f n g z w b (op (partOf w f n) (partOf b g z))) ek
+
+pub drawing-put : (g₀ j k : ℕ) (w b : List ℕ) (op : List ℕ → List ℕ → InPicture) (x : InPicture) → g₀ ≡ 60000 → j ≡ 128 → k ≡ 2048 → x ≡ op (take j (drop 24960 w)) (take k (drop g₀ b))
+    → record { answer = x .answer; words = withPart w 24960 j (x .words); bytes = withPart b g₀ k (x .bytes) } ≡ pictureBack w b (op (partOf w 24960 128) (partOf b 60000 2048))
+drawing-put g₀ j k w b op x eg ej ek e =
+    ap (back g₀ j k) e
+    ∙ ap (λ (z : ℕ). back z j k (op (partOf w 24960 j) (partOf b z k))) eg
+    ∙ ap (λ (z : ℕ). back 60000 z k (op (partOf w 24960 z) (partOf b 60000 k))) ej
+    ∙ ap (λ (z : ℕ). back 60000 128 z (op (partOf w 24960 128) (partOf b 60000 z))) ek
+  where
+    back : ℕ → ℕ → ℕ → InPicture → InPicture
+    back g j k y = record { answer = y .answer; words = withPart w 24960 j (y .words); bytes = withPart b g k (y .bytes) }
 
 -- where the whole kept its length, so did the part
 part-kept : (s ys : List ℕ) (a n : ℕ) → a + n ≤ length s → length (withPart s a n ys) ≡ length s → length ys ≡ n
@@ -172,3 +190,45 @@ module _ (p : Panel) (r : Reading) (w b cs rs : List ℕ) (lw : length w ≡ 256
       (lent-before b (y .bytes) 62048 16384 hb 60000 2048 (omega arith))
       (lent-own w (y .words) 25088 512 hw ew)
       (lent-own b (y .bytes) 62048 16384 hb eb))
+
+  -- a row that was drawn into the areas' regions
+  drawn-back : (width : ℕ) (y : InPicture) → length (y .words) ≡ 128 → length (y .bytes) ≡ 2048
+      → _≡_ {A = PanelStepped}
+      (record { fault = drawnRead r width (y .answer) .fault; held = panelHeldOf (y .answer .panel) (drawnRead r width (y .answer) .reading) (withPart w 24960 128 (y .words)) (withPart b 60000 2048 (y .bytes)) cs rs })
+      (ofRow held width y)
+  unfolding panelHeldOf axisWordsIn marksIn areaWordsIn areaBytesIn placementWordsIn placementBytesIn
+  drawn-back width y ew eb =
+      let hw : 24960 + 128 ≤ length w = omega arith in
+      let hb : 60000 + 2048 ≤ length b = omega arith in
+      ap (λ (h : PanelHeld). record { fault = drawnRead r width (y .answer) .fault; held = h })
+      (same (y .answer .panel) (drawnRead r width (y .answer) .reading) cs rs
+      (lent-before w (y .words) 24960 128 hw 0 12480 (omega arith))
+      (lent-before w (y .words) 24960 128 hw 12480 12480 (omega arith))
+      (lent-before b (y .bytes) 60000 2048 hb 0 30000 (omega arith))
+      (lent-before b (y .bytes) 60000 2048 hb 30000 30000 (omega arith))
+      (lent-own w (y .words) 24960 128 hw ew)
+      (lent-own b (y .bytes) 60000 2048 hb eb)
+      (lent-after w (y .words) 24960 128 hw ew 25088 512 (omega arith))
+      (lent-after b (y .bytes) 60000 2048 hb eb 62048 16384 (omega arith)))
+
+  -- a row of a picture, by whether it is late, and one too many
+  abbrev pictureBy : ℕ → InPicture → Bool → Bool → InPanel
+  pictureBy width y t u = cond t (unchanged 0 p r w b) (cond u (unchanged 8 p r w b) (drawnIn r width (pictureBack w b y)))
+
+  abbrev made : InPanel → PanelStepped
+  made y = record { fault = y .answer .fault; held = panelHeldOf (y .answer .panel) (y .answer .reading) (y .words) (y .bytes) cs rs }
+
+  by-back : (width : ℕ) (y : InPicture) (t u : Bool) → length (pictureBy width y t u .words) ≡ 25600 → length (pictureBy width y t u .bytes) ≡ 78432
+      → made (pictureBy width y t u) ≡ cond t (stayed held) (cond u (record { fault = 8; held = held }) (ofRow held width y))
+  by-back width y true u lx ly = refl
+  by-back width y false true lx ly = refl
+  by-back width y false false lx ly =
+      drawn-back width y (part-kept w (y .words) 24960 128 (omega arith) (lx ∙ sym lw)) (part-kept b (y .bytes) 60000 2048 (omega arith) (ly ∙ sym lb))
+
+  pub picture-back : (ws : List Word) (width : ℕ) (x : InPanel) → x ≡ onPicture p r w b ws width → length (x .words) ≡ 25600 → length (x .bytes) ≡ 78432
+      → made x ≡ cond (lateAt 2 (held .reading .stage)) (stayed held) (heldRow held ws width)
+  unfolding onPicture onDrawing heldRow panelHeldOf
+  picture-back ws width x e lx ly =
+      ap made e
+      ∙ by-back width (rowIn p (areaWordsIn w) (areaBytesIn b) ws (r .picture .rows + 1)) (lateAt 2 (r .stage)) (leb 10000 (r .picture .rows))
+      (ap (λ (z : InPanel). length (z .words)) (sym e) ∙ lx) (ap (λ (z : InPanel). length (z .bytes)) (sym e) ∙ ly)

@@ -1,2 +1,3 @@
 -- Laws of records written into their regions.
 pub mod Back
+pub mod Pictures

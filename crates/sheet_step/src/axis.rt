@@ -52,5 +52,6 @@ pub fn axis_record(
         Record::Extra(_, n, p) => put_extra(state, reading, n, p),
         Record::Item(_, i) => put_item(state, reading, marks, i),
         Record::Place(_, _, _) => put(0, state, reading),
+        Record::PictureRow(_) => put(0, state, reading),
     }
 }

@@ -1,6 +1,7 @@
 // One line of a panel sheet: its record is read, checked against the lines before it, and written into the tables.
 mod axis;
 mod panel;
+mod picture;
 
 ghost use mathlib.Core.Path.{_≡_};
 ghost use Rattle.text.specs.Split.{split};

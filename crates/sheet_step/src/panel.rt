@@ -1,11 +1,13 @@
-// What a record does to the panel: it is written to one axis, to the areas or to the placements.
+// What a record does to the panel: it is written to one axis, to the areas or to the placements, or drawn.
 ghost use mathlib.Core.Path.{_≡_};
-ghost use lib.ListN.{length};
+ghost use lib.ListN.{length, drop};
+ghost use Rattle.text.specs.Split.{split};
 ghost use Rattle.text.specs.Places.{partAt};
 ghost use Rattle.panel_tables.specs.Written.{panelHeldOf};
 ghost use Rattle.sheet_faults.specs.Parts.{axisPart, partOf, namedStep};
 ghost use Rattle.sheet_step.specs.Regions.{onAxis, onAreas, onPlacements};
 use crate::axis::axis_record;
+use crate::picture::on_picture;
 use axis_tables::AxisPut;
 use axis_tables::layout::AXIS_BYTES;
 use axis_tables::layout::AXIS_MARKS;
@@ -72,6 +74,7 @@ fn part_of(said: Record) -> Part
         Record::Extra(axis, _, _) => axis_part(axis),
         Record::Item(axis, _) => axis_part(axis),
         Record::Place(axis, start, end) => Part::Placements(axis, start, end),
+        Record::PictureRow(width) => Part::Picture(width),
     }
 }
 
@@ -117,7 +120,7 @@ fn on_axis(
 }
 
 // Where the names of areas start in the bytes: a call, so that no proof counts up to it.
-fn area_names_start() -> usize
+pub(crate) fn area_names_start() -> usize
     ensures { λ r. ⌜ r ≡ 60000 ⌝ }
 {
     AREA_NAMES_START
@@ -196,7 +199,7 @@ fn with_reading(answer: PanelPut, reading: Reading) -> PanelRead
     }
 }
 
-// A record of a line with its names on the panel, the reading of it and its tables; whether it has a fault or may stand there is not looked at.
+// A record of a line with its names and words on the panel, the reading of it and its tables; whether it has a fault or may stand there is not looked at.
 pub fn panel_record(
     panel: Panel,
     reading: Reading,
@@ -207,7 +210,7 @@ pub fn panel_record(
     line: &[u8],
     there: LineRecord,
 ) -> PanelRead
-    ensures { λ r. ⌜ record { fault = r .fault; held = panelHeldOf (r .panel) (r .reading) (now (words .exit)) (now (bytes .exit)) (now (columnbytes .exit)) (now (rowbytes .exit)) } ≡ namedStep (panelHeldOf panel reading (now (words .entry)) (now (bytes .entry)) (now (columnbytes .entry)) (now (rowbytes .entry))) (partAt (now (line .entry)) (there .first)) (partAt (now (line .entry)) (there .second)) (there .said) ⌝ }
+    ensures { λ r. ⌜ record { fault = r .fault; held = panelHeldOf (r .panel) (r .reading) (now (words .exit)) (now (bytes .exit)) (now (columnbytes .exit)) (now (rowbytes .exit)) } ≡ namedStep (panelHeldOf panel reading (now (words .entry)) (now (bytes .entry)) (now (columnbytes .entry)) (now (rowbytes .entry))) (partAt (now (line .entry)) (there .first)) (partAt (now (line .entry)) (there .second)) (drop 1 (split 9 (now (line .entry)))) (there .said) ⌝ }
 {
     let said = there.said;
     let first = part_at(line, there.first);
@@ -229,5 +232,6 @@ pub fn panel_record(
             let answer = on_placements(panel, words, bytes, axis, start, first, end, second);
             with_reading(answer, reading)
         }
+        Part::Picture(width) => on_picture(panel, reading, words, bytes, line, width),
     }
 }

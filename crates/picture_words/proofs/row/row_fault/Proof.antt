@@ -2,7 +2,7 @@
 use mathlib.Core.Path.{_≡_, ap, ap₂, _∙_}
 use borrow.Author.Needs.{needs}
 use Rattle.sheet_forms.specs.Faults.{firstOf}
-use Rattle.picture_words.specs.Faults.{manyFault, rowFault}
+use Rattle.sheet_forms.specs.Fields.{manyFault, rowFault}
 use Rattle.picture_words.proofs.row.row_fault.Statement.{statement}
 use Rattle.picture_words.proofs.row.row_fault.Tie as tie
 

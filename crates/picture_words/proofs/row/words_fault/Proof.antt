@@ -7,7 +7,7 @@ use borrow.Author.Needs.{needs}
 use lib.ListN.{length}
 use Rattle.picture_rules.specs.Picture.{Word}
 use Rattle.picture_words.specs.Words.{wordsOf, wordsLeft}
-use Rattle.picture_words.specs.Faults.{wordsFault}
+use Rattle.sheet_forms.specs.Fields.{wordsFault}
 use Rattle.picture_words.proofs.Words.{word-ends, words-all}
 use Rattle.picture_words.proofs.Faults.{fault-past, fault-here, fault-next}
 use Rattle.picture_words.proofs.row.words_fault.Statement.{statement}

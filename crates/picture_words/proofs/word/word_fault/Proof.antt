@@ -1,6 +1,6 @@
 -- `picture_words::word_fault` meets its contract. Assumes nothing.
 use borrow.Author.Needs.{needs}
-use Rattle.picture_words.specs.Faults.{wordFault}
+use Rattle.sheet_forms.specs.Fields.{wordFault}
 use Rattle.picture_words.proofs.word.word_fault.Statement.{statement}
 use Rattle.picture_words.proofs.word.word_fault.Tie as tie
 

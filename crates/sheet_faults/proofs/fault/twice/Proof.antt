@@ -41,6 +41,9 @@ enum-told-9 c = search needs
 enum-told-10 : tie.Need-enum-told-10
 enum-told-10 c = search needs
 
+enum-told-11 : tie.Need-enum-told-11
+enum-told-11 c = search needs
+
 returns : tie.Need-returns
 returns c = simp (c .enum-told .given .1)
 
@@ -74,6 +77,9 @@ returns-10 c = simp (c .enum-told9 .given .1)
 returns-11 : tie.Need-returns-11
 returns-11 c = simp (c .enum-told10 .given .1)
 
+returns-12 : tie.Need-returns-12
+returns-12 c = simp (c .enum-told11 .given .1)
+
 pub twice-spec : {M : Type 1} → statement M
 twice-spec =
     tie.close
@@ -91,6 +97,7 @@ twice-spec =
     enum-told-8
     enum-told-9
     enum-told-10
+    enum-told-11
     returns
     returns-2
     returns-3
@@ -101,4 +108,5 @@ twice-spec =
     returns-8
     returns-9
     returns-10
-    returns-11)
+    returns-11
+    returns-12)

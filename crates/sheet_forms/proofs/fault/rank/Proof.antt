@@ -55,9 +55,17 @@ returns-11 c = simp (c .match .keys11)
 
 returns-12 : tie.Need-returns-12
 unfolding rankOf
-returns-12 c =
+returns-12 c = simp (c .match .keys12)
+
+returns-13 : tie.Need-returns-13
+unfolding rankOf
+returns-13 c = simp (c .match .keys13)
+
+returns-14 : tie.Need-returns-14
+unfolding rankOf
+returns-14 c =
     let n = c .match .rest in
-    simp (ne-eqb _ _ (n .1), ne-eqb _ _ (n .0 .1), ne-eqb _ _ (n .0 .0 .1), ne-eqb _ _ (n .0 .0 .0 .1), ne-eqb _ _ (n .0 .0 .0 .0 .1), ne-eqb _ _ (n .0 .0 .0 .0 .0 .1), ne-eqb _ _ (n .0 .0 .0 .0 .0 .0 .1), ne-eqb _ _ (n .0 .0 .0 .0 .0 .0 .0 .1), ne-eqb _ _ (n .0 .0 .0 .0 .0 .0 .0 .0 .1), ne-eqb _ _ (n .0 .0 .0 .0 .0 .0 .0 .0 .0 .1), ne-eqb _ _ (n .0 .0 .0 .0 .0 .0 .0 .0 .0 .0 .1)) (omega arith)
+    simp (ne-eqb _ _ (n .1), ne-eqb _ _ (n .0 .1), ne-eqb _ _ (n .0 .0 .1), ne-eqb _ _ (n .0 .0 .0 .1), ne-eqb _ _ (n .0 .0 .0 .0 .1), ne-eqb _ _ (n .0 .0 .0 .0 .0 .1), ne-eqb _ _ (n .0 .0 .0 .0 .0 .0 .1), ne-eqb _ _ (n .0 .0 .0 .0 .0 .0 .0 .1), ne-eqb _ _ (n .0 .0 .0 .0 .0 .0 .0 .0 .1), ne-eqb _ _ (n .0 .0 .0 .0 .0 .0 .0 .0 .0 .1), ne-eqb _ _ (n .0 .0 .0 .0 .0 .0 .0 .0 .0 .0 .1), ne-eqb _ _ (n .0 .0 .0 .0 .0 .0 .0 .0 .0 .0 .0 .1), ne-eqb _ _ (n .0 .0 .0 .0 .0 .0 .0 .0 .0 .0 .0 .0 .1)) (omega arith)
 
 pub rank-spec : {M : Type 1} → statement M
 rank-spec =
@@ -75,4 +83,6 @@ rank-spec =
     returns-9
     returns-10
     returns-11
-    returns-12)
+    returns-12
+    returns-13
+    returns-14)

@@ -75,6 +75,12 @@ enum-told-5 c = search needs
 put-requires-3 : tie.Need-put-requires-3
 put-requires-3 c κs = search needs
 
+enum-told-6 : tie.Need-enum-told-6
+enum-told-6 c = search needs
+
+put-requires-4 : tie.Need-put-requires-4
+put-requires-4 c κs = search needs
+
 returns : tie.Need-returns
 returns c = simp (c .before .enum-told .given .1, c .put .ensures)
 
@@ -141,6 +147,9 @@ returns-10 c =
 returns-11 : tie.Need-returns-11
 returns-11 c = simp (c .before .enum-told5 .given .1, c .put3 .ensures)
 
+returns-12 : tie.Need-returns-12
+returns-12 c = simp (c .before .enum-told6 .given .1, c .put4 .ensures)
+
 pub axis-record-spec : {M : Type 1} → statement M
 axis-record-spec =
     tie.close
@@ -168,6 +177,8 @@ axis-record-spec =
     put-item-requires
     enum-told-5
     put-requires-3
+    enum-told-6
+    put-requires-4
     returns
     returns-2
     returns-3
@@ -184,4 +195,5 @@ axis-record-spec =
     returns-9
     same-length-6
     returns-10
-    returns-11)
+    returns-11
+    returns-12)

@@ -1,10 +1,12 @@
 use native.Mathlib.Omega.{arith}
 use mathlib.Core.Path.{sym, _∙_}
+use lib.ListN.{drop}
+use Rattle.text.specs.Split.{split}
 use Rattle.text.specs.Places.{partAt}
 use Rattle.panel_tables.specs.Written.{PanelHeld, panelHeldOf}
 use Rattle.sheet_faults.specs.declared.Part.the-variants.{Nothing, Columns, Rows}
 use Rattle.sheet_faults.proofs.Parts.{by-part}
-use Rattle.sheet_step.proofs.Back.{columns-back, rows-back, areas-back, placements-back}
+use Rattle.sheet_step.proofs.Back.{columns-back, rows-back, areas-back, placements-back, picture-back}
 use borrow.Author.Needs.{needs}
 use Rattle.sheet_step.proofs.panel.panel_record.Statement.{statement}
 use Rattle.sheet_step.proofs.panel.panel_record.Tie as tie
@@ -63,13 +65,20 @@ on-placements-requires c κs = search needs
 with-reading-requires-3 : tie.Need-with-reading-requires-3
 with-reading-requires-3 c κs = search needs
 
+enum-known-width : tie.Need-enum-known-width
+enum-known-width c = search needs
+
+on-picture-requires : tie.Need-on-picture-requires
+on-picture-requires c κs = search needs
+
 returns : tie.Need-returns
 returns c =
     let a = c .before .before .before .before .before .before .before .before .args in
     let h : PanelHeld = panelHeldOf (a .panel) (a .reading) (a .words .now) (a .bytes .now) (a .columnbytes .now) (a .rowbytes .now) in
     let first = partAt (a .line .now) (a .there .first) in
     let second = partAt (a .line .now) (a .there .second) in
-    by-part h first second (a .there .said) Nothing (sym (c .before .before .before .before .part-of .ensures) ∙ c .before .before .enum-told .given .1) (simp (c .with-reading .ensures, c .before .put .ensures))
+    let ws = drop 1 (split 9 (a .line .now)) in
+    by-part h first second ws (a .there .said) Nothing (sym (c .before .before .before .before .part-of .ensures) ∙ c .before .before .enum-told .given .1) (simp (c .with-reading .ensures, c .before .put .ensures))
 
 returns-2 : tie.Need-returns-2
 returns-2 c =
@@ -77,8 +86,9 @@ returns-2 c =
     let h : PanelHeld = panelHeldOf (a .panel) (a .reading) (a .words .now) (a .bytes .now) (a .columnbytes .now) (a .rowbytes .now) in
     let first = partAt (a .line .now) (a .there .first) in
     let second = partAt (a .line .now) (a .there .second) in
+    let ws = drop 1 (split 9 (a .line .now)) in
     let k = c .before .on-axis in
-    by-part h first second (a .there .said) Columns (sym (c .before .before .before .before .before .before .before .part-of .ensures) ∙ c .before .before .before .before .before .enum-told2 .given .1)
+    by-part h first second ws (a .there .said) Columns (sym (c .before .before .before .before .before .before .before .part-of .ensures) ∙ c .before .before .before .before .before .enum-told2 .given .1)
     (rw (c .read-by .ensures)
     (columns-back (a .panel) (a .reading) (a .words .now) (a .bytes .now) (a .columnbytes .now) (a .rowbytes .now) (omega (arith, c .before .before .before .before .on-axis-arg .given)) (omega (arith, c .before .before .before .on-axis-arg2 .given)) _ first (a .there .said)
     (record { answer = k .result; words = k .last .1 .1 .1 .0; marks = k .last .1 .1 .1 .1 .0; bytes = k .last .1 .1 .1 .1 .1 .0 })
@@ -90,8 +100,9 @@ returns-3 c =
     let h : PanelHeld = panelHeldOf (a .panel) (a .reading) (a .words .now) (a .bytes .now) (a .columnbytes .now) (a .rowbytes .now) in
     let first = partAt (a .line .now) (a .there .first) in
     let second = partAt (a .line .now) (a .there .second) in
+    let ws = drop 1 (split 9 (a .line .now)) in
     let k = c .before .on-axis2 in
-    by-part h first second (a .there .said) Rows (sym (c .before .before .before .before .before .before .before .part-of .ensures) ∙ c .before .before .before .before .before .enum-told3 .given .1)
+    by-part h first second ws (a .there .said) Rows (sym (c .before .before .before .before .before .before .before .part-of .ensures) ∙ c .before .before .before .before .before .enum-told3 .given .1)
     (rw (c .read-by2 .ensures)
     (rows-back (a .panel) (a .reading) (a .words .now) (a .bytes .now) (a .columnbytes .now) (a .rowbytes .now) (omega (arith, c .before .before .before .before .on-axis-arg4 .given)) (omega (arith, c .before .before .before .on-axis-arg5 .given)) _ first (a .there .said)
     (record { answer = k .result; words = k .last .1 .1 .1 .0; marks = k .last .1 .1 .1 .1 .0; bytes = k .last .1 .1 .1 .1 .1 .0 })
@@ -103,8 +114,9 @@ returns-4 c =
     let h : PanelHeld = panelHeldOf (a .panel) (a .reading) (a .words .now) (a .bytes .now) (a .columnbytes .now) (a .rowbytes .now) in
     let first = partAt (a .line .now) (a .there .first) in
     let second = partAt (a .line .now) (a .there .second) in
+    let ws = drop 1 (split 9 (a .line .now)) in
     let k = c .before .on-areas in
-    by-part h first second (a .there .said) _ (sym (c .before .before .before .before .before .before .before .part-of .ensures) ∙ c .before .before .before .before .before .edges .given .1)
+    by-part h first second ws (a .there .said) _ (sym (c .before .before .before .before .before .before .before .part-of .ensures) ∙ c .before .before .before .before .before .edges .given .1)
     (rw (c .with-reading2 .ensures)
     (areas-back (a .panel) (a .reading) (a .words .now) (a .bytes .now) (a .columnbytes .now) (a .rowbytes .now) (omega (arith, c .before .before .before .on-areas-arg .given)) (omega (arith, c .before .before .on-areas-arg2 .given)) _ first _
     (record { answer = k .result; words = k .last .1 .0; bytes = k .last .1 .1 .0 })
@@ -116,12 +128,26 @@ returns-5 c =
     let h : PanelHeld = panelHeldOf (a .panel) (a .reading) (a .words .now) (a .bytes .now) (a .columnbytes .now) (a .rowbytes .now) in
     let first = partAt (a .line .now) (a .there .first) in
     let second = partAt (a .line .now) (a .there .second) in
+    let ws = drop 1 (split 9 (a .line .now)) in
     let k = c .before .on-placements in
-    by-part h first second (a .there .said) _ (sym (c .before .before .before .before .before .before .before .part-of .ensures) ∙ c .before .before .before .before .before .axis .given .1)
+    by-part h first second ws (a .there .said) _ (sym (c .before .before .before .before .before .before .before .part-of .ensures) ∙ c .before .before .before .before .before .axis .given .1)
     (rw (c .with-reading3 .ensures)
     (placements-back (a .panel) (a .reading) (a .words .now) (a .bytes .now) (a .columnbytes .now) (a .rowbytes .now) (omega (arith, c .before .before .before .on-placements-arg .given)) (omega (arith, c .before .before .on-placements-arg2 .given)) _ _ _ first _ _ second
     (record { answer = k .result; words = k .last .1 .0; bytes = k .last .1 .1 .0 })
     (k .ensures) (c .before .before .before .before .before .before .before .before .before .part-at .ensures) (c .before .before .before .before .before .before .before .before .part-at2 .ensures) (omega (arith, c .before .before .before .on-placements-arg .given, k .kept .1 .0)) (omega (arith, c .before .before .on-placements-arg2 .given, k .kept .1 .1 .0))))
+
+returns-6 : tie.Need-returns-6
+returns-6 c =
+    let a = c .before .before .before .before .before .before .before .before .before .before .args in
+    let h : PanelHeld = panelHeldOf (a .panel) (a .reading) (a .words .now) (a .bytes .now) (a .columnbytes .now) (a .rowbytes .now) in
+    let first = partAt (a .line .now) (a .there .first) in
+    let second = partAt (a .line .now) (a .there .second) in
+    let ws = drop 1 (split 9 (a .line .now)) in
+    let k = c .on-picture in
+    by-part h first second ws (a .there .said) _ (sym (c .before .before .before .before .before .before .part-of .ensures) ∙ c .before .before .before .before .width .given .1)
+    (picture-back (a .panel) (a .reading) (a .words .now) (a .bytes .now) (a .columnbytes .now) (a .rowbytes .now) (omega (arith, c .before .before .on-picture-arg .given)) (omega (arith, c .before .on-picture-arg2 .given)) ws _
+    (record { answer = k .result; words = k .last .1 .1 .0; bytes = k .last .1 .1 .1 .0 })
+    (k .ensures) (omega (arith, c .before .before .on-picture-arg .given, k .kept .1 .1 .0)) (omega (arith, c .before .on-picture-arg2 .given, k .kept .1 .1 .1 .0)))
 
 pub panel-record-spec : {M : Type 1} → statement M
 panel-record-spec =
@@ -145,8 +171,11 @@ panel-record-spec =
     enum-known-axis
     on-placements-requires
     with-reading-requires-3
+    enum-known-width
+    on-picture-requires
     returns
     returns-2
     returns-3
     returns-4
-    returns-5)
+    returns-5
+    returns-6)

@@ -62,6 +62,9 @@ axis-part-requires-8 c κs = search needs
 enum-known-said-10 : tie.Need-enum-known-said-10
 enum-known-said-10 c = search needs
 
+enum-known-said-11 : tie.Need-enum-known-said-11
+enum-known-said-11 c = search needs
+
 returns : tie.Need-returns
 returns c = search needs
 
@@ -95,6 +98,9 @@ returns-10 c = search needs
 returns-11 : tie.Need-returns-11
 returns-11 c = simp (c .before .said10 .given .1)
 
+returns-12 : tie.Need-returns-12
+returns-12 c = simp (c .before .said11 .given .1)
+
 pub part-of-spec : {M : Type 1} → statement M
 part-of-spec =
     tie.close
@@ -119,6 +125,7 @@ part-of-spec =
     enum-known-said-9
     axis-part-requires-8
     enum-known-said-10
+    enum-known-said-11
     returns
     returns-2
     returns-3
@@ -129,4 +136,5 @@ part-of-spec =
     returns-8
     returns-9
     returns-10
-    returns-11)
+    returns-11
+    returns-12)
