@@ -1,0 +1,2 @@
+-- Laws of a cell's side.
+pub mod Sides
