@@ -3,7 +3,6 @@
 #![allow(dead_code, unused_imports, unreachable_pub, unpredictable_function_pointer_comparisons)]
 
 mod answers;
-mod cells;
 mod compute;
 mod cursor;
 mod geometry;
@@ -16,7 +15,6 @@ mod style_helpers;
 mod table;
 mod template;
 mod timing;
-mod trial;
 mod util;
 
 pub(crate) use geometry::*;
@@ -36,7 +34,7 @@ use timing::pair;
 
 const STAGES: [&str; 5] = ["sizes", "names", "placements", "records", "line names"];
 /// What is timed beside the stages.
-const PARTS: [&str; 5] = ["reading", "templates", "cursor", "cells", "trials"];
+const PARTS: [&str; 3] = ["reading", "templates", "cursor"];
 const GROWTH: [&str; 4] = ["small", "medium", "large, 16 names", "large, 1,440 names"];
 
 /// Both sides of a sheet, after they were seen to answer alike; ends the program where they do not.
@@ -94,7 +92,7 @@ fn readings(sheets: &[Sheet]) {
     [panels::forty_lines(), panels::longest()].iter().chain(sheets).for_each(reading);
 }
 
-/// Every stage, the reading, the templates, the cursor, the cells and the trials, or those that are named.
+/// Every stage, the reading, the templates and the cursor, or those that are named.
 fn main() {
     let words: Vec<String> = std::env::args().skip(1).collect();
     if let Some(word) = words.iter().find(|word| !PARTS.contains(&word.as_str()) && !STAGES.contains(&word.as_str())) {
@@ -121,13 +119,5 @@ fn main() {
     }
     if asked("cursor") {
         cursor::print();
-        println!();
-    }
-    if asked("cells") {
-        cells::print();
-        println!();
-    }
-    if asked("trials") {
-        trial::print();
     }
 }

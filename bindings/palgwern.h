@@ -1,10 +1,10 @@
-/* Palgwern's calls for C: a panel sheet read, names entered or tried, placements, line names and track records answered.
+/* Palgwern's calls for C: a panel sheet read, names entered, placements, line names and track records answered.
  *
  * Link target/staticlib/libpalgwern.a (x86-64 Linux), which `rt staticlib palgwern` writes. Every call is proved to end and to
  * answer as its contract in crates/palgwern/src says, whatever the panel and what is lent hold. What C must ensure:
  *
- * - stack: 512 KiB of room for palgwern_read_sheet, palgwern_display_sheet and palgwern_try_name, 192 KiB for palgwern_line_names, 128 KiB
- *   for palgwern_placements_within and palgwern_placements_around, 64 KiB for each other call (`bindings/test` measures them);
+ * - stack: 512 KiB of room for palgwern_read_sheet and palgwern_display_sheet, 192 KiB for palgwern_line_names, 128 KiB for
+ *   palgwern_placements_within and palgwern_placements_around, 64 KiB for each other call (`bindings/test` measures them);
  * - memory: everything that is lent is initialized, whatever it holds, and not null; an array has the length that is stated here,
  *   a pointer with a length has so many elements, and one of length 0 still points somewhere;
  * - no overlap: what a call may write (no `const`) is part of nothing else that is lent to it, and nobody else reads or writes it
@@ -38,7 +38,7 @@ enum palgwern_refusal {
     PALGWERN_OVERLAP = 12,  /* overlap: an area that shares a cell with an earlier one */
     PALGWERN_UNEQUAL = 13,  /* unequal: a row of a picture that is not as wide as the first one */
     PALGWERN_BROKEN = 14,   /* broken: a picture in which the cells of a name form no filled rectangle */
-    PALGWERN_UNPLACED = 15  /* unplaced: a cell without a place in the grid */
+    PALGWERN_UNPLACED = 15  /* unplaced: a cell without a place in the grid; no call answers it yet */
 };
 
 /* Limits, by document 01. */
@@ -50,8 +50,7 @@ enum palgwern_limit {
     PALGWERN_SPARES = 64,             /* spare sizes of an axis */
     PALGWERN_AREAS = 64,              /* drawn areas, those of a picture too */
     PALGWERN_ROW_WORDS = 10000,       /* words of a row of a picture */
-    PALGWERN_PLACEMENTS = 256,        /* placements and cells together */
-    PALGWERN_CELL_SPAN = 32,          /* a plain span of a cell is 1 to 32 */
+    PALGWERN_PLACEMENTS = 256,        /* placements */
     PALGWERN_ENTRIES = 4096,          /* name entries of an axis, repeats written out */
     PALGWERN_ENTERED_LINE = 20000,    /* an entered line is 1 to 20,000 */
     PALGWERN_TRACKS = 10000,          /* explicit tracks, and each implicit count */
@@ -62,19 +61,18 @@ enum palgwern_limit {
 
 /* Lengths of the arrays that are lent, and of the regions that they are made of. */
 enum palgwern_length {
-    PALGWERN_PANEL_WORDS = 26368,     /* words: the columns', the rows', those of areas and of placements */
-    PALGWERN_PANEL_BYTES = 94816,     /* bytes: item marks of the columns and of the rows, names of areas and of placements */
+    PALGWERN_PANEL_WORDS = 25600,     /* words: the columns', the rows', those of areas and of placements */
+    PALGWERN_PANEL_BYTES = 78432,     /* bytes: item marks of the columns and of the rows, names of areas and of placements */
     PALGWERN_STORE_BYTES = 32768,     /* columnstore, rowstore: the bytes of line names; at least so many, else 10 */
-    PALGWERN_PLACEMENT_RUN = 4096,    /* numbers of a run of placements: eight for each that a panel can have, two for each cell */
+    PALGWERN_PLACEMENT_RUN = 2048,    /* numbers of a run of placements: eight for each that a panel can have */
     PALGWERN_LINE_NAME_RUN = 4096,    /* names of a run of line names: a word for each entry that an axis can have */
-    PALGWERN_HITS = 512,              /* indexes of a list of placements: one for each that a panel can have, two for each cell */
-    PALGWERN_LANDS = 256,             /* where cells land: a word for each that a panel can have */
+    PALGWERN_HITS = 256,              /* indexes of a list of placements: one for each that a panel can have */
     PALGWERN_AXIS_WORDS = 12480,      /* of an axis: components, track sizes, spare sizes, name records, name entries */
     PALGWERN_AREA_WORDS = 128,        /* edges, then names */
-    PALGWERN_PLACEMENT_WORDS = 1280,  /* two words each; behind them the sheet's lines of the cells */
+    PALGWERN_PLACEMENT_WORDS = 512,   /* two words each */
     PALGWERN_AXIS_MARKS = 30000,      /* a byte for each track of an axis, not 0 where it holds an item */
     PALGWERN_AREA_BYTES = 2048,       /* the bytes of the names of areas */
-    PALGWERN_PLACEMENT_BYTES = 32768  /* the bytes of the names of placements */
+    PALGWERN_PLACEMENT_BYTES = 16384  /* the bytes of the names of placements */
 };
 
 /* Where the regions start: four of the words, four of the bytes. */
@@ -89,7 +87,7 @@ enum palgwern_start {
     PALGWERN_PLACEMENT_NAMES_START = 62048
 };
 
-enum palgwern_axis_number { PALGWERN_COLUMNS = 0, PALGWERN_ROWS = 1, PALGWERN_CELL = 2 };
+enum palgwern_axis_number { PALGWERN_COLUMNS = 0, PALGWERN_ROWS = 1 };
 
 /* Kinds of an end of a resolved placement. */
 enum palgwern_end { PALGWERN_END_AUTO = 0, PALGWERN_END_LINE = 1, PALGWERN_END_SPAN = 3 };
@@ -166,13 +164,12 @@ typedef struct palgwern_axis_room {
     uint32_t areas;          /* tracks that areas span */
 } palgwern_axis_room;
 
-/* 128 bytes. */
+/* 120 bytes. */
 typedef struct palgwern_grid {
     palgwern_axis_grid columns;
     palgwern_axis_grid rows;
     uint32_t areas;          /* drawn areas */
-    uint32_t placements;     /* a cell is two of them: its columns, then its rows */
-    uint32_t cells;
+    uint32_t placements;
 } palgwern_grid;
 
 /* 48 bytes. */
@@ -183,7 +180,7 @@ typedef struct palgwern_room {
     uint32_t placementbytes; /* bytes of the names of placements */
 } palgwern_room;
 
-/* 176 bytes. */
+/* 168 bytes. */
 typedef struct palgwern_panel {
     palgwern_grid grid;
     palgwern_room room;
@@ -213,15 +210,11 @@ typedef struct palgwern_count_answer { uint32_t number; uint64_t count; } palgwe
 typedef struct palgwern_line_answer { uint32_t number; int32_t line; } palgwern_line_answer;
 typedef struct palgwern_name_answer { uint32_t number; uint32_t offset; uint32_t length; } palgwern_name_answer;
 typedef struct palgwern_resize_answer { uint32_t number; uint32_t found; uint32_t size; } palgwern_resize_answer;
-/* `line` is the sheet's line of the cell that has no place, 0 with any other number. */
-typedef struct palgwern_cells_answer { uint32_t number; uint32_t line; uint32_t count; } palgwern_cells_answer;
-/* How many placements and how many cells a trial answers; `line` as above. */
-typedef struct palgwern_trial_answer { uint32_t number; uint32_t line; uint32_t placements; uint32_t cells; } palgwern_trial_answer;
 /* A mark is 1 where the line of its end was held within -10,000..10,000 of the first explicit line, or a line on the way to it was: a
  * written line, the line of a name, the line beside a named span. 0 says that it would be the same if lines were never held. */
 typedef struct palgwern_placement_answer {
     uint32_t number;
-    uint32_t axis;        /* PALGWERN_CELL more where it is one of a cell's two */
+    uint32_t axis;
     uint32_t startkind;
     int32_t startnumber;
     uint32_t endkind;
@@ -258,8 +251,7 @@ palgwern_count_answer palgwern_line_count(palgwern_grid grid, uint32_t axis);
 /* How many records an axis has: 2N + 1 for N tracks. */
 palgwern_count_answer palgwern_record_count(palgwern_grid grid, uint32_t axis);
 
-/* Placement `index`, from 0, with its names resolved. An index counts `place` lines and, for each `cell` line, its columns and its rows,
- * in sheet order: a cell's are its settled fields, before any placing. Refuses by 4 (no such placement), then 10. */
+/* Placement `index`, from 0, with its names resolved. Refuses by 4 (no such placement), then 10. */
 palgwern_placement_answer palgwern_resolve_placement(
     palgwern_grid grid, const uint64_t words[PALGWERN_PANEL_WORDS], const uint8_t bytes[PALGWERN_PANEL_BYTES],
     const uint8_t *columnstore, size_t columnstore_bytes, const uint8_t *rowstore, size_t rowstore_bytes,
@@ -335,37 +327,6 @@ palgwern_count_answer palgwern_placements_around(
  * the axis has no inner size or none in whole pixels, or its gap is no length. Every size may have to be tried: bench/README.md says
  * how long that takes. */
 palgwern_resize_answer palgwern_least_resize(palgwern_grid grid, const uint64_t words[PALGWERN_PANEL_WORDS], uint32_t axis);
-
-/* How cells are packed. */
-enum palgwern_packing { PALGWERN_SPARSE = 0, PALGWERN_DENSE = 1 };
-
-/* Where the cells land, by CSS Grid Level 1, 8.3.1 and 8.5, row flow: as many columns as are explicit, rows up to 10,000. A word for each
- * cell in sheet order: its two column lines, the second times 2^16, and its two row lines, times 2^32 and 2^48. Answers how many words are
- * written to `lands`; words past them stay as they are. Refuses by 4 (a packing that is none, or a count above 10,000, which no sheet
- * gives), by 10 (a short store), then by 15 with the line of the first cell, in placing order, that has no place; the panel stays. */
-palgwern_cells_answer palgwern_place_cells(
-    palgwern_grid grid, const uint64_t words[PALGWERN_PANEL_WORDS], const uint8_t bytes[PALGWERN_PANEL_BYTES],
-    const uint8_t *columnstore, size_t columnstore_bytes, const uint8_t *rowstore, size_t rowstore_bytes,
-    uint32_t packing, uint64_t lands[PALGWERN_LANDS]);
-
-/* The lines of a word of palgwern_place_cells and of palgwern_try_name. */
-static inline uint32_t palgwern_land_column(uint64_t word) { return word & 0xffff; }
-static inline uint32_t palgwern_land_column_end(uint64_t word) { return word >> 16 & 0xffff; }
-static inline uint32_t palgwern_land_row(uint64_t word) { return word >> 32 & 0xffff; }
-static inline uint32_t palgwern_land_row_end(uint64_t word) { return word >> 48; }
-
-/* What is tried beside a name: the axis and the line of its entry, and how cells are packed. */
-typedef struct palgwern_trial { uint32_t axis; uint32_t line; uint32_t packing; } palgwern_trial;
-
-/* A name tried before it is entered: what all placements and cells would be after palgwern_enter_name, which nothing but a copy is given. All
- * that is lent stays, but for the answer: `numbers` as palgwern_resolve_placements writes them from placement 0 on, `lands` as
- * palgwern_place_cells does by that packing; what lies past them stays. Refuses by 2, by 4 (no axis, line or packing), by 8 and by 10 as
- * an entry, then by 4 (a count above 10,000, which no sheet gives) and by 15 with the line of the first cell, in placing order, that would
- * have no place; nothing is written then. */
-palgwern_trial_answer palgwern_try_name(
-    palgwern_panel panel, const uint64_t words[PALGWERN_PANEL_WORDS], const uint8_t bytes[PALGWERN_PANEL_BYTES],
-    const uint8_t *columnstore, size_t columnstore_bytes, const uint8_t *rowstore, size_t rowstore_bytes,
-    palgwern_trial trial, const uint8_t *name, size_t name_bytes, int32_t numbers[PALGWERN_PLACEMENT_RUN], uint64_t lands[PALGWERN_LANDS]);
 
 /* ---- all that is lent, in one struct, and the calls on it */
 
@@ -443,18 +404,6 @@ static inline palgwern_count_answer palgwern_tables_around(const palgwern_tables
 static inline palgwern_line_answer palgwern_tables_nearest_line(const palgwern_tables *t, palgwern_grid grid, uint32_t axis,
     uint32_t cursor) {
     return palgwern_nearest_line(grid, t->words, axis, palgwern_tables_items(t, axis), PALGWERN_AXIS_MARKS, cursor);
-}
-
-static inline palgwern_cells_answer palgwern_tables_cells(const palgwern_tables *t, palgwern_grid grid, uint32_t packing,
-    uint64_t lands[PALGWERN_LANDS]) {
-    return palgwern_place_cells(grid, t->words, t->bytes, t->columnstore, sizeof t->columnstore, t->rowstore, sizeof t->rowstore,
-        packing, lands);
-}
-
-static inline palgwern_trial_answer palgwern_tables_try(const palgwern_tables *t, palgwern_panel panel, palgwern_trial trial,
-    const void *name, size_t bytes, int32_t numbers[PALGWERN_PLACEMENT_RUN], uint64_t lands[PALGWERN_LANDS]) {
-    return palgwern_try_name(panel, t->words, t->bytes, t->columnstore, sizeof t->columnstore, t->rowstore, sizeof t->rowstore, trial,
-        (const uint8_t *)name, bytes, numbers, lands);
 }
 
 #ifdef __cplusplus

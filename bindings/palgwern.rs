@@ -2,23 +2,20 @@
 //!
 //! `mod palgwern;` and `-l static=palgwern` are all that is needed. A `Panel` owns the buffers that the library reads and writes and
 //! hands them over together, so what the calls ask of a caller holds: initialized arrays of the right lengths that do not overlap.
-//! One thing is left to the program: 512 KiB of stack for `Panel::read`, `Display::read` and `Panel::try_name`, which every Rust thread has unless
-//! it was asked for less.
+//! One thing is left to the program: 512 KiB of stack for `Panel::read` and `Display::read`, which every Rust thread has unless it was asked for less.
 #![allow(dead_code)]
 use std::fmt;
 use std::ops::Deref;
 
 /// Lengths of the arrays that are lent, as in `palgwern.h`.
-pub const PANEL_WORDS: usize = 26_368;
-pub const PANEL_BYTES: usize = 94_816;
+pub const PANEL_WORDS: usize = 25_600;
+pub const PANEL_BYTES: usize = 78_432;
 pub const STORE_BYTES: usize = 32_768;
 /// The numbers of a run of placements, and the words of a run of line names.
-pub const PLACEMENT_RUN: usize = 4_096;
+pub const PLACEMENT_RUN: usize = 2_048;
 pub const LINE_NAME_RUN: usize = 4_096;
 /// The indexes of a list of placements.
-pub const HITS: usize = 512;
-/// The words of where cells land.
-pub const LANDS: usize = 256;
+pub const HITS: usize = 256;
 /// Where the regions of the words start, and their lengths.
 pub const COLUMNS_START: usize = 0;
 pub const ROWS_START: usize = 12_480;
@@ -26,7 +23,7 @@ pub const AREAS_START: usize = 24_960;
 pub const PLACEMENTS_START: usize = 25_088;
 pub const AXIS_WORDS: usize = 12_480;
 pub const AREA_WORDS: usize = 128;
-pub const PLACEMENT_WORDS: usize = 1_280;
+pub const PLACEMENT_WORDS: usize = 512;
 /// Where the regions of the bytes start, and their lengths.
 pub const COLUMN_MARKS_START: usize = 0;
 pub const ROW_MARKS_START: usize = 30_000;
@@ -34,7 +31,7 @@ pub const AREA_NAMES_START: usize = 60_000;
 pub const PLACEMENT_NAMES_START: usize = 62_048;
 pub const AXIS_MARKS: usize = 30_000;
 pub const AREA_BYTES: usize = 2_048;
-pub const PLACEMENT_BYTES: usize = 32_768;
+pub const PLACEMENT_BYTES: usize = 16_384;
 /// The most name entries of an axis.
 pub const ENTRIES: usize = 4_096;
 /// The words of a record.
@@ -105,9 +102,7 @@ pub struct Grid {
     pub columns: AxisGrid,
     pub rows: AxisGrid,
     pub areas: u32,
-    /// A cell is two of them: its columns, then its rows.
     pub placements: u32,
-    pub cells: u32,
 }
 
 /// What only an edit reads.
@@ -200,32 +195,6 @@ pub mod raw {
 
     #[repr(C)]
     #[derive(Clone, Copy, Debug, PartialEq, Eq)]
-    pub struct CellsAnswer {
-        pub number: u32,
-        pub line: u32,
-        pub count: u32,
-    }
-
-    #[repr(C)]
-    #[derive(Clone, Copy, Debug, PartialEq, Eq)]
-    pub struct TrialAnswer {
-        pub number: u32,
-        pub line: u32,
-        pub placements: u32,
-        pub cells: u32,
-    }
-
-    /// What is tried beside a name.
-    #[repr(C)]
-    #[derive(Clone, Copy, Debug, PartialEq, Eq)]
-    pub struct Trial {
-        pub axis: u32,
-        pub line: u32,
-        pub packing: u32,
-    }
-
-    #[repr(C)]
-    #[derive(Clone, Copy, Debug, PartialEq, Eq)]
     pub struct PlacementAnswer {
         pub number: u32,
         pub axis: u32,
@@ -287,25 +256,15 @@ pub mod raw {
             line: i32, hits: *mut [u32; HITS],
         ) -> CountAnswer;
         pub fn palgwern_least_resize(grid: Grid, words: *const [u64; PANEL_WORDS], axis: u32) -> ResizeAnswer;
-        pub fn palgwern_place_cells(
-            grid: Grid, words: *const [u64; PANEL_WORDS], bytes: *const [u8; PANEL_BYTES], columnstore: *const u8,
-            columnstore_bytes: usize, rowstore: *const u8, rowstore_bytes: usize, packing: u32, lands: *mut [u64; LANDS],
-        ) -> CellsAnswer;
-        pub fn palgwern_try_name(
-            panel: State, words: *const [u64; PANEL_WORDS], bytes: *const [u8; PANEL_BYTES], columnstore: *const u8,
-            columnstore_bytes: usize, rowstore: *const u8, rowstore_bytes: usize, trial: Trial, name: *const u8, name_bytes: usize,
-            numbers: *mut [i32; PLACEMENT_RUN], lands: *mut [u64; LANDS],
-        ) -> TrialAnswer;
     }
 }
 
 const _: () = assert!(size_of::<AxisGrid>() == 56 && size_of::<AxisRoom>() == 20);
-const _: () = assert!(size_of::<Grid>() == 128 && size_of::<Room>() == 48 && size_of::<State>() == 176);
-const _: () = assert!(size_of::<raw::PanelAnswer>() == 184 && size_of::<raw::CountAnswer>() == 16);
-const _: () = assert!(size_of::<raw::SheetAnswer>() == 192 && size_of::<raw::DisplayAnswer>() == 144);
+const _: () = assert!(size_of::<Grid>() == 120 && size_of::<Room>() == 48 && size_of::<State>() == 168);
+const _: () = assert!(size_of::<raw::PanelAnswer>() == 176 && size_of::<raw::CountAnswer>() == 16);
+const _: () = assert!(size_of::<raw::SheetAnswer>() == 184 && size_of::<raw::DisplayAnswer>() == 136);
 const _: () = assert!(size_of::<raw::SizeAnswer>() == 12 && size_of::<raw::NameAnswer>() == 12 && size_of::<raw::LineAnswer>() == 8 && size_of::<raw::PlacementAnswer>() == 32);
-const _: () = assert!(size_of::<raw::ResizeAnswer>() == 12 && size_of::<raw::CellsAnswer>() == 12);
-const _: () = assert!(size_of::<raw::Trial>() == 12 && size_of::<raw::TrialAnswer>() == 16);
+const _: () = assert!(size_of::<raw::ResizeAnswer>() == 12);
 
 /// A refusal by its word in the table of refusals.
 #[derive(Clone, Copy, Debug, PartialEq, Eq)]
@@ -413,41 +372,10 @@ pub enum End {
 #[derive(Clone, Copy, Debug, PartialEq, Eq)]
 pub struct Placement {
     pub axis: Axis,
-    /// Whether it is one of a cell's two: then its ends are the cell's settled fields.
-    pub cell: bool,
     pub start: End,
     pub end: End,
     pub startheld: bool,
     pub endheld: bool,
-}
-
-/// How cells are packed.
-#[derive(Clone, Copy, Debug, PartialEq, Eq)]
-pub enum Packing {
-    Sparse = 0,
-    Dense = 1,
-}
-
-/// Where a cell lands: its two column lines and its two row lines, from 1.
-#[derive(Clone, Copy, Debug, PartialEq, Eq)]
-pub struct Land {
-    pub columns: (u16, u16),
-    pub rows: (u16, u16),
-}
-
-impl Land {
-    /// A land from its word.
-    pub fn of(word: u64) -> Land {
-        let part = |at: u32| (word >> at) as u16;
-        Land { columns: (part(0), part(16)), rows: (part(32), part(48)) }
-    }
-}
-
-/// What a panel would answer with one more name: all placements with their names resolved, and where the cells would land.
-#[derive(Clone, Debug, PartialEq, Eq)]
-pub struct Tried {
-    pub placements: Vec<Placement>,
-    pub lands: Vec<Land>,
 }
 
 /// The minimum or the maximum of a track.
@@ -606,11 +534,6 @@ fn end_of(kind: u32, number: i32) -> End {
     }
 }
 
-/// The axis of a placement, and whether it is one of a cell's two.
-fn axis_of(number: u32) -> (Axis, bool) {
-    (if number & 1 == 0 { Axis::Columns } else { Axis::Rows }, number & 2 != 0)
-}
-
 /// A count, or its refusal.
 fn counted(answer: raw::CountAnswer) -> Result<usize, Refusal> {
     match answer.number {
@@ -623,9 +546,9 @@ impl Placement {
     /// A placement from its numbers in a run.
     pub fn of(numbers: &[i32; PLACEMENT_NUMBERS]) -> Placement {
         let [_, axis, startkind, startnumber, endkind, endnumber, startheld, endheld] = *numbers;
-        let (axis, cell) = axis_of(axis as u32);
+        let axis = if axis == 0 { Axis::Columns } else { Axis::Rows };
         let (start, end) = (end_of(startkind as u32, startnumber), end_of(endkind as u32, endnumber));
-        Placement { axis, cell, start, end, startheld: startheld != 0, endheld: endheld != 0 }
+        Placement { axis, start, end, startheld: startheld != 0, endheld: endheld != 0 }
     }
 }
 
@@ -670,33 +593,6 @@ impl Panel {
         self.after(answer.number, answer.line, answer.panel)
     }
 
-    /// What `resolved` and `place_cells` would answer after entering a line and a name, or the refusal; the panel stays. `Word::Unplaced` with
-    /// the line of the first cell, in placing order, that would have no place.
-    pub fn try_name(&self, axis: Axis, line: u32, name: &[u8], packing: Packing) -> Result<Tried, Refusal> {
-        let (mut numbers, mut lands) = (zeroed(), [0; LANDS]);
-        let (placements, cells) = self.write_trial(axis, line, name, packing, &mut numbers, &mut lands)?;
-        let runs = numbers.chunks_exact(PLACEMENT_NUMBERS).take(placements);
-        Ok(Tried { placements: runs.map(|n| Placement::of(n.try_into().unwrap())).collect(), lands: lands.into_iter().take(cells).map(Land::of).collect() })
-    }
-
-    /// Writes the same, eight numbers for each placement and a word for each cell; answers how many of each. On a refusal nothing is written.
-    pub fn write_trial(
-        &self, axis: Axis, line: u32, name: &[u8], packing: Packing, numbers: &mut [i32; PLACEMENT_RUN], lands: &mut [u64; LANDS],
-    ) -> Result<(usize, usize), Refusal> {
-        let (held, trial) = (&self.answers, raw::Trial { axis: axis as u32, line, packing: packing as u32 });
-        // SAFETY: as above; `numbers` and `lands` are borrowed mutably, so they are none of the others.
-        let answer = unsafe {
-            raw::palgwern_try_name(
-                self.state(), &*held.words, &*held.bytes, held.columnstore.as_ptr(), STORE_BYTES, held.rowstore.as_ptr(), STORE_BYTES,
-                trial, name.as_ptr(), name.len(), numbers, lands,
-            )
-        };
-        match answer.number {
-            0 => Ok((answer.placements as usize, answer.cells as usize)),
-            number => Err(Refusal::of(number, answer.line)),
-        }
-    }
-
     fn after(&mut self, number: u32, line: u32, state: State) -> Result<(), Refusal> {
         if number != 0 {
             return Err(Refusal::of(number, line));
@@ -724,30 +620,9 @@ impl Answers {
         AxisSize { repetitions: answer.repetitions, explicit: answer.explicit }
     }
 
-    /// How many placements there are; a cell is two of them, its columns and then its rows.
+    /// How many placements there are.
     pub fn placements(&self) -> u32 {
         self.grid.placements
-    }
-
-    /// How many cells there are.
-    pub fn cells(&self) -> u32 {
-        self.grid.cells
-    }
-
-    /// Where the cells land, in sheet order; `Word::Unplaced` with the line of the first one, in placing order, that has no place.
-    pub fn place_cells(&self, packing: Packing) -> Result<Vec<Land>, Refusal> {
-        let mut lands = [0; LANDS];
-        // SAFETY: as in `Panel::read_again`; `lands` is a local of its own.
-        let answer = unsafe {
-            raw::palgwern_place_cells(
-                self.grid, &*self.words, &*self.bytes, self.columnstore.as_ptr(), STORE_BYTES, self.rowstore.as_ptr(), STORE_BYTES,
-                packing as u32, &mut lands,
-            )
-        };
-        match answer.number {
-            0 => Ok(lands.into_iter().take(answer.count as usize).map(Land::of).collect()),
-            number => Err(Refusal::of(number, answer.line)),
-        }
     }
 
     /// Placement `index`, from 0, with its names resolved; `Word::Count` where there is none.
@@ -762,9 +637,9 @@ impl Answers {
         if answer.number != 0 {
             return Err(Refusal::of(answer.number, 0));
         }
-        let (axis, cell) = axis_of(answer.axis);
+        let axis = if answer.axis == 0 { Axis::Columns } else { Axis::Rows };
         let (start, end) = (end_of(answer.startkind, answer.startnumber), end_of(answer.endkind, answer.endnumber));
-        Ok(Placement { axis, cell, start, end, startheld: answer.startheld != 0, endheld: answer.endheld != 0 })
+        Ok(Placement { axis, start, end, startheld: answer.startheld != 0, endheld: answer.endheld != 0 })
     }
 
     /// All placements with their names resolved, in one run: the answers of `placement`, with the names grouped once.

@@ -39,7 +39,7 @@ fn every_field() {
     assert!(pairs.iter().all(|(in_columns, in_rows)| in_columns != in_rows));
     assert_eq!(panel.grid(), grid);
     assert_eq!((std::mem::offset_of!(AxisSpace, gap), std::mem::offset_of!(AxisGrid, size)), (16, 48));
-    assert_eq!((std::mem::offset_of!(Grid, areas), std::mem::offset_of!(State, room)), (112, 128));
+    assert_eq!((std::mem::offset_of!(Grid, areas), std::mem::offset_of!(State, room)), (112, 120));
     assert_eq!(std::mem::offset_of!(raw::PanelAnswer, panel), 8);
     assert_eq!((std::mem::offset_of!(raw::SheetAnswer, panel), std::mem::offset_of!(raw::DisplayAnswer, grid)), (16, 16));
     assert_eq!(std::mem::offset_of!(raw::CountAnswer, count), 8);
@@ -52,8 +52,8 @@ fn answers() {
     assert_eq!(panel.size(Axis::Rows), AxisSize { repetitions: 0, explicit: 9 });
     assert_eq!((panel.lists(Axis::Columns), panel.lists(Axis::Rows)), (21, 10));
     assert_eq!((panel.record_count(Axis::Columns), panel.record_count(Axis::Rows)), (71, 51));
-    assert_eq!(panel.placement(0), Ok(Placement { axis: Axis::Columns, cell: false, start: End::Line(5), end: End::Span(6), startheld: false, endheld: false }));
-    assert_eq!(panel.placement(1), Ok(Placement { axis: Axis::Rows, cell: false, start: End::Line(-3), end: End::Line(12), startheld: false, endheld: false }));
+    assert_eq!(panel.placement(0), Ok(Placement { axis: Axis::Columns, start: End::Line(5), end: End::Span(6), startheld: false, endheld: false }));
+    assert_eq!(panel.placement(1), Ok(Placement { axis: Axis::Rows, start: End::Line(-3), end: End::Line(12), startheld: false, endheld: false }));
     assert_eq!(panel.resolved(), [panel.placement(0).unwrap(), panel.placement(1).unwrap()]);
     let mut run = [7; PLACEMENT_RUN];
     assert_eq!((panel.write_placements(1, &mut run), &run[..9]), (Ok(1), &[0, 1, 1, -3, 1, 12, 0, 0, 7][..]));
@@ -187,70 +187,6 @@ fn picture() {
     assert_eq!(Display::read(b"row\t.\t.\n").unwrap().size(Axis::Columns).explicit, 2);
 }
 
-/// Cells land by either packing; a cell without a place is refused with its line, and the panel stays.
-#[test]
-fn cells() {
-    let (column, free) = ("track\tc\tauto\t00000000\tauto\t00000000\n", "\tauto\t-\t0");
-    let cell = |start: &str| format!("cell{start}{free}{free}{free}\n");
-    let (wide, any) = (cell("\tspan\t-\t2"), cell(free));
-    let sheet = [&column.repeat(3), &wide, "place\tc\tline\t-\t3\tauto\t-\t0\n", &wide, &any].concat();
-    let panel = Panel::read(sheet.as_bytes()).unwrap();
-    let land = |columns, row| Land { columns, rows: (row, row + 1) };
-    assert_eq!((panel.cells(), panel.placements()), (3, 7));
-    assert_eq!(panel.place_cells(Packing::Sparse), Ok(vec![land((1, 3), 1), land((1, 3), 2), land((3, 4), 2)]));
-    assert_eq!(panel.place_cells(Packing::Dense), Ok(vec![land((1, 3), 1), land((1, 3), 2), land((3, 4), 1)]));
-    assert_eq!(panel.resolved().iter().map(|placement| placement.cell).collect::<Vec<_>>(), [true, true, false, true, true, true, true]);
-    assert_eq!((panel.placement(0).unwrap().start, panel.placement(1).unwrap().axis), (End::Span(2), Axis::Rows));
-    let narrow = Panel::read([column, &any, &wide, &any].concat().as_bytes()).unwrap();
-    assert_eq!(narrow.place_cells(Packing::Sparse).err(), refusal(Word::Unplaced, 3));
-    assert_eq!(format!("{}", refusal(Word::Unplaced, 3).unwrap()), "refused by 15 (unplaced) at line 3");
-    assert_eq!(Display::read(any.as_bytes()).unwrap().place_cells(Packing::Dense).err(), refusal(Word::Unplaced, 1));
-    assert_eq!(Panel::empty().place_cells(Packing::Sparse), Ok(vec![]));
-}
-
-/// What a trial answers is what entering the name on a copy gives; the panel stays, and on a refusal nothing is written.
-fn assert_as_entered(panel: &Panel, axis: Axis, line: u32, name: &[u8], packing: Packing) -> Result<Tried, Refusal> {
-    let (before, mut copy) = (panel.clone(), panel.clone());
-    let (mut numbers, mut lands) = ([7; PLACEMENT_RUN], [7; LANDS]);
-    let tried = panel.try_name(axis, line, name, packing);
-    let written = panel.write_trial(axis, line, name, packing, &mut numbers, &mut lands);
-    assert!(*panel == before);
-    let (placements, cells) = *written.as_ref().unwrap_or(&(0, 0));
-    assert!(numbers[PLACEMENT_NUMBERS * placements..].iter().all(|&number| number == 7) && lands[cells..].iter().all(|&land| land == 7));
-    let entered = copy.enter(axis, line, name).and_then(|()| copy.place_cells(packing)).map(|lands| Tried { placements: copy.resolved(), lands });
-    assert_eq!(tried, entered);
-    assert_eq!(written.err(), tried.as_ref().err().copied());
-    tried
-}
-
-#[test]
-fn trials() {
-    let (column, free) = ("track\tc\tauto\t00000000\tauto\t00000000\n", "\tauto\t-\t0");
-    let cells = format!("cell\tnamed\tx\t1\tnamed\tx\t-1{free}{free}\ncell\tnamed\tx\t-1{free}{free}{free}\n");
-    let area = "\tnamed\ta\t0\tnamed\ta\t0\n";
-    let placements = ["place\tc\tnamed\tx\t1\tnamed\tx\t2\nplace\tr", area, &cells, "place\tc", area].concat();
-    let mut panel = Panel::read(["area\ta\t1\t2\t2\t4\nname\tc\tx\n", &column.repeat(3), &placements].concat().as_bytes()).unwrap();
-    let ends = |tried: &Tried, index: usize| (tried.placements[index].start, tried.placements[index].end);
-    let land = |columns, row| Land { columns, rows: (row, row + 1) };
-    let third = assert_as_entered(&panel, Axis::Columns, 3, b"x", Packing::Sparse).unwrap();
-    assert_eq!((ends(&third, 0), ends(&third, 6)), ((End::Line(1), End::Line(3)), (End::Line(2), End::Line(4))));
-    assert_eq!(third.lands, [land((1, 3), 1), land((3, 4), 1)]);
-    assert_eq!((panel.placement(0).unwrap().end, panel.place_cells(Packing::Sparse).unwrap()[1]), (End::Line(5), land((1, 2), 2)));
-    let edge = assert_as_entered(&panel, Axis::Columns, 1, b"a-start", Packing::Dense).unwrap();
-    assert_eq!(ends(&edge, 6), (End::Line(1), End::Line(4)));
-    let row = assert_as_entered(&panel, Axis::Rows, 1, b"a-end", Packing::Sparse).unwrap();
-    assert_eq!((ends(&row, 1), ends(&row, 6)), ((End::Line(1), End::Line(1)), (End::Line(2), End::Line(4))));
-    for (line, name, word, at) in [(1, &b""[..], Word::Name, 0), (0, b"not a name", Word::Name, 0), (0, b"x", Word::Count, 0), (20_001, b"x", Word::Count, 0), (4, b"x", Word::Unplaced, 9)] {
-        assert_eq!(assert_as_entered(&panel, Axis::Columns, line, name, Packing::Dense).err(), refusal(word, at));
-    }
-    for line in 1..ENTRIES as u32 {
-        panel.enter(Axis::Columns, line, b"y").unwrap();
-    }
-    assert_eq!(assert_as_entered(&panel, Axis::Columns, 4, b"x", Packing::Sparse).err(), refusal(Word::Crowded, 0));
-    assert!(assert_as_entered(&panel, Axis::Rows, 4, b"x", Packing::Sparse).is_ok());
-    assert_eq!(assert_as_entered(&Panel::empty(), Axis::Rows, 1, b"x", Packing::Dense), Ok(Tried { placements: vec![], lands: vec![] }));
-}
-
 /// What the sheet call accepts is displayed alike; areas that share cells are displayed with the first pair.
 #[test]
 fn display() {
@@ -314,8 +250,8 @@ fn entries() {
 #[test]
 fn marks() {
     let panel = Panel::read(b"place\tr\tline\t-\t10002\tspan\t-\t9\nplace\tc\tspan\t-\t7\tline\t-\t-10002\n").unwrap();
-    let first = Placement { axis: Axis::Rows, cell: false, start: End::Line(10002), end: End::Span(9), startheld: true, endheld: false };
-    let second = Placement { axis: Axis::Columns, cell: false, start: End::Span(7), end: End::Line(-10002), startheld: false, endheld: true };
+    let first = Placement { axis: Axis::Rows, start: End::Line(10002), end: End::Span(9), startheld: true, endheld: false };
+    let second = Placement { axis: Axis::Columns, start: End::Span(7), end: End::Line(-10002), startheld: false, endheld: true };
     assert_eq!(panel.resolved(), [first, second]);
     assert_eq!((panel.placement(0), panel.placement(1)), (Ok(first), Ok(second)));
 }
@@ -383,7 +319,7 @@ fn empty_sheet() {
 
 #[test]
 fn in_a_small_thread() {
-    let run = || Panel::read(LAYOUT).unwrap().try_name(Axis::Columns, 1, b"a", Packing::Sparse).unwrap().placements[0].start;
+    let run = || Panel::read(LAYOUT).unwrap().placement(0).unwrap().start;
     let thread = std::thread::Builder::new().stack_size(512 * 1024).spawn(run).unwrap();
     assert_eq!(thread.join().unwrap(), End::Line(5));
 }

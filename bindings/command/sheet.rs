@@ -77,8 +77,6 @@ pub struct Sheet {
     pub picture: Vec<Row>,
     pub areas: Vec<Area>,
     pub places: Vec<Place>,
-    /// The lines of its cells.
-    pub cells: Vec<usize>,
 }
 
 impl AxisSheet {
@@ -137,7 +135,7 @@ impl Written {
 
 impl Sheet {
     pub fn empty() -> Sheet {
-        Sheet { axes: [AxisSheet::empty(), AxisSheet::empty()], picture: vec![], areas: vec![], places: vec![], cells: vec![] }
+        Sheet { axes: [AxisSheet::empty(), AxisSheet::empty()], picture: vec![], areas: vec![], places: vec![] }
     }
 
     pub fn axis(&self, axis: Axis) -> &AxisSheet {

@@ -1,7 +1,6 @@
 """Plants wrong readings in the model's answers and in the drawings, one at a time, and shows that each browser finds each."""
 import comparable
 import model
-import questions
 import wrong
 from asked import Asked
 from browser_compare import compare
@@ -14,8 +13,7 @@ FEW = 100
 def modelled(number, made):
     """A panel with the model's answer."""
     answer = model.Answer(*made[:2])
-    more = [] if answer.refused else model.count_lines(answer.state) + questions.answer_lines(answer.state, questions.browser_rows(answer.state))
-    return Asked(number, made, answer.full_answer() + more)
+    return Asked(number, made, answer.full_answer() + ([] if answer.refused else model.count_lines(answer.state)))
 
 
 def first_found(reading, made, drawn_by, finders):

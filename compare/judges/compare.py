@@ -3,10 +3,8 @@ import re
 from dataclasses import replace
 
 import css
-import css_cells
 import exact_cursor
 import model
-import placing
 import questions
 import reader
 import resize
@@ -16,8 +14,6 @@ from build import CannotCompare
 
 # Above this the Rust isn't asked for the entries of a sheet that the model refuses as crowded.
 MOST_ENTRIES_ASKED = 100000
-# Above this the Rust isn't asked what a trial would give.
-MOST_TRACKS_TRIED = 300
 
 
 TEMPLATE_WORDS = (b"name", b"track", b"repeat", b"end")
@@ -34,19 +30,9 @@ def without_templates(sheet, letters):
     return b"\n".join(line for line in sheet.split(b"\n") if tuple(line.split(b"\t")[:2]) not in dropped)
 
 
-def as_placements(line):
-    """A `cell` line as the two placements whose settled fields are the cell's; another line as it is."""
-    fields = line.split(b"\t")
-    if fields[0] != b"cell":
-        return [line]
-    return [b"\t".join([b"place", b"c", *fields[1:7]]), b"\t".join([b"place", b"r", *fields[7:]])]
-
-
 def asked_of_the_rust(sheet, panel):
-    """The Rust half uses an invalid template: it is asked without the template lines of such an axis. It has no cells to place here: it
-    is asked their settled fields, as those of placements."""
-    lines = without_templates(sheet, invalid_letters(panel)).split(b"\n")
-    return b"\n".join(other for line in lines for other in as_placements(line))
+    """The Rust half uses an invalid template: it is asked without the template lines of such an axis."""
+    return without_templates(sheet, invalid_letters(panel))
 
 
 class Rust(Batch):
@@ -293,24 +279,6 @@ def css_repetitions(axis):
     return None
 
 
-def css_cells_of(state, packing):
-    """Where the cells land against a search over all rectangles on a map of cells, where the grid is small; and no automatic one shares
-    a cell with another, where it is not."""
-    try:
-        areas = [(area.column, area.column_end, area.row, area.row_end) for area in state.lands(packing)]
-        own = "at", areas
-    except placing.Unplaced as unplaced:
-        own = "refused", state.panel.cells.index(unplaced.line)
-    settled = state.settled_cells()
-    found = css_cells.placed(settled, state.explicit["c"], state.explicit, packing == placing.DENSE)
-    if found is not None and found != own:
-        return f"CSS: cells placed {packing}: {found}, model {own}"
-    automatic = [any(css_cells.extent(ends, state.explicit[letter])[0] == "over" for letter, ends in zip("cr", both)) for both in settled]
-    if own[0] == "at" and not css_cells.apart(own[1], automatic):
-        return f"CSS: cells placed {packing} share a cell: {own[1]}"
-    return None
-
-
 def css_differences(state):
     """Every comparison with CSS's counting that applies, and whether the third demand's does."""
     differences = [css_repetitions(state.panel.axes[letter]) for letter in model.LETTERS]
@@ -321,8 +289,6 @@ def css_differences(state):
                     for letter in model.LETTERS]
     differences += [css_sources(state, letter, state.records[letter]) for letter in model.LETTERS]
     differences.append(css_pair(state))
-    if state.panel.cells:
-        differences += [css_cells_of(state, packing) for packing in (placing.SPARSE, placing.DENSE)]
     demand = demand_lines(state)
     if demand is None:
         return differences, False
@@ -352,48 +318,6 @@ def compare(sheet, calls, rust, judged=(), expected=None):
         difference = first_difference(one.name, one.expected(sheet, answer, rows), one.ask(sheet, calls, rows))
         result.differences += [difference] if difference else []
     return result
-
-
-def held_of(state):
-    """All that an entry changes."""
-    return [list(part) for part in (*state.entries.values(), state.used.items(), state.accepted)]
-
-
-def entered_lines(sheet, calls, row):
-    """What a trial has to answer, from the answers of the sheet with one call more; and that state."""
-    call, packing, stores = questions.call_of(row)
-    after = model.Answer(sheet, [*calls, call])
-    number = after.numbers[-1] or (reader.SHORT if min(stores) < model.STORE_BYTES else 0)
-    found = questions.answer_text(after.state, questions.cells(packing)).split("\t")
-    if number or found[0] == "refused":
-        return [model.refusal_line(number, 0) if number else "\t".join(found)], None
-    settled = iter(model.settled_lines(after.state))
-    placed = (f"{line}\t{held[7:]}" for line, held in zip(model.placement_lines(after.state), after.marks))
-    lines = ["settled" + next(settled)[5:] if placement.cell else next(placed) for placement in after.state.panel.placements]
-    lands = ["\t".join(["cell", *found[at:at + 4]]) for at in range(1, len(found), 4)]
-    return [f"tried\t{len(lines)}\t{len(lands)}", *lines, *lands], after.state
-
-
-def rust_placements(sheet, state, rust):
-    """The settled placements, cells' too, of a small grid by the Rust, which has no marks."""
-    if max(state.explicit.values()) > MOST_TRACKS_TRIED:
-        return None
-    lines = rust.ask(asked_of_the_rust(sheet, state.panel), state.accepted)
-    return [line[5:] for line in lines if line.startswith("place")]
-
-
-def trial_difference(answer, rust, sheet, row):
-    """A trial beside the entry of the same name after the calls, and the Rust's placements then; the panel itself stays."""
-    before = held_of(answer.state)
-    own = questions.answer_text(answer.state, row).split("\n")
-    if held_of(answer.state) != before:
-        return f"trial: {row!r} changes the panel"
-    lines, state = entered_lines(sheet, answer.calls, row)
-    if own != lines:
-        return first_difference(f"trial {row!r}", own, lines)
-    theirs = state and rust_placements(sheet, state, rust)
-    placed = [line[line.index("\t"):-4] for line in own if line.startswith(("place", "settled"))]
-    return first_difference(f"Rust: trial {row!r}", placed, theirs) if theirs is not None else None
 
 
 def recounted(sheet, calls, counts):
@@ -428,19 +352,17 @@ def calls_difference(answer, sheet, lines):
 
 def compare_accepted(answer, rust, sheet):
     state = answer.state
-    # The Rust has neither sources nor marks, and of cells their settled fields alone.
-    full = list(map(rules.bare, model.sheet_lines(state, state.panel.placements))) + answer.names + model.count_lines(state)
+    # The Rust has neither sources nor marks.
+    full = list(map(rules.bare, answer.output)) + answer.names + model.count_lines(state)
     lines = rust.ask(asked_of_the_rust(sheet, state.panel), state.accepted)
     differences = [first_difference("Rust", full, lines)]
     if not differences[0]:
         differences.append(calls_difference(answer, sheet, lines))
     rows = questions.made(sheet, state)
-    differences.append(exact_cursor.difference(state, model.sheet_lines(state), rows, questions.answer_texts(state, rows)))
-    differences += [trial_difference(answer, rust, sheet, row) for row in questions.trials(sheet, state)]
+    differences.append(exact_cursor.difference(state, answer.output, rows, questions.answer_lines(state, rows)))
     differences.append(css_picture(state, sheet))
     css_found, demanded = css_differences(state)
-    cells = "" if not state.panel.cells else ", cells that have no place" if answer.unplaced else ", cells"
-    kind = "accepted" + cells + (", a picture" if state.panel.picture else "") + (", an invalid template" if invalid_letters(state.panel) else "") + (", third demand's conditions hold" if demanded else "")
+    kind = "accepted" + (", a picture" if state.panel.picture else "") + (", an invalid template" if invalid_letters(state.panel) else "") + (", third demand's conditions hold" if demanded else "")
     return Comparison(kind, differences + css_found)
 
 
@@ -453,11 +375,10 @@ def without_rows(sheet, calls):
 
 def column_answers(answer):
     """Every answer of a sheet and its calls that is about columns."""
-    own = model.sheet_lines(answer.state)
+    own = answer.output
     rows = next(place for place, line in enumerate(own) if line.startswith("size\tr"))
     numbers = [number for call, number in zip(answer.calls, answer.numbers) if call[0] == "c"]
-    # Where a cell lands is no column answer; its settled fields are.
-    named = own[rows:] + model.settled_lines(answer.state) + answer.names + answer.marks
+    named = own[rows:] + answer.names + answer.marks
     return [f"call {number}" for number in numbers] + own[:rows] + \
         [line for line in named if line.startswith(("place\tc", "names\tc", "held\tc"))]
 
@@ -480,5 +401,5 @@ def any_order(sheet, calls):
         return None
     entries = [(letter, line, name.encode()) for letter, line, name in answer.state.accepted]
     other = model.Answer(sheet, entries[::-1])
-    placed = [model.placement_lines(one.state) + model.settled_lines(one.state) + one.marks for one in (answer, other)]
+    placed = [model.placement_lines(one.state) + one.marks for one in (answer, other)]
     return first_difference("any order", *placed)

@@ -1,9 +1,7 @@
 """The second judge: a sheet and direct entry calls, answered from the words of documents 01 and 02 alone."""
-import copy
 from functools import cached_property
 
 import cursor
-import placing
 import reader
 import rules
 
@@ -40,34 +38,8 @@ class State:
             self.cursors[letter] = cursor.Axis(self, letter)
         return self.cursors[letter]
 
-    def halves(self):
-        """The cells' placements: for each cell, in sheet order, its column and its row."""
-        halves = [placement for placement in self.panel.placements if placement.cell]
-        return list(zip(halves[::2], halves[1::2]))
-
-    def settled_cells(self):
-        """The settled ends of each cell's column and row, before any placing."""
-        columns, rows = (self.names(letter) for letter in LETTERS)
-        return [(columns.resolve(column), rows.resolve(row)) for column, row in self.halves()]
-
-    def lands(self, packing):
-        """Where each cell lands, in sheet order; raises `placing.Unplaced`."""
-        return placing.lands(self.items(), self.explicit["c"], packing)
-
-    def items(self):
-        """The cells with their sides."""
-        sides = [(placing.side(column, self.explicit["c"]), placing.side(row, self.explicit["r"])) for column, row in self.settled_cells()]
-        return [placing.Item(line, *both) for line, both in zip(self.panel.cells, sides)]
-
     def names(self, letter):
         return rules.Names(self.entries[letter], self.panel.areas, letter, self.explicit[letter])
-
-    def copied(self):
-        """A copy to enter names in; what no entry changes is shared."""
-        other = copy.copy(self)
-        other.entries = {letter: list(entries) for letter, entries in self.entries.items()}
-        other.used, other.accepted = dict(self.used), list(self.accepted)
-        return other
 
 
 def late_refusal(panel):
@@ -111,13 +83,6 @@ def enter(state, letter, line, name, stores=FULL_STORES):
     return 0
 
 
-def try_name(state, letter, line, name, packing, stores=FULL_STORES):
-    """One trial: its number, and where that is 0 all settled placements as lines, and where each cell lands; raises `placing.Unplaced`."""
-    entered = state.copied()
-    number = enter(entered, letter, line, name, stores)
-    return (number, [], []) if number else (0, all_settled_lines(entered), entered.lands(packing))
-
-
 def refusal_line(number, line):
     return f"refused\t{number}\t{line}"
 
@@ -126,61 +91,20 @@ def entry_line(number):
     return refusal_line(number, 0) if number else "entered\t0\t0"
 
 
-def output_lines(state):
-    """Document 01's output, and the cells after it, placed sparsely; where one has no place, that refusal alone."""
-    try:
-        return sheet_lines(state) + cell_lines(state)
-    except placing.Unplaced as unplaced:
-        return [refusal_line(reader.UNPLACED, unplaced.line)]
-
-
-def cell_lines(state):
-    """`cell`, its two column lines and its two row lines, in sheet order."""
-    return land_lines(state.lands(placing.SPARSE))
-
-
-def land_lines(lands):
-    return [f"cell\t{area.column}\t{area.column_end}\t{area.row}\t{area.row_end}" for area in lands]
-
-
-def sheet_lines(state, placements=None):
-    """Document 01's output; of the placements of `place` lines, or of others."""
+def sheet_lines(state):
+    """Document 01's output."""
     lines = []
     for letter in LETTERS:
         axis = state.panel.axes[letter]
         lines.append(f"size\t{letter}\t{rules.repetitions(axis)}\t{state.explicit[letter]}")
         lines += state.records[letter]
-    return lines + placement_lines(state, placements)
+    return lines + placement_lines(state)
 
 
-def settled_lines(state):
-    """The settled ends of the cells and their marks, two lines for each, in the form of `place` lines."""
-    names = {letter: state.names(letter) for letter in LETTERS}
-    halves = [half for halves in state.halves() for half in halves]
-    marks = ["\t".join("y" if mark else "n" for mark in names[half.axis].marks(half)) for half in halves]
-    return [f"{line}\t{mark}" for line, mark in zip(placement_lines(state, halves), marks)]
-
-
-def all_settled_lines(state):
-    """The settled ends of all placements and their marks, in sheet order: `place`, or `settled` for the columns and the rows of a cell."""
+def placement_lines(state):
     names = {letter: state.names(letter) for letter in LETTERS}
     lines = []
     for placement in state.panel.placements:
-        ends = [str(part) for end in names[placement.axis].resolve(placement) for part in end]
-        marks = ["y" if mark else "n" for mark in names[placement.axis].marks(placement)]
-        lines.append("\t".join(["settled" if placement.cell else "place", placement.axis, *ends, *marks]))
-    return lines
-
-
-def written_placements(state):
-    """Those of `place` lines."""
-    return [placement for placement in state.panel.placements if not placement.cell]
-
-
-def placement_lines(state, placements=None):
-    names = {letter: state.names(letter) for letter in LETTERS}
-    lines = []
-    for placement in written_placements(state) if placements is None else placements:
         (start, first), (end, last) = names[placement.axis].resolve(placement)
         lines.append(f"place\t{placement.axis}\t{start}\t{first}\t{end}\t{last}")
     return lines
@@ -198,7 +122,7 @@ def name_lines(state):
 def mark_lines(state):
     """For each placement whether its start and its end were held, in the form that README.md gives."""
     names = {letter: state.names(letter) for letter in LETTERS}
-    marks = [(placement.axis, names[placement.axis].marks(placement)) for placement in written_placements(state)]
+    marks = [(placement.axis, names[placement.axis].marks(placement)) for placement in state.panel.placements]
     return ["\t".join(["held", letter, *("y" if mark else "n" for mark in both)]) for letter, both in marks]
 
 
@@ -234,12 +158,7 @@ class Answer:
         """Document 01's output after the entry calls."""
         if self.refused:
             return [refusal_line(self.refused.number, self.refused.line)]
-        return output_lines(self.state)
-
-    @cached_property
-    def unplaced(self):
-        """Whether the panel is accepted, and one of its cells has no place."""
-        return not self.refused and self.output[0].startswith("refused")
+        return sheet_lines(self.state)
 
     @cached_property
     def names(self):
@@ -258,10 +177,8 @@ class Answer:
         return [f"pair\t{earlier}\t{later}"] if (earlier, later) != reader.NO_PAIR else []
 
     def full_answer(self, names=True):
-        """The answers of the calls, document 01's output and, where asked, the line names, the marks and the pair; nothing beside the refusal
-        where a cell has no place."""
-        beside = self.names + self.marks + self.pair if names and not self.unplaced else []
-        return [entry_line(number) for number in self.numbers] + self.output + beside
+        """The answers of the calls, document 01's output and, where asked, the line names, the marks and the pair."""
+        return [entry_line(number) for number in self.numbers] + self.output + (self.names + self.marks + self.pair if names else [])
 
 
 def text_of(lines):

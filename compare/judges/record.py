@@ -5,7 +5,6 @@ import random
 import sys
 
 import build
-import cell_edges
 import cursor_edges
 import damage
 import differences
@@ -13,13 +12,11 @@ import edges
 import lists
 import maker
 import model
-import placing
 import questions
 import reader
 import resize as resizing
 import resize_edges
 import rules
-import trial_edges
 import wrong_blocks
 from answer import calls_of
 from compare import Rust, asked_of_the_rust, compare, compare_lines
@@ -43,10 +40,6 @@ RESIZED = 40
 DISPLAYED = {"touching": 20, "overlap": 60, "general": 20, "damaged": 20}
 # Sheets of each family in `pictures`.
 PICTURED = {"picture": 80, "broken": 160}
-# Sheets of the family `cells` of which all cells are placed, and of which one is not; and damaged ones.
-PLACED, UNPLACED, DAMAGED_CELLS = 160, 40, 80
-# Sheets of the family `trial` on which a name is tried with success, and names on each.
-TRIED, TRIALS = 30, 6
 CUT = {"large": 60, "far": 40, "over": 12, "writing_out": 20, "full": 4}
 # Refused sheets for each number, record and kind of field.
 REFUSED_FOR_EACH = {1: 9, 3: 4, 4: 6}
@@ -74,18 +67,14 @@ class Case:
         self.lines = self.answer_lines(rust)
 
     def answer_lines(self, rust):
-        """The Rust's lines where it speaks, a record's source after them; the model's for refusals, the numbers of calls, cells, marks and pairs."""
-        if self.refused or self.answer.unplaced:
+        """The Rust's lines where it speaks, a record's source after them; the model's for refusals, the numbers of calls, marks and pairs."""
+        if self.refused:
             return self.answer.full_answer()
-        state = self.answer.state
-        lines = rust.ask(asked_of_the_rust(self.sheet, state.panel), state.accepted)[:-2]
-        own = model.sheet_lines(state, state.panel.placements) + self.answer.names
+        asked = asked_of_the_rust(self.sheet, self.answer.state.panel)
+        lines = rust.ask(asked, self.answer.state.accepted)[:-2]
+        own = self.answer.output + self.answer.names
         lines = [rules.with_source(line, beside) for line, beside in zip(lines, own, strict=True)]
-        # Of a cell's settled fields, which the Rust gives as placements, nothing is printed; its lines are the model's.
-        first = len(own) - len(self.answer.names) - len(state.panel.placements)
-        kept = [line for placement, line in zip(state.panel.placements, lines[first:]) if not placement.cell]
-        printed = lines[:first] + kept + model.cell_lines(state) + lines[first + len(state.panel.placements):]
-        return [model.entry_line(number) for number in self.answer.numbers] + printed + self.answer.marks + self.answer.pair
+        return [model.entry_line(number) for number in self.answer.numbers] + lines + self.answer.marks + self.answer.pair
 
     def question_lines(self):
         """The answers to the questions made for it."""
@@ -122,13 +111,13 @@ def questions_block(name, sheet, calls, rows, display=False):
             + f"ask {len(rows)}\n".encode() + model.text_of(rows).encode() + f"expect {len(expected)}\n".encode() + expected)
 
 
-def edge_block(rust, name, lines, asked, calls=()):
+def edge_block(rust, name, lines, asked):
     """Questions whose answers are written by hand."""
-    case = Case(name, damage.sheet_of(lines), list(calls), rust)
+    case = Case(name, damage.sheet_of(lines), [], rust)
     rows = [row for row, _ in asked]
-    if questions.answer_texts(case.answer.state, rows) != [answer for _, answer in asked]:
+    if questions.answer_lines(case.answer.state, rows) != [answer for _, answer in asked]:
         raise build.CannotCompare(f"not recorded: {name} is answered otherwise than its edge says")
-    return questions_block(name, case.sheet, case.calls, rows)
+    return questions_block(name, case.sheet, [], rows)
 
 
 def made_questions(family, rust, count):
@@ -208,7 +197,7 @@ def held_case(rust, name, lines, held, calls=()):
     return case
 
 
-def write_cases(rust, folder):
+def write_cases(folder, rust):
     if not os.path.isdir(folder):
         raise build.CannotCompare(f"not recorded: the papers' cases are not in {folder}")
     names = sorted(name[:-3] for name in os.listdir(folder) if name.endswith(".in"))
@@ -276,50 +265,6 @@ def write_pictures(rust):
         cases, displayed = cases + made, displayed + made[::8]
     displayed = [Case(case.name + ", displayed", case.sheet, [], rust, display=True) for case in displayed]
     keep("pictures", [case.block(cut=len(case.lines) > 3000) for case in cases + displayed])
-
-
-def land_words(found):
-    """What the edges write of cells, as an answer: each land's lines, or the refusal."""
-    if isinstance(found, int):
-        return model.refusal_line(reader.UNPLACED, found)
-    return "\t".join(["cells", *[line for land in found for line in land.split()]])
-
-
-def cell_edge(rust, name, lines, sparse, dense):
-    """Cells whose places are written by hand: what is printed, and both packings."""
-    case = Case(name, damage.sheet_of(lines), [], rust)
-    rows = [questions.cells(placing.SPARSE), questions.cells(placing.DENSE)]
-    if questions.answer_lines(case.answer.state, rows) != [land_words(sparse), land_words(dense)]:
-        raise build.CannotCompare(f"not recorded: the cells of {name} land otherwise than its edge says")
-    count = len(case.answer.state.panel.cells)
-    rows += [questions.settled(letter, cell) for cell in range(min(count, 4)) for letter in model.LETTERS]
-    return [case.block(cut=len(case.lines) > 3000), questions_block(name + ", asked", case.sheet, [], rows)]
-
-
-def write_cells(rust):
-    """Cells: the edges, and made ones, of which all are placed, or one is not; half of them asked by either packing."""
-    blocks = [block for edge in cell_edges.edges() for block in cell_edge(rust, *edge)]
-    shared = damage.sheet_of(["area\ta\t1\t2\t1\t3", "area\tb\t1\t3\t2\t4", cell_edges.cell("b / b", "b / b"), cell_edges.cell()])
-    blocks.append(Case("over areas that share a cell, displayed", shared, [], rust, display=True).block())
-    small = lambda placed: lambda case: not case.refused and case.answer.unplaced != placed and len(case.block()) <= LONGEST_BLOCK
-    for placed, count in ((True, PLACED), (False, UNPLACED)):
-        cases = taken(made_cases("cells", rust, SEED + 10), count, small(placed))
-        blocks += [case.block() for case in cases]
-        blocks += [questions_block(case.name + ", asked", case.sheet, case.calls, questions.made(case.sheet, case.answer.state)) for case in cases[::2]]
-    refused = taken(made_cases("damaged_cells", rust, SEED + 10), DAMAGED_CELLS, lambda case: case.refused and len(case.sheet) <= LONGEST_BLOCK)
-    keep("cells", blocks + [case.block() for case in refused])
-
-
-def trial_block(case):
-    """A sheet with the names that are tried on it after its entry calls."""
-    return questions_block(case.name, case.sheet, case.calls, questions.trials(case.sheet, case.answer.state, TRIALS))
-
-
-def write_trials(rust):
-    """Names that are tried: the edges, and sheets made for it, on which some trial is answered."""
-    blocks = [edge_block(rust, *edge) for edge in trial_edges.edges()]
-    answered = lambda case: not case.refused and b"\ntried\t" in trial_block(case) and len(trial_block(case)) <= LONGEST_BLOCK
-    keep("trials", blocks + list(map(trial_block, taken(made_cases("trial", rust, SEED + 11), TRIED, answered))))
 
 
 def write_accepted(rust):
@@ -401,7 +346,7 @@ def short_block(name, sheet, stores, calls, display=False):
     return head + f"enter {len(calls)}\n".encode() + rows + f"expect {len(expected)}\n".encode() + expected
 
 
-def write_short(rust):
+def write_short():
     """Stores that are short: refusal 10, after every other number."""
     full, less = model.STORE_BYTES, model.STORE_BYTES - 1
     good = b"name\tc\tx\ntrack" + b"\tc" + b"\tauto\t00000000" * 2 + b"\nplace\tc\tnamed\tx\t1\tauto\t-\t0\n"
@@ -473,30 +418,11 @@ def check():
     return 1 if found else 0
 
 
-WRITERS = {"limits": write_limits, "areas": write_areas, "pictures": write_pictures, "cells": write_cells, "trials": write_trials, "lines": write_lines,
-           "short": write_short, "entries": write_entries, "accepted": write_accepted, "refused": write_refused, "large": write_cut,
-           "differences": write_differences, "cursor": write_cursor, "resize": write_resize}
-
-
-def remake(options):
-    """The lists that are asked for, the others as they are recorded."""
-    rust = Rust(build.build(options.rust))
-    if not options.only or "cases" in options.only:
-        write_cases(rust, options.cases)
-    for name in options.only or WRITERS:
-        if name in WRITERS:
-            WRITERS[name](rust)
-    rust.close()
-    write_wrong()
-    lists.write_replayed()
-
-
 def main():
     parser = argparse.ArgumentParser(prog="compare/record", description="Remake the recorded lists.")
     parser.add_argument("--rust", help="folder of the unchanged Rust files")
     parser.add_argument("--cases", default=DEFAULT_CASES, help="folder of the papers' cases")
     parser.add_argument("--check", action="store_true", help="remake nothing: only check what is recorded")
-    parser.add_argument("--only", action="append", choices=lists.REPLAYED, help="remake this list alone, and what is wrong on purpose")
     parser.add_argument("--list", choices=lists.REPLAYED + (lists.WRONG,), help="remake nothing: print one of the lists")
     options = parser.parse_args()
     if options.list:
@@ -504,7 +430,23 @@ def main():
         return 0
     if options.check:
         return check()
-    remake(options)
+    rust = Rust(build.build(options.rust))
+    write_cases(options.cases, rust)
+    write_limits(rust)
+    write_areas(rust)
+    write_pictures(rust)
+    write_lines(rust)
+    write_short()
+    write_entries(rust)
+    write_accepted(rust)
+    write_refused(rust)
+    write_cut(rust)
+    write_differences(rust)
+    write_cursor(rust)
+    write_resize(rust)
+    rust.close()
+    write_wrong()
+    lists.write_replayed()
     return check()
 
 

@@ -1,13 +1,15 @@
 //! The calls of the cursor, and what `palgwern.h` promises of them.
 use crate::calls::Numbers;
 use crate::lent::*;
-use crate::palgwern::{raw, Grid, HITS};
+use crate::palgwern::{raw, Grid};
 use crate::planted;
 use crate::promises::{of_refusal, tracks, twice, Promises, Twice};
 
+/// The placements that a list has room for, two in each word of the run.
+const HITS: usize = 256;
 const LARGEST_LENGTH: u32 = 0x477f_ff00;
 
-/// A list of placements, of the length that the calls fix, two in each word of the run.
+/// A list of placements, of the length that the calls fix.
 pub fn lend_hits(lent: &mut Lent) {
     lent.words[RUN].fill_with(&[0x7777_7777_7777_7777; HITS / 2]);
 }
@@ -28,7 +30,7 @@ pub fn nearest_line(lent: &Lent, grid: Grid, numbers: Numbers) -> raw::LineAnswe
 
 /// The line and the place are the bits of a span's ends.
 pub fn placements_within(lent: &mut Lent, grid: Grid, numbers: Numbers) -> raw::CountAnswer {
-    let [words, run, ..] = &mut lent.words;
+    let [words, run] = &mut lent.words;
     let (columnstore, rowstore) = (lent.bytes[COLUMN_STORE].content(), lent.bytes[ROW_STORE].content());
     let items = lent.bytes[ITEMS].content();
     let run: *mut [u64; HITS / 2] = run.array_mut();
@@ -45,7 +47,7 @@ pub fn placements_within(lent: &mut Lent, grid: Grid, numbers: Numbers) -> raw::
 
 /// The line is the given one.
 pub fn placements_around(lent: &mut Lent, grid: Grid, numbers: Numbers) -> raw::CountAnswer {
-    let [words, run, ..] = &mut lent.words;
+    let [words, run] = &mut lent.words;
     let (columnstore, rowstore) = (lent.bytes[COLUMN_STORE].content(), lent.bytes[ROW_STORE].content());
     let items = lent.bytes[ITEMS].content();
     let run: *mut [u64; HITS / 2] = run.array_mut();

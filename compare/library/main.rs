@@ -4,7 +4,6 @@ mod answer;
 mod batch;
 mod blocks;
 mod calls;
-mod cells;
 mod chance;
 mod cursor;
 mod forge;
@@ -16,7 +15,6 @@ mod planted;
 mod promises;
 mod questions;
 mod runs;
-mod trials;
 
 fn number(word: &str) -> u64 {
     word.parse().expect("a number")

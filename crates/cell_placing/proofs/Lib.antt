@@ -4,4 +4,6 @@ pub mod Cursors
 pub mod Turns
 pub mod Placed
 pub mod Theorems
+pub mod Cases
+pub mod Plain
 pub mod Items

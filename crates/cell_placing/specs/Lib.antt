@@ -2,3 +2,5 @@
 pub mod Items
 pub mod Css
 pub mod Steps
+pub mod Plain
+pub mod Cases

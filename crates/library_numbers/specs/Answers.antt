@@ -6,7 +6,6 @@ use Rattle.name_entries.specs.declared.NameEntry.{NameEntry}
 use Rattle.name_entries.specs.Names.{is_name}
 use Rattle.name_resolver.specs.Placements.{resolved_kind_of, resolved_number_of}
 use Rattle.track_rules.specs.Records.{records_in}
-use Rattle.panel_tables.specs.Placements.{axis_mark}
 use Rattle.panel_tables.specs.declared.Grid.{Grid}
 use Rattle.panel_tables.specs.declared.Panel.{Panel}
 use Rattle.panel_tables.specs.Axes.{grid_in}
@@ -113,12 +112,12 @@ abbrev pub mark_number : Bool → ℕ
 mark_number true = 1
 mark_number false = 0
 
--- its axis, 2 more where it is a cell's half; kinds 0 `auto`, 1 `line`, 3 `span`, each with its number, and the marks of both ends
+-- kinds 0 `auto`, 1 `line`, 3 `span`, each with its number, and the marks of both ends
 unfoldable pub placement_numbers : PlacementAnswer → PlacementNumbers
 placement_numbers a =
     record {
       number = a.refusal.number;
-      axis = axis_mark a.axis a.cell;
+      axis = axis_number a.axis;
       startkind = resolved_kind_of a.line.start;
       startnumber = resolved_number_of a.line.start;
       endkind = resolved_kind_of a.line.end;

@@ -1,13 +1,12 @@
 // Answers and records as numbers.
 ghost use Rattle.std.specs.Prelude.{◌≡◌};
-ghost use Rattle.panel_tables.specs.Placements.{axis_mark};
 ghost use Rattle.name_resolver.specs.Placements.{resolved_kind_of, resolved_number_of};
 ghost use Rattle.library_numbers.specs.Answers.{counted, mark_number, uncounted, placement_numbers};
 ghost use Rattle.track_rules.specs.Numbers.{kind_number, source_number};
 ghost use Rattle.library_numbers.specs.Records.{size_word};
 
 use crate::{CountAnswer, PlacementNumbers};
-use coordinates::Axis;
+use coordinates::axis::axis_number;
 use name_resolver::NonNamedGridPlacement;
 use panel_rules::PlacementAnswer;
 use sizing::Sizing;
@@ -59,26 +58,6 @@ fn mark_number(held: bool) -> u32
     0
 }
 
-// The number of an axis, 2 more for a cell's half.
-fn axis_mark(axis: Axis, cell: bool) -> u32
-    ensures { result ≡ axis_mark axis cell }
-{
-    match axis {
-        Axis::Column => {
-            if cell {
-                return 2;
-            }
-            0
-        }
-        Axis::Row => {
-            if cell {
-                return 3;
-            }
-            1
-        }
-    }
-}
-
 // A resolved placement.
 pub fn placement_numbers(answer: PlacementAnswer) -> PlacementNumbers
     ensures { result ≡ placement_numbers answer }
@@ -91,7 +70,7 @@ pub fn placement_numbers(answer: PlacementAnswer) -> PlacementNumbers
     let end = line.end;
     PlacementNumbers {
         number: refusal.number,
-        axis: axis_mark(axis, answer.cell),
+        axis: axis_number(axis),
         startkind: end_kind(start),
         startnumber: end_number(start),
         endkind: end_kind(end),

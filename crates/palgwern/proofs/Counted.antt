@@ -12,7 +12,7 @@ use Rattle.library_numbers.specs.declared.CountAnswer.{CountAnswer}
 use Rattle.panel_hits.specs.declared.HitsAnswer.{HitsAnswer}
 use Rattle.panel_hits.specs.declared.Span.{Span}
 use Rattle.panel_hits.specs.declared.Around.{Around}
-use Rattle.panel_settled.specs.Settled.{Lent}
+use Rattle.panel_hits.specs.Settled.{Lent}
 use Rattle.panel_hits.specs.Lists.{WrittenHits, placements_within, placements_around}
 use Rattle.palgwern.specs.Hits.{ListedHits, listed_hits, hits_within, hits_around}
 

@@ -6,7 +6,7 @@ use Rattle.coordinates.specs.Axes.{axis_of}
 use Rattle.library_numbers.specs.declared.CountAnswer.{CountAnswer}
 use Rattle.library_numbers.specs.Answers.{is_axis, uncounted}
 use Rattle.panel_positions.specs.Cursor.{no_axis_positions}
-use Rattle.panel_settled.specs.Settled.{Lent}
+use Rattle.panel_hits.specs.Settled.{Lent}
 use Rattle.panel_hits.specs.Lists.{WrittenHits, placements_within, placements_around}
 
 -- the answer, and what the lent list holds

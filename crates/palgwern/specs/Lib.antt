@@ -3,5 +3,3 @@ pub mod Names
 pub mod Cursor
 pub mod Hits
 pub mod Resize
-pub mod Cells
-pub mod Trial

@@ -1,6 +1,6 @@
 // The two lists of placements under the cursor.
 ghost use Rattle.std.specs.Prelude.{◌≡◌};
-ghost use Rattle.panel_settled.specs.Settled.{lent_in};
+ghost use Rattle.panel_hits.specs.Settled.{lent_in};
 ghost use Rattle.palgwern.specs.Hits.{ListedHits, hits_within, hits_around};
 
 use crate::ROWS;

@@ -11,11 +11,9 @@ ghost use Rattle.library_numbers.specs.Records.{WrittenRun, records_written};
 ghost use Rattle.library_names.specs.Lists.{lists_written};
 ghost use Rattle.panel_resolving.specs.Placements.{WrittenNumbers, placements_written};
 
-mod cells;
 mod cursor;
 mod hits;
 pub mod resize;
-mod trial;
 
 use axis_tables::layout::AXIS_BYTES;
 use coordinates::axis::axis_of;

@@ -1,4 +1,3 @@
 pub mod Follows
 pub mod Text
 pub mod Fills
-pub mod Printed

@@ -2,4 +2,3 @@
 pub mod Answer
 pub mod Walk
 pub mod Text
-pub mod Printed

@@ -1,6 +1,5 @@
-// The answer to a sheet as the panel program prints it: columns, rows, placements, then the cells, or why it is refused.
+// The answer to a sheet as the panel program prints it: columns, rows, then the placements, or why it is refused.
 mod axis;
-pub mod begin;
 pub mod fill;
 pub mod line;
 mod place;
@@ -9,15 +8,14 @@ use coordinates::{Axis, Refusal};
 use panel_tables::Grid;
 use track_rules::TrackWalk;
 
-// A line of an answer: a refusal; the size of an axis; a record of it, by its index and what is carried to it; a placement or a cell, by
-// its index; none.
+// A line of an answer: a refusal; the size of an axis; a record of it, by its index and what is carried to it; a placement, by its
+// index; none.
 #[derive(Drop)]
 pub enum AnswerLine {
     Refused(Refusal),
     Size(Axis),
     Record(Axis, u32, TrackWalk),
     Place(u32),
-    Cell(u32),
     End,
 }
 

@@ -20,7 +20,6 @@ pub fn is_end(at: AnswerLine) -> bool
         AnswerLine::Size(_) => false,
         AnswerLine::Record(_, _, _) => false,
         AnswerLine::Place(_) => false,
-        AnswerLine::Cell(_) => false,
         AnswerLine::End => true,
     }
 }
@@ -33,10 +32,9 @@ pub fn put_line(
     bytes: &[u8; PANEL_BYTES],
     columnstore: &[u8],
     rowstore: &[u8],
-    lands: &[u64],
     at: AnswerLine,
 ) -> usize
-    ensures { WritesLine out.old (line_text (record { grid = grid; tables = tables_in words.now bytes.now columnstore.now rowstore.now; lands = lands.now }) at) out.new result }
+    ensures { WritesLine out.old (line_text (record { grid = grid; tables = tables_in words.now bytes.now columnstore.now rowstore.now }) at) out.new result }
 {
     match at {
         AnswerLine::Refused(refusal) => panel_text::refused_line(out, refusal),
@@ -53,7 +51,6 @@ pub fn put_line(
             rowstore,
             index,
         ),
-        AnswerLine::Cell(index) => place::put_cell(out, lands, index),
         AnswerLine::End => 0,
     }
 }
@@ -74,7 +71,6 @@ pub fn next_line(
             grid, words, axis, index, state,
         ),
         AnswerLine::Place(index) => place::place_from(grid, index as u64 + 1),
-        AnswerLine::Cell(index) => place::cell_from(grid, index as u64 + 1),
         AnswerLine::End => AnswerLine::End,
     }
 }

@@ -18,8 +18,7 @@ use Rattle.placement_hits.specs.declared.Question.TheVariants.{Within, Around as
 use Rattle.panel_hits.specs.declared.Span.{Span}
 use Rattle.panel_hits.specs.declared.Around.{Around}
 use Rattle.panel_hits.specs.declared.HitsAnswer.{HitsAnswer}
-use Rattle.panel_settled.specs.Settled.{Lent}
-use Rattle.panel_hits.specs.Settled.{counts_in, settled_hits}
+use Rattle.panel_hits.specs.Settled.{Lent, counts_in, settled_hits}
 use Rattle.panel_hits.specs.Lists.{lower, store_refusal, line_refusal, WrittenHits, hits_for, older_of, placements_within, placements_around}
 
 -- ---- refusals

@@ -1,4 +1,4 @@
--- A panel holds 512 placements; what stands past them, which no sheet gives, has no lines. Assumes nothing.
+-- A panel holds 256 placements; what stands past them, which no sheet gives, has no lines. Assumes nothing.
 use Prim.Native.Nat.{ℕ, ◌≤◌, ◌<◌}
 use mathlib.Core.Path.{◌≡◌, refl, sym, ap, ◌∙◌}
 use mathlib.Core.Bool.{Bool, true, false, cond}
@@ -19,7 +19,7 @@ use Rattle.panel_tables.specs.declared.PlacementPlace.{PlacementPlace}
 use Rattle.panel_tables.specs.Placements.{placement_at, end_of}
 use Rattle.panel_rules.specs.Placing.{line_placement, placed_by, refused_placement, resolve_placement}
 use Rattle.panel_rules.specs.Calls.{names_in, short_names}
-use Rattle.panel_settled.specs.Settled.{Lent, settled}
+use Rattle.panel_hits.specs.Settled.{Lent, settled}
 
 -- an end that says `auto` stays free
 auto_free : (x : AxisNames) (names : List ℕ) (l : Line) → l.start ≡ Auto → (resolved_ends (resolution_of x names l).line).first ≡ free
@@ -30,26 +30,26 @@ auto_free x names l e = by (leb x.explicit 10000)
     by true = rw e
     by false = refl
 
-placed_free : (r : Resolution) (a : Axis) (cell s : Bool) → (resolved_ends r.line).first ≡ free → (resolved_ends (placed_by r a cell s).line).first ≡ free
-placed_free r a cell s e = by (eqb r.refusal.number 0) s
+placed_free : (r : Resolution) (a : Axis) (s : Bool) → (resolved_ends r.line).first ≡ free → (resolved_ends (placed_by r a s).line).first ≡ free
+placed_free r a s e = by (eqb r.refusal.number 0) s
   where
-    by : (t s : Bool) → (resolved_ends (cond t (cond s (refused_placement short) (record { refusal = record { number = 0; line = 0 }; axis = a; cell = cell; line = r.line; held = r.held })) (refused_placement r.refusal.number)).line).first ≡ free
+    by : (t s : Bool) → (resolved_ends (cond t (cond s (refused_placement short) (record { refusal = record { number = 0; line = 0 }; axis = a; line = r.line; held = r.held })) (refused_placement r.refusal.number)).line).first ≡ free
     by true true = refl
     by true false = e
     by false s = refl
 
-far_auto : (words : List ℕ) (i : ℕ) → 512 ≤ i → (line_placement (placement_at words i)).start ≡ Auto
+far_auto : (words : List ℕ) (i : ℕ) → 256 ≤ i → (line_placement (placement_at words i)).start ≡ Auto
 unfolding placement_at end_of
-far_auto words i h = rw (le-ltb i 512 h)
+far_auto words i h = rw (le-ltb i 256 h)
 
-pub far_free : (g : Grid) (l : Lent) (i : ℕ) → 512 ≤ i → (resolved_ends (settled g l i).line).first ≡ free
+pub far_free : (g : Grid) (l : Lent) (i : ℕ) → 256 ≤ i → (resolved_ends (settled g l i).line).first ≡ free
 unfolding resolve_placement
 far_free g l i h = by (ltb i g.placements)
   where
     place : PlacementPlace
     place = placement_at l.placements.words i
 
-    by : (t : Bool) → (resolved_ends (cond t (placed_by (resolution_of (names_in g l.names l.areas place.axis) l.placements.bytes (line_placement place)) place.axis place.cell (short_names l.names)) (refused_placement count)).line).first ≡ free
-    by true = placed_free (resolution_of (names_in g l.names l.areas place.axis) l.placements.bytes (line_placement place)) place.axis place.cell (short_names l.names)
+    by : (t : Bool) → (resolved_ends (cond t (placed_by (resolution_of (names_in g l.names l.areas place.axis) l.placements.bytes (line_placement place)) place.axis (short_names l.names)) (refused_placement count)).line).first ≡ free
+    by true = placed_free (resolution_of (names_in g l.names l.areas place.axis) l.placements.bytes (line_placement place)) place.axis (short_names l.names)
         (auto_free (names_in g l.names l.areas place.axis) l.placements.bytes (line_placement place) (far_auto l.placements.words i h))
     by false = refl

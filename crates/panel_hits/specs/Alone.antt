@@ -9,8 +9,7 @@ use Rattle.panel_positions.specs.Theorem.{lines_in}
 use Rattle.placement_hits.specs.Steps.{place_of}
 use Rattle.placement_hits.specs.declared.Question.{Question}
 use Rattle.placement_hits.specs.declared.Question.TheVariants.{Within, Around}
-use Rattle.panel_settled.specs.Settled.{Lent}
-use Rattle.panel_hits.specs.Settled.{counts_in, settled_hits}
+use Rattle.panel_hits.specs.Settled.{Lent, counts_in, settled_hits}
 
 -- what is held after a run
 abbrev pub lent_of : Held → Lent

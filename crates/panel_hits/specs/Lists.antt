@@ -12,8 +12,7 @@ use Rattle.placement_hits.specs.declared.Question.TheVariants.{Within, Around as
 use Rattle.panel_hits.specs.declared.Span.{Span}
 use Rattle.panel_hits.specs.declared.Around.{Around}
 use Rattle.panel_hits.specs.declared.HitsAnswer.{HitsAnswer}
-use Rattle.panel_settled.specs.Settled.{Lent}
-use Rattle.panel_hits.specs.Settled.{counts_in, settled_hits}
+use Rattle.panel_hits.specs.Settled.{Lent, counts_in, settled_hits}
 
 -- ---- refusals, each under its row, the lowest number first; 0 is none
 

@@ -1,5 +1,5 @@
 -- Which placements the two lists hold, in the words of document 02, Req 01.
-use Rattle.std.specs.Prelude.{◌≡◌, false, List, ℕ, length}
+use Rattle.std.specs.Prelude.{◌≡◌, List, ℕ, length}
 use Rattle.std.proofs.lemmas.List.Edits.{sets}
 use Rattle.coordinates.specs.declared.axis.Axis.{Axis}
 use Rattle.name_resolver.specs.Placements.{resolved_ends}
@@ -12,8 +12,7 @@ use Rattle.panel_positions.specs.Cursor.{records_on, pixels}
 use Rattle.placement_hits.specs.Hits.{LinesInside, LineBetween, InOrder}
 use Rattle.panel_hits.specs.declared.Span.{Span}
 use Rattle.panel_hits.specs.declared.Around.{Around}
-use Rattle.panel_settled.specs.Settled.{Lent, settled}
-use Rattle.panel_hits.specs.Settled.{counts_in}
+use Rattle.panel_hits.specs.Settled.{Lent, settled, counts_in}
 use Rattle.panel_hits.specs.Lists.{WrittenHits, placements_within, placements_around}
 
 -- the line at place k of an axis lies within the span, "ends included": at the f32 running sum of the records before it
@@ -21,16 +20,14 @@ abbrev pub InsideSpan : Grid → List ℕ → List ℕ → Span → ℕ → Type
 InsideSpan g words items s k =
     Within (inner_in (grid_in g s.axis).space) (records_on (grid_in g s.axis) (axis_words_in s.axis words) items) (pixels s.low) (pixels s.high) k
 
--- placement i, as settled, is one of the axis, and no cell's half (request 10), "with both lines within a pixel span"
+-- placement i, as settled, is one of the axis "with both lines within a pixel span"
 pub record InSpan (g : Grid) (words : List ℕ) (l : Lent) (items : List ℕ) (s : Span) (i : ℕ) : Type 0 where
   pub axis : (settled g l i).axis ≡ s.axis
-  pub place : (settled g l i).cell ≡ false
   pub lines : LinesInside (counts_in g s.axis) (InsideSpan g words items s) (resolved_ends (settled g l i).line)
 
--- placement i, as settled, is one of the axis, and no cell's half, "with a given grid line strictly between their own"
+-- placement i, as settled, is one of the axis "with a given grid line strictly between their own"
 pub record AroundLine (g : Grid) (l : Lent) (s : Around) (i : ℕ) : Type 0 where
   pub axis : (settled g l i).axis ≡ s.axis
-  pub place : (settled g l i).cell ≡ false
   pub lines : LineBetween (counts_in g s.axis) s.line (resolved_ends (settled g l i).line)
 
 -- what a call writes where it refuses nothing: a list of just these, from the first place on

@@ -1,6 +1,6 @@
 // The placements of a panel under the cursor (document 02, Req 01): those within a span of pixels, and those around a line.
 ghost use Rattle.std.specs.Prelude.{◌≡◌};
-ghost use Rattle.panel_settled.specs.Settled.{lent_in};
+ghost use Rattle.panel_hits.specs.Settled.{lent_in};
 ghost use Rattle.panel_hits.specs.Lists.{WrittenHits, placements_within, placements_around};
 
 mod refusal;

@@ -3,8 +3,7 @@ ghost use Rattle.std.specs.Prelude.{◌≡◌, ◌≤◌, pos};
 ghost use Rattle.coordinates.specs.Axes.{axis_number};
 ghost use Rattle.panel_rules.specs.Calls.{name_tables_in, shorter_store};
 ghost use Rattle.placement_hits.specs.Steps.{Listed, listed_of};
-ghost use Rattle.panel_settled.specs.Settled.{lent_in};
-ghost use Rattle.panel_hits.specs.Settled.{counts_in, settled_hits};
+ghost use Rattle.panel_hits.specs.Settled.{counts_in, lent_in, settled_hits};
 
 use coordinates::Axis;
 use panel_calls::axis_track::axis_tracks;

@@ -3,11 +3,9 @@ ghost use Rattle.std.specs.Prelude.{◌≡◌, true};
 ghost use Rattle.panel_answer.specs.Walk.{is_end};
 
 use axis_tables::layout::AXIS_BYTES;
-use free_cells::way::MOST_PLACED;
 use libc::{STDIN_FILENO, STDOUT_FILENO};
 use panel_answer::AnswerLine;
-use panel_answer::begin::begin_answer;
-use panel_answer::fill::fill;
+use panel_answer::fill::{begin_answer, fill};
 use panel_answer::line::is_end;
 use panel_tables::region::{PANEL_BYTES, PANEL_WORDS};
 
@@ -22,14 +20,12 @@ fn print_answer(sheet: &[u8]) -> AnswerLine
     let mut bytes = [0u8; PANEL_BYTES];
     let mut columnstore = [0u8; AXIS_BYTES];
     let mut rowstore = [0u8; AXIS_BYTES];
-    let mut lands = [0u64; MOST_PLACED];
     let begun = begin_answer(
         sheet,
         &mut words,
         &mut bytes,
         &mut columnstore,
         &mut rowstore,
-        &mut lands,
     );
     let grid = begun.grid;
     let mut next = begun.first;
@@ -42,7 +38,6 @@ fn print_answer(sheet: &[u8]) -> AnswerLine
             &bytes,
             &columnstore,
             &rowstore,
-            &lands,
             next,
         );
         io::write_all(STDOUT_FILENO, &out[..filled.count]);

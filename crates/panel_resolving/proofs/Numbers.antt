@@ -25,7 +25,6 @@ use Rattle.name_resolver.proofs.Questions.{answered-accepted}
 use Rattle.coordinates.specs.Refusals.{no_refusal}
 use Rattle.panel_tables.specs.declared.Grid.{Grid}
 use Rattle.coordinates.specs.Axes.{axis_number}
-use Rattle.panel_tables.specs.Placements.{axis_mark}
 use Rattle.panel_rules.specs.declared.PlacementAnswer.{PlacementAnswer}
 use Rattle.panel_rules.specs.Calls.{NameTables, NamedWords, shorter_store}
 use Rattle.panel_rules.specs.Placing.{refused_placement, placed_by}
@@ -46,19 +45,17 @@ small_by explicit names bytes l = by (leb explicit 10000)
     by true = rw (answered-accepted names bytes explicit l) (omega arith)
     by false = omega arith
 
-pub small-placed : (r : Resolution) (a : Axis) (cell s : Bool) → r.refusal.number ≤ 10 → (placed_by r a cell s).refusal.number ≤ 10
-small-placed r a cell s h = by (eqb r.refusal.number 0) s
+pub small-placed : (r : Resolution) (a : Axis) (s : Bool) → r.refusal.number ≤ 10 → (placed_by r a s).refusal.number ≤ 10
+small-placed r a s h = by (eqb r.refusal.number 0) s
   where
-    by : (t s : Bool) → (cond t (cond s (refused_placement short) (record { refusal = no_refusal; axis = a; cell = cell; line = r.line; held = r.held })) (refused_placement r.refusal.number)).refusal.number ≤ 10
+    by : (t s : Bool) → (cond t (cond s (refused_placement short) (record { refusal = no_refusal; axis = a; line = r.line; held = r.held })) (refused_placement r.refusal.number)).refusal.number ≤ 10
     by true true = omega arith
     by true false = omega arith
     by false s = h
 
-small_axis : (a : Axis) (cell : Bool) → axis_mark a cell < 2147483648
-small_axis Column true = omega arith
-small_axis Column false = omega arith
-small_axis Row true = omega arith
-small_axis Row false = omega arith
+small_axis : (a : Axis) → axis_number a < 2147483648
+small_axis Column = omega arith
+small_axis Row = omega arith
 
 small_kind : (e : NonNamedGridPlacement) → resolved_kind_of e < 2147483648
 small_kind Auto = omega arith
@@ -74,7 +71,7 @@ unfolding placement_numbers
 small-numbers a h =
     record {
       number = omega arith;
-      axis = small_axis a.axis a.cell;
+      axis = small_axis a.axis;
       startkind = small_kind a.line.start;
       endkind = small_kind a.line.end;
       startheld = small-mark a.held.start;
@@ -131,8 +128,8 @@ pub few-written : (held first n : ℕ) → first < held → n ≡ numbers_count 
 unfolding numbers_count
 few-written held first n h e = omega (arith, e)
 
--- and of the 512 that a panel holds at most, all
-pub all-written : (held first : ℕ) → held ≤ 512 → numbers_count held first ≡ held - first
+-- and of the 256 that a panel holds at most, all
+pub all-written : (held first : ℕ) → held ≤ 256 → numbers_count held first ≡ held - first
 unfolding numbers_count
 all-written held first h = omega arith
 

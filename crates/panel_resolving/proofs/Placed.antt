@@ -17,9 +17,9 @@ module _ (p : Grid) (t : NameTables) (areas placements : NamedWords) (index : �
   -- the placement read, its ends, the resolver's answer and the stores' lengths make the answer
   pub placed : index < p.placements → (place : PlacementPlace) (line : Line) (r : Resolution) (is_short : Bool) (answer : PlacementAnswer) →
       place ≡ placement_at placements.words index → line ≡ line_placement place → r ≡ resolution_of (names_in p t areas place.axis) placements.bytes line →
-      is_short ≡ short_names t → answer ≡ placed_by r place.axis place.cell is_short → answer ≡ resolve_placement p t areas placements index
+      is_short ≡ short_names t → answer ≡ placed_by r place.axis is_short → answer ≡ resolve_placement p t areas placements index
   unfolding resolve_placement
   placed h place line r is_short answer at ends by stores is = rw (lt-ltb index p.placements h)
-      (is ∙ ap (λ (x : Bool). placed_by r place.axis place.cell x) stores ∙ ap (λ (x : Resolution). placed_by x place.axis place.cell (short_names t)) by
-      ∙ ap (λ (x : Line). placed_by (resolution_of (names_in p t areas place.axis) placements.bytes x) place.axis place.cell (short_names t)) ends
-      ∙ ap (λ (x : PlacementPlace). placed_by (resolution_of (names_in p t areas x.axis) placements.bytes (line_placement x)) x.axis x.cell (short_names t)) at)
+      (is ∙ ap (λ (x : Bool). placed_by r place.axis x) stores ∙ ap (λ (x : Resolution). placed_by x place.axis (short_names t)) by
+      ∙ ap (λ (x : Line). placed_by (resolution_of (names_in p t areas place.axis) placements.bytes x) place.axis (short_names t)) ends
+      ∙ ap (λ (x : PlacementPlace). placed_by (resolution_of (names_in p t areas x.axis) placements.bytes (line_placement x)) x.axis (short_names t)) at)

@@ -34,20 +34,14 @@ fn refused_placement(number: u32) -> PlacementAnswer
     PlacementAnswer {
         refusal,
         axis: Axis::Column,
-        cell: false,
         line,
         held,
     }
 }
 
-// The answer for a placement of an axis, or a cell's half: the resolver's refusal, then 10 where a store is short.
-pub(crate) fn placed_by(
-    resolved: Resolution,
-    axis: Axis,
-    cell: bool,
-    short: bool,
-) -> PlacementAnswer
-    ensures { result ≡ placed_by resolved axis cell short }
+// The answer for a placement of an axis: the resolver's refusal, then 10 where a store is short.
+pub(crate) fn placed_by(resolved: Resolution, axis: Axis, short: bool) -> PlacementAnswer
+    ensures { result ≡ placed_by resolved axis short }
 {
     let refusal = resolved.refusal;
     let line = resolved.line;
@@ -61,7 +55,6 @@ pub(crate) fn placed_by(
     PlacementAnswer {
         refusal: refusal::no_refusal(),
         axis,
-        cell,
         line,
         held,
     }
@@ -150,5 +143,5 @@ pub fn resolve_placement(
     let axis = place.axis;
     let resolved = resolve_in(grid, words, bytes, columnstore, rowstore, index);
     let shorter = smaller(columnstore.len(), rowstore.len());
-    placed_by(resolved, axis, place.cell, shorter < AXIS_BYTES)
+    placed_by(resolved, axis, shorter < AXIS_BYTES)
 }

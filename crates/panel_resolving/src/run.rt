@@ -16,11 +16,11 @@ use panel_names::store::{entries_of, smaller};
 use panel_tables::Grid;
 use panel_tables::region::{PANEL_BYTES, PANEL_WORDS, axis_words};
 
-// The most placements of a run, which is as many as a panel holds: two for each cell.
-const MOST_PLACEMENTS: u32 = 512;
+// The most placements of a run, which is as many as a panel holds.
+const MOST_PLACEMENTS: u32 = 256;
 
 // The numbers of a run: eight for each placement.
-pub const PLACEMENT_RUN: usize = 4096;
+pub const PLACEMENT_RUN: usize = 2048;
 
 // What a run is refused by: `held` placements, the bytes of the shorter store.
 fn numbers_refusal(held: u32, shorter: usize, first: u32) -> u32
@@ -38,7 +38,7 @@ fn numbers_refusal(held: u32, shorter: usize, first: u32) -> u32
 // How many placements are written from one that there is.
 fn numbers_count(held: u32, first: u32) -> u32
     requires { first ≤ held }
-    ensures { (result ≡ numbers_count held first) × (first + result ≤ 4294967295) × (8 * result ≤ 4096) }
+    ensures { (result ≡ numbers_count held first) × (first + result ≤ 4294967295) × (8 * result ≤ 2048) }
 {
     let left = held - first;
     if left < MOST_PLACEMENTS {

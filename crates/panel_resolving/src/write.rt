@@ -77,11 +77,7 @@ pub(crate) fn write_beside(
         }
         let line = line_placement(place);
         let resolved = resolve_line_names(around, index, store, words, bytes, line);
-        put_placement(
-            numbers,
-            8 * i as usize,
-            placed_by(resolved, axis, place.cell, false),
-        );
+        put_placement(numbers, 8 * i as usize, placed_by(resolved, axis, false));
         last = resolved;
         i += 1;
     }

@@ -13,15 +13,15 @@ use Rattle.text.specs.Split.{index, same}
 use Rattle.text.specs.Whole.{Written, none, whole, whole_of, index_in}
 use Rattle.text.specs.declared.Index.TheVariants.{Outside, Value}
 use Rattle.sheet_forms.specs.declared.Record.{Record}
-use Rattle.sheet_forms.specs.declared.Record.TheVariants.{Fault, Axis as AxisLine, Area as AreaLine, Name, Track, Repeat, End as EndLine, Spare, Extra, Item, Place, PictureRow, Cell}
+use Rattle.sheet_forms.specs.declared.Record.TheVariants.{Fault, Axis as AxisLine, Area as AreaLine, Name, Track, Repeat, End as EndLine, Spare, Extra, Item, Place, PictureRow}
 use Rattle.sheet_forms.specs.Words.{at, nought, end_words}
 use Rattle.sheet_forms.specs.Fields.{word_of, axis_of}
-use Rattle.sheet_forms.specs.Ends.{end_kind, index_field, faulty_number, end_number, end_of, cell_end_of}
+use Rattle.sheet_forms.specs.Ends.{end_kind, index_field, faulty_number, end_number, end_of}
 use Rattle.sheet_forms.specs.declared.field.AxisField.{AxisField}
 use Rattle.sheet_forms.specs.declared.EndField.{EndField}
 use Rattle.sheet_forms.specs.Faults.{first_of}
-use Rattle.sheet_forms.specs.Records.{made_place, place_line, made_cell, cell_line, record_of}
-use Rattle.sheet_forms.specs.Forms.{place, cell}
+use Rattle.sheet_forms.specs.Records.{made_place, place_line, record_of}
+use Rattle.sheet_forms.specs.Forms.{place}
 use Rattle.sheet_forms.proofs.Codes.{count_most}
 use Rattle.sheet_forms.proofs.FieldBounds.{word-most}
 use Rattle.sheet_forms.proofs.LineFaults.{line_record}
@@ -65,7 +65,7 @@ end_in_lem f n m = number_in (word_of 5 (index f end_words)).value m (word-most 
 
 -- ---- a line
 
--- the numbers of a `place` or `cell` record
+-- the numbers of a `place` record
 abbrev pub Placed : Record → Type 0
 Placed (Fault n) = Unit {0}
 Placed (AxisLine a) = Unit {0}
@@ -78,7 +78,6 @@ Placed (Spare a min max) = Unit {0}
 Placed (Extra a n p) = Unit {0}
 Placed (Item a i) = Unit {0}
 Placed (PictureRow n) = Unit {0}
-Placed (Cell cs ce rs re) = (NumberOf cs.kind cs.number × NumberOf ce.kind ce.number) × (NumberOf rs.kind rs.number × NumberOf re.kind re.number)
 Placed (Place a s e) = NumberOf s.kind s.number × NumberOf e.kind e.number
 
 place-placed : (fs : List (List ℕ)) → Placed (place_line fs)
@@ -105,38 +104,6 @@ place-placed fs = fields (eqb (length fs) 8)
     fields true = made (eqb n 0)
     fields false = tt
 
-cell_end_in : (f n m : List ℕ) → NumberOf (cell_end_of f n m).end.kind (cell_end_of f n m).end.number
-unfolding cell_end_of
-cell_end_in f n m = end_in_lem f n m
-
-cell-placed : (fs : List (List ℕ)) → Placed (cell_line fs)
-unfolding cell_line
-cell-placed fs = fields (eqb (length fs) 13)
-  where
-    cs : EndField
-    cs = cell_end_of (at fs 1) (at fs 2) (at fs 3)
-
-    ce : EndField
-    ce = cell_end_of (at fs 4) (at fs 5) (at fs 6)
-
-    rs : EndField
-    rs = cell_end_of (at fs 7) (at fs 8) (at fs 9)
-
-    re : EndField
-    re = cell_end_of (at fs 10) (at fs 11) (at fs 12)
-
-    n : ℕ
-    n = first_of cs.fault (first_of ce.fault (first_of rs.fault re.fault))
-
-    made : (t : Bool) → Placed (cond t (Cell cs.end ce.end rs.end re.end) (Fault n))
-    made true =
-        ((cell_end_in (at fs 1) (at fs 2) (at fs 3), cell_end_in (at fs 4) (at fs 5) (at fs 6)), (cell_end_in (at fs 7) (at fs 8) (at fs 9), cell_end_in (at fs 10) (at fs 11) (at fs 12)))
-    made false = tt
-
-    fields : (t : Bool) → Placed (cond t (made_cell cs ce rs re) (Fault 1))
-    fields true = made (eqb n 0)
-    fields false = tt
-
 -- every line
 pub record_placed : (fs : List (List ℕ)) → Placed (record_of fs)
 record_placed fs = go (record_of fs) refl (record_says fs)
@@ -153,7 +120,6 @@ record_placed fs = go (record_of fs) refl (record_says fs)
     go (Extra a n p) e h = tt
     go (Item a i) e h = tt
     go (PictureRow n) e h = tt
-    go (Cell cs ce rs re) e h = subst Placed (sym (line_record cell fs h.word) ∙ e) (cell-placed fs)
     go (Place a s t) e h = subst Placed (sym (line_record place fs h.0.word) ∙ e) (place-placed fs)
 
 -- ---- numbers in range are read back as they are

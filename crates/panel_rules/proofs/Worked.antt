@@ -30,7 +30,7 @@ use Rattle.template_rules.specs.Whole.{floor_of, ceiling_of}
 use Rattle.sheet_forms.specs.Faults.{rank_of, first_of}
 use Rattle.sheet_forms.specs.Fields.{axis_of, rule_of, count_of, repetition_of, codes, name_fault}
 use Rattle.sheet_forms.specs.Sizes.{kind_of, size_of as size_read, inner_of}
-use Rattle.sheet_forms.specs.Ends.{end_kind, end_name, end_number, end_of, span_fault, cell_end_of}
+use Rattle.sheet_forms.specs.Ends.{end_kind, end_name, end_number, end_of}
 use Rattle.sheet_forms.specs.Records.{axis_line, area_line, name_line, sizes_line, repeat_line, end_line, extra_line, item_line, place_line, fixed_kind, by_kind, record_of as record_read}
 use Rattle.name_entries.specs.Names.{is_name}
 use Rattle.name_entries.proofs.Booleans.{both}
@@ -40,7 +40,7 @@ use Rattle.track_rules.specs.Tracks.{refused_record}
 use Rattle.track_rules.specs.Written.{written_out}
 use Rattle.track_rules.specs.Records.{listed, open_to, all_tracks, records_of, axis_refusal, record_answer_of}
 use Rattle.axis_tables.specs.View.{Item, AxisView, components_of, empty_axis, track_step, repeat_step, end_step, name_step, spare_step, item_step, extra_step, axis_step}
-use Rattle.panel_tables.specs.View.{PanelView, empty_view, area_step, end_fault as end_own, lower, limited_step, place_step, cell_step}
+use Rattle.panel_tables.specs.View.{PanelView, empty_view, area_step, place_step}
 use Rattle.panel_tables.specs.Axes.{view_in}
 use Rattle.panel_cells.specs.Steps.{shares, sharing_from}
 use Rattle.sheet_rules.specs.Lines.{record_step, record_fault, strict_fault, line_fault, shared_at, line_step}
@@ -62,7 +62,7 @@ use Rattle.panel_rules.specs.Book.{CssTemplate, as_written, sheet_book, sheet_tr
 use Rattle.panel_rules.specs.Order.{SamePanel, SameEntries}
 use Rattle.panel_rules.specs.Alone.{row_template_line, without_rows, kept_lines, column_calls, held_by, DifferInRows}
 use Rattle.panel_rules.specs.Worked.{AxisWorked, Worked, accepted, AxisAnswers, Answers, view_of, found, Met, MetButValid, run_from, lent, sample_sheet, sample, row_sheet, row_run, other_sheet, other_run, called_sheet, first_order, second_order, named_sheet, named_run, bench_sheet, bench_four, empty_sheet, bench_empty}
-use Rattle.panel_rules.specs.Invalid.{emptied, unlined, InvalidBesideEmpty}
+use Rattle.panel_rules.specs.Invalid.{emptied, InvalidBesideEmpty}
 use Rattle.panel_rules.proofs.RegularTest.{regular_test, regular-by-test, valid_test, valid_by_test, invalid_by_test, non_zero_test, non_zero_by_test, all_among, all_among_lem}
 use Rattle.panel_rules.proofs.Sheets.{read_former}
 use Rattle.panel_rules.proofs.Run.{added_to}
@@ -208,7 +208,7 @@ record All : Type 0 where
   of_named : computed named_run ≡ expected named_run
   of_bench : computed bench_four ≡ expected bench_four
   of_empty : computed bench_empty ≡ expected bench_empty
-  emptied_bench : unlined (view_of bench_empty) ≡ unlined (emptied Column (view_of bench_four))
+  emptied_bench : view_of bench_empty ≡ emptied Column (view_of bench_four)
   -- which templates are valid
   sample_valid : ValidIn sample
   row_valid : ValidIn row_run
@@ -238,8 +238,8 @@ all : All
 unfolding sample_sheet sample row_sheet row_run other_sheet other_run called_sheet first_order second_order named_sheet named_run bench_sheet bench_four empty_sheet bench_empty
     split onto same index digits_of natural_of non_negative negative whole_of count_in index_in bits_from bits_of
     up_to minimum_kind largest_of value_in_range length_in_range float_up_to sizing_of_kind sizing_of rank_of first_of axis_of rule_of count_of repetition_of codes name_fault
-    kind_of size_read inner_of end_kind end_name end_number end_of span_fault cell_end_of axis_line area_line name_line sizes_line repeat_line end_line extra_line item_line place_line fixed_kind by_kind record_read
-    empty_axis track_step repeat_step end_step name_step spare_step item_step extra_step axis_step empty_view area_step end_own lower limited_step place_step cell_step
+    kind_of size_read inner_of end_kind end_name end_number end_of axis_line area_line name_line sizes_line repeat_line end_line extra_line item_line place_line fixed_kind by_kind record_read
+    empty_axis track_step repeat_step end_step name_step spare_step item_step extra_step axis_step empty_view area_step place_step
     template_size_of outside_count automatic_count before_count automatic_tracks any_empty all_fixed every_fixed outside_space repetition_space fitting_of held_of repetitions_of floor_of ceiling_of
     repeated passed rule_from record_step record_fault line_step shares sharing_from strict_fault line_fault shared_at template_size counted entries_of end_fault ended run fold_of broken_at broken_from broken_of is_kind display_of overlap_from overlap_of sheet_of of_bits add sub mul div lt of_int
     sheet_book sheet_tracks table_refusal added_from book is_name

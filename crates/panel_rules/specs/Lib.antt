@@ -9,6 +9,5 @@ pub mod Order
 pub mod Ranges
 pub mod Alone
 pub mod Invalid
-pub mod Cells
 pub mod OneMoreName
 pub mod Worked

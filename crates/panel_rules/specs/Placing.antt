@@ -1,5 +1,5 @@
 -- `resolve_placement`: a placement of the table as layer 4 reads it, and the answer (document 01, layer 4).
-use Rattle.std.specs.Prelude.{ℕ, zero, suc, min, Bool, false, cond, List, eqb, ltb, ℤ, pos, negsuc}
+use Rattle.std.specs.Prelude.{ℕ, zero, suc, min, Bool, cond, List, eqb, ltb, ℤ, pos, negsuc}
 use Rattle.coordinates.specs.declared.axis.Axis.{Axis}
 use Rattle.coordinates.specs.declared.axis.Axis.TheVariants.{Column}
 use Rattle.coordinates.specs.Refusals.{no_refusal, refusal_of, count, short}
@@ -45,13 +45,13 @@ line_placement p = record { start = end_placement p.start; end = end_placement p
 
 -- a refused answer: its number, line 0 and zeros
 abbrev pub refused_placement : ℕ → PlacementAnswer
-refused_placement n = record { refusal = refusal_of n; axis = Column; cell = false; line = zero_line; held = no_marks }
+refused_placement n = record { refusal = refusal_of n; axis = Column; line = zero_line; held = no_marks }
 
--- the answer of the resolver, for the placement's axis, and whether it is a cell's half; 10 comes after every other number
-abbrev pub placed_by : Resolution → Axis → Bool → Bool → PlacementAnswer
-placed_by r a cell is_short =
+-- the answer of the resolver, for the placement's axis; 10 comes after every other number
+abbrev pub placed_by : Resolution → Axis → Bool → PlacementAnswer
+placed_by r a is_short =
     cond (eqb r.refusal.number 0)
-    (cond is_short (refused_placement short) (record { refusal = no_refusal; axis = a; cell = cell; line = r.line; held = r.held }))
+    (cond is_short (refused_placement short) (record { refusal = no_refusal; axis = a; line = r.line; held = r.held }))
     (refused_placement r.refusal.number)
 
 -- "a placement index that isn't held" is 4
@@ -59,5 +59,5 @@ unfoldable pub resolve_placement : Grid → NameTables → NamedWords → NamedW
 resolve_placement g t areas placements index =
     cond (ltb index g.placements)
     (let place : PlacementPlace = placement_at placements.words index in
-    placed_by (resolution_of (names_in g t areas place.axis) placements.bytes (line_placement place)) place.axis place.cell (short_names t))
+    placed_by (resolution_of (names_in g t areas place.axis) placements.bytes (line_placement place)) place.axis (short_names t))
     (refused_placement count)

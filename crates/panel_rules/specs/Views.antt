@@ -112,7 +112,7 @@ placement_at v i = get_or v.placements i no_placement
 
 -- an answer that is not refused: of the placement's axis, with these ends and marks
 abbrev pub answer_at : Placement → Css.ResolvedEnds → HeldEnds → PlacementAnswer
-answer_at p r h = record { refusal = no_refusal; axis = p.axis; cell = p.cell; line = ends_of r; held = held_answer h }
+answer_at p r h = record { refusal = no_refusal; axis = p.axis; line = ends_of r; held = held_answer h }
 
 -- an answer to a placement that is not refused, is of the placement's axis and has the ends that CSS counts to over x
 pub record PlacedByCss (x : AxisNames) (p : Placement) (r : PlacementAnswer) : Type 0 where

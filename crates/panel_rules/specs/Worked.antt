@@ -138,7 +138,7 @@ abbrev shut_gutter : GridTrack
 shut_gutter = gutter_of (of_length 0) true
 
 abbrev placed : Axis → NonNamedGridPlacement → NonNamedGridPlacement → PlacementAnswer
-placed a start end = record { refusal = no_refusal; axis = a; cell = false; line = record { start = start; end = end }; held = no_marks }
+placed a start end = record { refusal = no_refusal; axis = a; line = record { start = start; end = end }; held = no_marks }
 
 abbrev line : ℕ → NonNamedGridPlacement
 line n = Placed.Line (grid_line_of (pos n))

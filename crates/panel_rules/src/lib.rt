@@ -10,12 +10,11 @@ pub struct EntryAnswer {
     pub panel: Panel,
 }
 
-// A resolved placement with its axis, whether it is a cell's half, and the marks of its ends, or a refusal and zeros.
+// A resolved placement with its axis and the marks of its ends, or a refusal and zeros.
 #[derive(Drop)]
 pub struct PlacementAnswer {
     pub refusal: Refusal,
     pub axis: Axis,
-    pub cell: bool,
     pub line: ResolvedLine,
     pub held: HeldEnds,
 }

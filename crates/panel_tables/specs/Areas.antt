@@ -74,7 +74,7 @@ raised r e =
 abbrev pub with_area : Panel → AreaEdges → ℕ → Panel
 with_area p e length =
     record {
-      grid = record { columns = p.grid.columns; rows = p.grid.rows; areas = p.grid.areas + 1; placements = p.grid.placements; cells = p.grid.cells };
+      grid = record { columns = p.grid.columns; rows = p.grid.rows; areas = p.grid.areas + 1; placements = p.grid.placements };
       room = record {
         columns = (raised p.room e).columns;
         rows = (raised p.room e).rows;

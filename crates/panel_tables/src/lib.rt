@@ -8,10 +8,8 @@ pub mod state;
 
 use axis_tables::{AxisGrid, AxisReading, AxisRoom};
 use coordinates::Axis;
-use text::fields::Place;
 
-// What answers are read from, beside the tables: both axes, and how many areas, placements and cells the tables hold; of the placements each
-// cell is two, its columns and then its rows.
+// What answers are read from, beside the tables: both axes, and how many areas and placements the tables hold.
 #[repr(C)]
 #[derive(Drop)]
 pub struct Grid {
@@ -19,7 +17,6 @@ pub struct Grid {
     pub rows: AxisGrid,
     pub areas: u32,
     pub placements: u32,
-    pub cells: u32,
 }
 
 // What only an edit reads: of both axes, and how many bytes the names of areas and of placements take.
@@ -49,11 +46,10 @@ pub struct PictureReading {
 }
 
 // What only reading needs: the kind order (0 where nothing but `axis` records was read, 1 after an `area`, 2 after a `row`, 3 after any
-// other), how many lines were accepted, the picture, and what each axis needs.
+// other), the picture, and what each axis needs.
 #[derive(Drop)]
 pub struct Reading {
     pub stage: u32,
-    pub lines: u32,
     pub picture: PictureReading,
     pub columns: AxisReading,
     pub rows: AxisReading,
@@ -113,20 +109,10 @@ pub struct EndPlace {
     pub length: u32,
 }
 
-// A placement as its table holds it, and whether it is a cell's half.
+// A placement as its table holds it.
 #[derive(Drop)]
 pub struct PlacementPlace {
     pub axis: Axis,
-    pub cell: bool,
     pub start: EndPlace,
     pub end: EndPlace,
-}
-
-// The half of a cell in one axis: its ends, and where their names lie in its line.
-#[derive(Drop)]
-pub struct CellHalf {
-    pub start: PlacementEnd,
-    pub first: Place,
-    pub end: PlacementEnd,
-    pub last: Place,
 }

@@ -1,24 +1,15 @@
-// The placements: two words each, start and end, then a word for the line of each cell; the bytes of their names one after the other.
+// The placements: two words each, start and end; the bytes of their names one after the other.
 ghost use Rattle.std.specs.Prelude.{◌≡◌, cond, []};
-ghost use Rattle.panel_tables.specs.Placements.{end_of, start_word, finish_word, placement_at, uses_name, cell_line};
+ghost use Rattle.panel_tables.specs.Placements.{end_of, start_word, finish_word, placement_at, uses_name};
 
 use crate::number::number_of;
 use crate::{EndPlace, PlacementEnd, PlacementPlace};
 use axis_tables::layout::word_at;
 use coordinates::axis::axis_of;
 
-// `place` and `cell` lines together.
-pub const MOST_ITEMS: u32 = 256;
+pub const PLACEMENT_WORDS: usize = 512;
 
-// Two for each cell.
-pub const MOST_PLACEMENTS: u32 = 512;
-
-pub const PLACEMENT_WORDS: usize = 1280;
-
-// Where the lines of the cells start in them.
-pub const CELL_LINES: usize = 1024;
-
-pub const PLACEMENT_BYTES: usize = 32768;
+pub const PLACEMENT_BYTES: usize = 16384;
 
 // An end from its word. Any word gives one.
 pub fn end_of(word: u64) -> EndPlace
@@ -50,7 +41,7 @@ fn start_word(words: &[u64], index: u32) -> u64
     ensures { result ≡ start_word words.now index }
 {
     let at = index as usize;
-    if index < MOST_PLACEMENTS {
+    if index < 256 {
         return word_at(words, at + at);
     }
     0
@@ -61,7 +52,7 @@ fn finish_word(words: &[u64], index: u32) -> u64
     ensures { result ≡ finish_word words.now index }
 {
     let at = index as usize;
-    if index < MOST_PLACEMENTS {
+    if index < 256 {
         return word_at(words, at + at + 1);
     }
     0
@@ -72,24 +63,8 @@ pub fn placement_at(words: &[u64], index: u32) -> PlacementPlace
     ensures { result ≡ placement_at words.now index }
 {
     let first = start_word(words, index);
-    let mark = (first / 0x100_0000_0000_0000) as u32;
-    let axis = axis_of(mark % 2);
+    let axis = axis_of((first / 0x100_0000_0000_0000) as u32);
     let start = end_of(first);
     let end = end_of(finish_word(words, index));
-    PlacementPlace {
-        axis,
-        cell: mark / 2 % 2 == 1,
-        start,
-        end,
-    }
-}
-
-// The sheet's line of cell i, 0 past the end.
-pub fn cell_line(words: &[u64], index: u32) -> u32
-    ensures { result ≡ cell_line words.now index }
-{
-    if index < MOST_ITEMS {
-        return (word_at(words, CELL_LINES + index as usize) % 0x1_0000_0000) as u32;
-    }
-    0
+    PlacementPlace { axis, start, end }
 }

@@ -7,9 +7,9 @@ use crate::placement::{PLACEMENT_BYTES, PLACEMENT_WORDS};
 use axis_tables::layout::{AXIS_MARKS, AXIS_WORDS};
 use coordinates::Axis;
 
-pub const PANEL_WORDS: usize = 26368;
+pub const PANEL_WORDS: usize = 25600;
 
-pub const PANEL_BYTES: usize = 94816;
+pub const PANEL_BYTES: usize = 78432;
 
 pub const ROWS: usize = 12480;
 
@@ -62,7 +62,7 @@ pub fn area_words(words: &[u64; PANEL_WORDS]) -> &[u64]
     &all[AREAS..AREAS + AREA_WORDS]
 }
 
-// The words of the placements, with the lines of the cells.
+// The words of the placements.
 pub fn placement_words(words: &[u64; PANEL_WORDS]) -> &[u64]
     ensures { result.now ≡ placement_words_in words.now }
 {

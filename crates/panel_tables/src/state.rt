@@ -16,7 +16,6 @@ pub fn zero_panel() -> Panel
         rows: zerogrid,
         areas: 0,
         placements: 0,
-        cells: 0,
     };
     let room = Room {
         columns: zeroroom,
@@ -34,7 +33,6 @@ pub fn zero_panel_reading() -> Reading
     let zero = axis_tables::state::zero_reading();
     Reading {
         stage: 0,
-        lines: 0,
         picture: PictureReading {
             rows: 0,
             width: 0,

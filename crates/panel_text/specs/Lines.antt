@@ -1,5 +1,5 @@
 -- The lines that the panel program prints (document 01, panel sheet).
-use Rattle.std.specs.Prelude.{ℕ, ◌/◌, ◌%◌, List, [], ◌∷◌, ◌++◌, Bool, true, false, get_or}
+use Rattle.std.specs.Prelude.{ℕ, List, [], ◌∷◌, ◌++◌, Bool, true, false, get_or}
 use Rattle.coordinates.specs.declared.axis.Axis.{Axis}
 use Rattle.coordinates.specs.Axes.{axis_number}
 use Rattle.coordinates.specs.declared.refusal.Refusal.{Refusal}
@@ -62,16 +62,6 @@ end_fields e = get_or end_words (resolved_kind_of e) [] ∷ whole_number (resolv
 -- `place`, axis, then kind and number twice
 unfoldable pub place_line : Axis → ResolvedLine → List ℕ
 place_line axis l = line_of ((112 ∷ 108 ∷ 97 ∷ 99 ∷ 101 ∷ []) ∷ axis_word axis ∷ (end_fields l.start ++ end_fields l.end))
-
--- where a cell lies, in one word: its column lines, then its row lines times 2^32, each second line times 2^16
-abbrev pub land_line : ℕ → ℕ → ℕ
-land_line land by = land / by % 65536
-
--- `cell`, "its two column lines and two row lines" (document 02, request 10)
-unfoldable pub cell_line : ℕ → List ℕ
-cell_line land =
-    line_of
-    ((99 ∷ 101 ∷ 108 ∷ 108 ∷ []) ∷ decimal (land_line land 1) ∷ decimal (land_line land 65536) ∷ decimal (land_line land 4294967296) ∷ decimal (land_line land 281474976710656) ∷ [])
 
 -- `refused`, number, line
 unfoldable pub refused_line : Refusal → List ℕ

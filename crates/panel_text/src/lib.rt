@@ -1,7 +1,6 @@
 // The lines that the panel program prints, each written at the start of lent bytes.
-ghost use Rattle.panel_text.specs.Lines.{size_line, record_line, place_line, land_line, cell_line, refused_line};
+ghost use Rattle.panel_text.specs.Lines.{size_line, record_line, place_line, refused_line};
 ghost use Rattle.panel_text.specs.Written.{WritesLine};
-ghost use Rattle.std.specs.Prelude.{◌≡◌, ◌≤◌};
 
 mod fields;
 mod numerals;
@@ -53,25 +52,6 @@ pub fn place_line(out: &mut [u8], axis: Axis, line: ResolvedLine) -> usize
     let at = put_end_number(out, at, start, 9);
     let at = put_end_kind(out, at, end);
     put_end_number(out, at, end, 10)
-}
-
-// One line of a cell, by what its word is divided by.
-fn land_line(land: u64, by: u64) -> u32
-    requires { 1 ≤ by }
-    ensures { result ≡ land_line land by }
-{
-    (land / by % 0x1_0000) as u32
-}
-
-// The line of a cell, from the word of where it lies.
-pub fn cell_line(out: &mut [u8], land: u64) -> usize
-    ensures { WritesLine out.old (cell_line land) out.new result }
-{
-    let at = put_field(out, 0, b"cell", 9);
-    let at = put_count(out, at, land_line(land, 1), 9);
-    let at = put_count(out, at, land_line(land, 0x1_0000), 9);
-    let at = put_count(out, at, land_line(land, 0x1_0000_0000), 9);
-    put_count(out, at, land_line(land, 0x1_0000_0000_0000), 10)
 }
 
 // The line of a refused sheet.

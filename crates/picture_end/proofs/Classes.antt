@@ -11,7 +11,7 @@ use Rattle.text.specs.Split.{before, split, same, index}
 use Rattle.text.proofs.Places.{parts_whole, parts_next}
 use Rattle.text.proofs.Which.{same_equal, unequal, index_word}
 use Rattle.sheet_forms.specs.Words.{at, kind_words}
-use Rattle.sheet_forms.specs.Forms.{Kind, axis, area, name, track, repeat, end, spare, extra, item, place, row, cell, kind_number}
+use Rattle.sheet_forms.specs.Forms.{Kind, axis, area, name, track, repeat, end, spare, extra, item, place, row, kind_number}
 use Rattle.sheet_forms.proofs.LineRows.{word-index, kind_below}
 use Rattle.sheet_rules.specs.Kinds.{is_kind, is_one, later_kinds}
 use Rattle.picture_end.specs.Steps.{class_of, later_fields, row_by, class_by}
@@ -58,7 +58,7 @@ abbrev by_number : ℕ → ℕ → ℕ
 by_number i n =
     cond (eqb i 10 && leb 2 n) 1
     (cond ((eqb i 1 && eqb n 6) || ((eqb i 2 && eqb n 3) || ((eqb i 3 && eqb n 6) || ((eqb i 4 && eqb n 3) || ((eqb i 5 && eqb n 2)
-    || ((eqb i 6 && eqb n 6) || ((eqb i 7 && eqb n 4) || ((eqb i 8 && eqb n 3) || ((eqb i 9 && eqb n 8) || ((eqb i 11 && eqb n 13) || false)))))))))) 2 0)
+    || ((eqb i 6 && eqb n 6) || ((eqb i 7 && eqb n 4) || ((eqb i 8 && eqb n 3) || ((eqb i 9 && eqb n 8) || false))))))))) 2 0)
 
 or_false : (t : Bool) → ◌≡◌ {A = ℕ} (cond t 2 0) (cond (t || false) 2 0)
 or_false true = refl
@@ -77,10 +77,9 @@ by_number_lem (suc (suc (suc (suc (suc (suc (suc zero))))))) n h = or_false (eqb
 by_number_lem (suc (suc (suc (suc (suc (suc (suc (suc zero)))))))) n h = or_false (eqb n 3)
 by_number_lem (suc (suc (suc (suc (suc (suc (suc (suc (suc zero))))))))) n h = or_false (eqb n 8)
 by_number_lem (suc (suc (suc (suc (suc (suc (suc (suc (suc (suc zero)))))))))) n h = refl
-by_number_lem (suc (suc (suc (suc (suc (suc (suc (suc (suc (suc (suc zero))))))))))) n h = or_false (eqb n 13)
-by_number_lem (suc (suc (suc (suc (suc (suc (suc (suc (suc (suc (suc (suc j)))))))))))) n h = other (suc (suc (suc (suc (suc (suc (suc (suc (suc (suc (suc (suc j)))))))))))) n h (omega arith)
+by_number_lem (suc (suc (suc (suc (suc (suc (suc (suc (suc (suc (suc j))))))))))) n h = other (suc (suc (suc (suc (suc (suc (suc (suc (suc (suc (suc j))))))))))) n h (omega arith)
   where
-    other : (i n : ℕ) → 1 ≤ n → 12 ≤ i → class_by i n ≡ by_number i n
+    other : (i n : ℕ) → 1 ≤ n → 11 ≤ i → class_by i n ≡ by_number i n
     other i n h k =
         rw (
           ne_eqb i 10 (λ e. omega arith),
@@ -93,7 +92,6 @@ by_number_lem (suc (suc (suc (suc (suc (suc (suc (suc (suc (suc (suc (suc j)))))
           ne_eqb i 7 (λ e. omega arith),
           ne_eqb i 8 (λ e. omega arith),
           ne_eqb i 9 (λ e. omega arith),
-          ne_eqb i 11 (λ e. omega arith),
           ne_eqb n 0 (λ e. omega arith),
         )
 
@@ -111,7 +109,6 @@ class_same fs k n e f h =
       kind_test fs extra,
       kind_test fs item,
       kind_test fs place,
-      kind_test fs cell,
       ← e,
       ← f,
     ) (by_number_lem k n h)

@@ -24,8 +24,7 @@ later_fields k =
     (cond (eqb k 6) 6
     (cond (eqb k 7) 4
     (cond (eqb k 8) 3
-    (cond (eqb k 9) 8
-    (cond (eqb k 11) 13 0)))))))))
+    (cond (eqb k 9) 8 0))))))))
 
 abbrev pub row_by : ℕ → ℕ
 row_by n = cond (leb 2 n) 1 0

@@ -34,7 +34,6 @@ fn later_fields(kind: usize) -> usize
         7 => 4,
         8 => 3,
         9 => 8,
-        11 => 13,
         _ => 0,
     }
 }

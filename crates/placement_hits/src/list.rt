@@ -5,12 +5,12 @@ ghost use Rattle.placement_hits.specs.Steps.{Listed, is_hit, listed_of, one_list
 use crate::Asked;
 use crate::member::{RUN_NUMBERS, is_hit};
 
-// The most placements of a list: as many as the tables of a panel hold, both halves of cells counted.
-pub const MOST_HITS: usize = 512;
+// The most placements of a list, which is as many as a panel holds.
+pub const MOST_HITS: usize = 256;
 
 // The smaller of a count and the most placements.
 fn held_count(count: u32) -> u32
-    ensures { result ≡ min count 512 }
+    ensures { result ≡ min count 256 }
 {
     if count < MOST_HITS as u32 {
         return count;
@@ -26,7 +26,7 @@ fn put_hit(
     written: u32,
     hits: &mut [u32; MOST_HITS],
 ) -> u32
-    requires { (index < 512) × (written < 512) }
+    requires { (index < 256) × (written < 256) }
     ensures { record { count = result; hits = hits.new } ≡ one_listed (is_hit asked numbers.now index) index (record { count = written; hits = hits.old }) }
 {
     if is_hit(asked, numbers, index) {
@@ -43,7 +43,7 @@ pub fn write_hits(
     count: u32,
     hits: &mut [u32; MOST_HITS],
 ) -> u32
-    ensures { record { count = result; hits = hits.new } ≡ listed_of (passing (is_hit asked numbers.now) 0 (min count 512)) hits.old }
+    ensures { record { count = result; hits = hits.new } ≡ listed_of (passing (is_hit asked numbers.now) 0 (min count 256)) hits.old }
 {
     let held = held_count(count);
     let mut written: u32 = 0;

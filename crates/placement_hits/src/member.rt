@@ -10,7 +10,7 @@ use crate::{Asked, Ends, LinePlace, Places, Question};
 const PLACEMENT_NUMBERS: usize = 8;
 
 // The numbers of a run of as many placements as a panel holds.
-pub const RUN_NUMBERS: usize = 4096;
+pub const RUN_NUMBERS: usize = 2048;
 
 // Both places from `below` on and before `upto`.
 pub fn is_within(places: Places, below: u32, upto: u32) -> bool
@@ -60,7 +60,7 @@ fn answers(question: Question, places: Places) -> bool
 
 // Both ends of a placement of a run.
 fn ends_at(numbers: &[i32; RUN_NUMBERS], index: u32) -> Ends
-    requires { index < 512 }
+    requires { index < 256 }
     ensures { result ≡ ends_at numbers.now index }
 {
     let place = PLACEMENT_NUMBERS * index as usize;
@@ -74,7 +74,7 @@ fn ends_at(numbers: &[i32; RUN_NUMBERS], index: u32) -> Ends
 
 // Whether a placement of a run is one of the axis, and what is asked holds of it.
 pub(crate) fn is_hit(asked: Asked, numbers: &[i32; RUN_NUMBERS], index: u32) -> bool
-    requires { index < 512 }
+    requires { index < 256 }
     ensures { result ≡ is_hit asked numbers.now index }
 {
     let place = PLACEMENT_NUMBERS * index as usize;

@@ -21,7 +21,7 @@ use sheet_forms::first_fault;
 
 // One axis, in its part of the words.
 fn end_in(axis: Axis, state: AxisState, reading: AxisReading, words: &mut [u64]) -> AxisEnd
-    requires { length words.old ≡ 26368 }
+    requires { length words.old ≡ 25600 }
     ensures { record { answer = result; words = words.new } ≡ ended_in axis state reading words.old }
 {
     let first = first_word(axis);

@@ -29,7 +29,6 @@ fn own(said: Record) -> u32
         Record::Item(_, _) => 0,
         Record::Place(_, _, _) => 0,
         Record::PictureRow(_) => 0,
-        Record::Cell(_, _, _, _) => 0,
     }
 }
 
@@ -81,7 +80,6 @@ fn twice(
         Record::Item(_, _) => 0,
         Record::Place(_, _, _) => 0,
         Record::PictureRow(_) => 0,
-        Record::Cell(_, _, _, _) => 0,
     }
 }
 
@@ -119,7 +117,6 @@ pub fn stage(reached: u32, said: Record) -> u32
         Record::Item(_, _) => REST,
         Record::Place(_, _, _) => REST,
         Record::PictureRow(_) => ROWS,
-        Record::Cell(_, _, _, _) => REST,
     }
 }
 

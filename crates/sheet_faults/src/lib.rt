@@ -6,7 +6,7 @@ use coordinates::Axis;
 use panel_tables::{AreaEdges, Panel, Reading};
 use sheet_forms::PlaceEnd;
 
-// What a record is written to; a row of a picture with its number of words, a cell with the ends of its columns and of its rows.
+// What a record is written to; a row of a picture with its number of words.
 #[derive(Drop)]
 pub enum Part {
     Nothing,
@@ -15,7 +15,6 @@ pub enum Part {
     Areas(AreaEdges),
     Placements(Axis, PlaceEnd, PlaceEnd),
     Picture(u32),
-    Cells(PlaceEnd, PlaceEnd, PlaceEnd, PlaceEnd),
 }
 
 // A line that was read: the number of its fault, 0 where it has none, the number of the first area that it shares a cell with, 0 where an

@@ -38,7 +38,6 @@ pub fn shared(count: u32, areas: &[u64], said: Record) -> u32
         Record::Item(_, _) => 0,
         Record::Place(_, _, _) => 0,
         Record::PictureRow(_) => 0,
-        Record::Cell(_, _, _, _) => 0,
     }
 }
 

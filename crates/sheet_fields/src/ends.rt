@@ -1,6 +1,6 @@
-// An end of a placement, or of a cell: three fields, kind, name and number.
+// An end of a placement: three fields, kind, name and number.
 ghost use Rattle.std.specs.Prelude.{◌≡◌, ◌≤◌};
-ghost use Rattle.sheet_forms.specs.Ends.{end_kind, unused_name, uses_name, end_name, index_field, span_field, unused_number, end_number, made_end, end_of, span_fault, cell_end_of};
+ghost use Rattle.sheet_forms.specs.Ends.{end_kind, unused_name, uses_name, end_name, index_field, span_field, unused_number, end_number, made_end, end_of};
 
 use coordinates::refusal::{COUNT, UNREAD};
 use sheet_forms::fault::first_fault;
@@ -133,27 +133,4 @@ pub fn end(f: &[u8], name: &[u8], number: &[u8]) -> EndField
 {
     let k = kind(f);
     make_end(k, end_name(k.value, name), end_number(k.value, number))
-}
-
-// The plain spans of a cell.
-const MOST_SPAN: u32 = 32;
-
-// The fault of a plain span of a cell.
-fn span_fault(kind: u32, f: &[u8]) -> u32
-    ensures { result ≡ span_fault kind f.now }
-{
-    if kind == 3 {
-        return count(f, 1, MOST_SPAN).fault;
-    }
-    0
-}
-
-// An end of a cell that three fields write.
-pub fn cell_end(f: &[u8], name: &[u8], number: &[u8]) -> EndField
-    ensures { result ≡ cell_end_of f.now name.now number.now }
-{
-    let read = end(f, name, number);
-    let fault = first_fault(read.fault, span_fault(read.end.kind, number));
-    let end = read.end;
-    EndField { fault, end }
 }

@@ -5,20 +5,19 @@ use mathlib.Core.List.{List, []}
 use mathlib.Core.Bool.{Bool, true, false, cond}
 use mathlib.Core.Logic.{◌⊎◌, inl, inr, ⊎_elim}
 use native.Mathlib.Omega.{arith}
-use lib.Dec.{eqb, lit<}
-use lib.IntN.{pos}
+use lib.Dec.{lit<}
 use lib.ListN.{get_or}
-use borrow.Author.Tests.{ne_eqb, eqb-true, eqb-false}
+use borrow.Author.Tests.{ne_eqb}
 use Rattle.text.specs.Split.{same, index}
 use Rattle.text.proofs.Which.{same_equal, unequal, index_word}
 use Rattle.sheet_forms.specs.Words.{at, dash, nought, end_words}
 use Rattle.sheet_forms.specs.Faults.{first_of}
-use Rattle.sheet_forms.specs.Fields.{word_of, count_of, name_fault}
-use Rattle.sheet_forms.specs.Ends.{end_kind, unused_name, uses_name, end_name, end_number, faulty_number, end_of, span_fault, cell_end_of}
-use Rattle.sheet_forms.specs.Forms.{an_end, a_cell_end, InNameRange, Whole, OutsideIndexes, OutsideCounts, OutsideSpans, is_named, is_nspan, EndForm, auto, line, named, span, nspan}
+use Rattle.sheet_forms.specs.Fields.{word_of, name_fault}
+use Rattle.sheet_forms.specs.Ends.{end_kind, unused_name, uses_name, end_name, end_number, faulty_number, end_of}
+use Rattle.sheet_forms.specs.Forms.{an_end, InNameRange, Whole, OutsideIndexes, OutsideCounts, is_named, is_nspan, EndForm, auto, line, named, span, nspan}
 use Rattle.sheet_forms.specs.Rows.{Row, unread, bad_name, bad_value, bad_count, bad_area, First, CountOutside}
-use Rattle.sheet_forms.proofs.Firsts.{first_left, first_one, firsts, first-same, at_none, at-unread, at_name, at_count}
-use Rattle.sheet_forms.proofs.FieldRows.{below_or, word_good, word_value, word_bad, name_range, never, counted_rows, Counted, unspelt, outside, inside, count-counted, index-counted}
+use Rattle.sheet_forms.proofs.Firsts.{first_left, first_one, firsts, first-same, at_none, at-unread, at_name}
+use Rattle.sheet_forms.proofs.FieldRows.{below_or, word_good, word_value, word_bad, name_range, never, counted_rows, count-counted, index-counted}
 use Rattle.sheet_forms.proofs.PartRows.{PartHolds}
 
 -- ---- the name
@@ -201,68 +200,4 @@ end_first fs k =
     (λ h. subst (First (PartHolds fs (an_end k))) (sym (known_fault (at fs k) (at fs (suc k)) (at fs (suc (suc k))) (index (at fs k) end_words) h refl))
     (end_known fs k (index (at fs k) end_words) h (index_word (at fs k) end_words h)))
     (λ h. at-unread (unknown_fault (at fs k) (at fs (suc k)) (at fs (suc (suc k))) h) (no_form (at fs k) (at fs (suc k)) (at fs (suc (suc k))) h))
-    (below_or (index (at fs k) end_words) 5)
-
--- ---- an end of a cell: as one of a placement, and a plain span of 1 to 32
-
-abbrev SpanHolds : ℕ → List ℕ → Row → Type 0
-SpanHolds j f unread = (j ≡ 3) × (Whole f → ⊥)
-SpanHolds j f bad_name = ⊥
-SpanHolds j f bad_value = ⊥
-SpanHolds j f bad_count = (j ≡ 3) × OutsideSpans f
-SpanHolds j f bad_area = ⊥
-
-span_first : (j : ℕ) (f : List ℕ) → First (SpanHolds j f) (span_fault j f)
-unfolding span_fault
-span_first j f = go (eqb j 3) refl
-  where
-    spans : {n : ℕ} → j ≡ 3 → Counted (pos 1) (pos 32) f n → First (SpanHolds j f) n
-    spans e (unspelt z u) = at-unread z (e, u)
-    spans e (outside z (i, w, r)) = at_count z (e, (i, w, r)) (λ (q, u). u (i, w)) never never
-    spans e (inside z w r) = at_none z (λ (q, u). u w) never never (λ (q, o). r o) never
-
-    go : (t : Bool) → eqb j 3 ≡ t → First (SpanHolds j f) (cond t (count_of 1 32 f).fault 0)
-    go true q = spans (eqb-true j 3 q) (count-counted 1 32 f)
-    go false q = at_none refl (λ (e, u). eqb-false j 3 q e) never never (λ (e, o). eqb-false j 3 q e) never
-
-module _ (fs : List (List ℕ)) (k : ℕ) (h : index (at fs k) end_words < 5) where
-  abbrev there : ℕ
-  there = index (at fs k) end_words
-
-  word : at fs k ≡ get_or end_words there []
-  word = index_word (at fs k) end_words h
-
-  cell_holds : (r : Row) → PartHolds fs (an_end k) r ⊎ SpanHolds there (at fs (suc (suc k))) r → PartHolds fs (a_cell_end k) r
-  cell_holds unread (inl u) = u
-  cell_holds unread (inr (z, u)) = λ f. u (subst (λ (i : ℕ). NumberForm i (at fs (suc (suc k)))) z (form-number fs k there h word f))
-  cell_holds bad_name (inl r) = r
-  cell_holds bad_name (inr r) = absurd r
-  cell_holds bad_value (inl r) = r
-  cell_holds bad_value (inr r) = r
-  cell_holds bad_count (inl r) = inl r
-  cell_holds bad_count (inr (z, o)) = inr (word ∙ ap (λ (i : ℕ). get_or end_words i []) z, o)
-  cell_holds bad_area (inl r) = r
-  cell_holds bad_area (inr r) = r
-
-  cell-holds-not : (r : Row) → (PartHolds fs (an_end k) r ⊎ SpanHolds there (at fs (suc (suc k))) r → ⊥) → PartHolds fs (a_cell_end k) r → ⊥
-  cell-holds-not unread n u = n (inl u)
-  cell-holds-not bad_name n r = n (inl r)
-  cell-holds-not bad_value n r = r
-  cell-holds-not bad_count n (inl r) = n (inl r)
-  cell-holds-not bad_count n (inr (q, o)) = n (inr (end-index (at fs k) 3 (lit< tt) q, o))
-  cell-holds-not bad_area n r = r
-
-  cell-known : First (PartHolds fs (a_cell_end k)) (first_of (end_of (at fs k) (at fs (suc k)) (at fs (suc (suc k)))).fault (span_fault there (at fs (suc (suc k)))))
-  cell-known = first-same cell_holds cell-holds-not (firsts (end_first fs k) (span_first there (at fs (suc (suc k)))))
-
-  cell-fault : (cell_end_of (at fs k) (at fs (suc k)) (at fs (suc (suc k)))).fault ≡ first_of (end_of (at fs k) (at fs (suc k)) (at fs (suc (suc k)))).fault (span_fault there (at fs (suc (suc k))))
-  unfolding cell_end_of end_of end_kind
-  cell-fault = rw (word_value 5 there h)
-
-pub cell_end_first : (fs : List (List ℕ)) (k : ℕ) → First (PartHolds fs (a_cell_end k)) (cell_end_of (at fs k) (at fs (suc k)) (at fs (suc (suc k)))).fault
-unfolding cell_end_of
-cell_end_first fs k =
-    ⊎_elim
-    (λ h. subst (First (PartHolds fs (a_cell_end k))) (sym (cell-fault fs k h)) (cell-known fs k h))
-    (λ h. at-unread (first_one (end_of (at fs k) (at fs (suc k)) (at fs (suc (suc k)))).fault _ (unknown_fault (at fs k) (at fs (suc k)) (at fs (suc (suc k))) h)) (no_form (at fs k) (at fs (suc k)) (at fs (suc (suc k))) h))
     (below_or (index (at fs k) end_words) 5)

@@ -18,7 +18,7 @@ use Rattle.sheet_forms.specs.declared.PlaceEnd.{PlaceEnd}
 use Rattle.sheet_forms.specs.Words.{at, nought, end_words, repeat_words}
 use Rattle.sheet_forms.specs.Faults.{first_of}
 use Rattle.sheet_forms.specs.Fields.{good, faulty, word_of, count_field, count_of, repetition_at, repetition_of, name_fault}
-use Rattle.sheet_forms.specs.Ends.{end_kind, uses_name, end_name, index_field, faulty_number, end_number, end_of, span_fault, cell_end_of}
+use Rattle.sheet_forms.specs.Ends.{end_kind, uses_name, end_name, index_field, faulty_number, end_number, end_of}
 use Rattle.sheet_forms.specs.Forms.{InNameRange}
 use Rattle.sheet_forms.proofs.Codes.{count_most}
 use Rattle.sheet_forms.proofs.Firsts.{first_zero}
@@ -133,7 +133,3 @@ end_bounded f n m z =
     let z2 = (first_zero (end_name v n) (end_number v m).fault z1).0 in
     let b = number_between v m in
     record { kinds = word-most 4 (index f end_words); named = name_used v n z2; least = b.0; most = b.1 }
-
-pub cell_end_bounded : (f n m : List ℕ) → (cell_end_of f n m).fault ≡ 0 → EndBounded n (cell_end_of f n m).end
-unfolding cell_end_of
-cell_end_bounded f n m z = end_bounded f n m (first_zero (end_of f n m).fault (span_fault (end_of f n m).end.kind m) z).0

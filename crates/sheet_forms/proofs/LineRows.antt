@@ -11,12 +11,12 @@ use Rattle.sheet_forms.specs.Words.{at, kind_words}
 use Rattle.sheet_forms.specs.Faults.{first_of, no_row}
 use Rattle.sheet_forms.specs.Fields.{axis_of, rule_of, count_of, repetition_of, name_fault, row_fault}
 use Rattle.sheet_forms.specs.Sizes.{size_of, inner_of}
-use Rattle.sheet_forms.specs.Ends.{end_of, cell_end_of}
-use Rattle.sheet_forms.specs.Forms.{Part, an_axis, a_name, a_count, an_inner, a_rule, a_size, a_repetition, an_end, a_cell_end, the_words, Formed, Kind, axis, area, name, track, repeat, end, spare, extra, item, place, row, cell, kind_number, parts_of, Of, Every}
+use Rattle.sheet_forms.specs.Ends.{end_of}
+use Rattle.sheet_forms.specs.Forms.{Part, an_axis, a_name, a_count, an_inner, a_rule, a_size, a_repetition, an_end, the_words, Formed, Kind, axis, area, name, track, repeat, end, spare, extra, item, place, row, kind_number, parts_of, Of, Every}
 use Rattle.sheet_forms.specs.Rows.{Row, unread, bad_name, bad_value, bad_count, bad_area, Holds, First, NameOutside, ValueOutside, CountOutside, Some}
 use Rattle.sheet_forms.proofs.Firsts.{firsts}
 use Rattle.sheet_forms.proofs.PartRows.{PartHolds, axis_first, rule_first, name_first, count_first, inner_first, size_first, repetition_first}
-use Rattle.sheet_forms.proofs.EndRows.{end_first, cell_end_first}
+use Rattle.sheet_forms.proofs.EndRows.{end_first}
 use Rattle.sheet_forms.proofs.WordRows.{words_first}
 
 -- ---- the parts
@@ -31,7 +31,6 @@ part_fault fs (a_rule k) = (rule_of (at fs k)).fault
 part_fault fs (a_size p k) = (size_of p (at fs k) (at fs (suc k))).fault
 part_fault fs (a_repetition k) = (repetition_of (at fs k)).fault
 part_fault fs (an_end k) = (end_of (at fs k) (at fs (suc k)) (at fs (suc (suc k)))).fault
-part_fault fs (a_cell_end k) = (cell_end_of (at fs k) (at fs (suc k)) (at fs (suc (suc k)))).fault
 part_fault fs (the_words k) = row_fault (drop k fs)
 
 part_first : (fs : List (List ℕ)) (p : Part) → First (PartHolds fs p) (part_fault fs p)
@@ -43,7 +42,6 @@ part_first fs (a_rule k) = rule_first fs k
 part_first fs (a_size p k) = size_first fs p k
 part_first fs (a_repetition k) = repetition_first fs k
 part_first fs (an_end k) = end_first fs k
-part_first fs (a_cell_end k) = cell_end_first fs k
 part_first fs (the_words k) = words_first fs k
 
 abbrev pub faults : List (List ℕ) → List Part → ℕ
@@ -72,7 +70,6 @@ place_of extra = refl
 place_of item = refl
 place_of place = refl
 place_of row = refl
-place_of cell = refl
 
 pub word-index : (fs : List (List ℕ)) (k : Kind) → at fs 0 ≡ get_or kind_words (kind_number k) [] → index (at fs 0) kind_words ≡ kind_number k
 word-index fs k e = ap (λ (l : List ℕ). index l kind_words) e ∙ place_of k
@@ -88,8 +85,7 @@ kind_at (suc (suc (suc (suc (suc (suc zero)))))) = spare
 kind_at (suc (suc (suc (suc (suc (suc (suc zero))))))) = extra
 kind_at (suc (suc (suc (suc (suc (suc (suc (suc zero)))))))) = item
 kind_at (suc (suc (suc (suc (suc (suc (suc (suc (suc zero))))))))) = place
-kind_at (suc (suc (suc (suc (suc (suc (suc (suc (suc (suc zero)))))))))) = row
-kind_at (suc (suc (suc (suc (suc (suc (suc (suc (suc (suc (suc i))))))))))) = cell
+kind_at (suc (suc (suc (suc (suc (suc (suc (suc (suc (suc i)))))))))) = row
 
 kind_back : (k : Kind) → kind_at (kind_number k) ≡ k
 kind_back axis = refl
@@ -103,9 +99,8 @@ kind_back extra = refl
 kind_back item = refl
 kind_back place = refl
 kind_back row = refl
-kind_back cell = refl
 
-pub number_back_lem : (i : ℕ) → i < 12 → kind_number (kind_at i) ≡ i
+pub number_back_lem : (i : ℕ) → i < 11 → kind_number (kind_at i) ≡ i
 number_back_lem zero h = refl
 number_back_lem (suc zero) h = refl
 number_back_lem (suc (suc zero)) h = refl
@@ -117,10 +112,9 @@ number_back_lem (suc (suc (suc (suc (suc (suc (suc zero))))))) h = refl
 number_back_lem (suc (suc (suc (suc (suc (suc (suc (suc zero)))))))) h = refl
 number_back_lem (suc (suc (suc (suc (suc (suc (suc (suc (suc zero))))))))) h = refl
 number_back_lem (suc (suc (suc (suc (suc (suc (suc (suc (suc (suc zero)))))))))) h = refl
-number_back_lem (suc (suc (suc (suc (suc (suc (suc (suc (suc (suc (suc zero))))))))))) h = refl
-number_back_lem (suc (suc (suc (suc (suc (suc (suc (suc (suc (suc (suc (suc i)))))))))))) h = absurd (omega arith)
+number_back_lem (suc (suc (suc (suc (suc (suc (suc (suc (suc (suc (suc i))))))))))) h = absurd (omega arith)
 
-pub kind_below : (k : Kind) → kind_number k < 12
+pub kind_below : (k : Kind) → kind_number k < 11
 kind_below axis = lit< tt
 kind_below area = lit< tt
 kind_below name = lit< tt
@@ -132,7 +126,6 @@ kind_below extra = lit< tt
 kind_below item = lit< tt
 kind_below place = lit< tt
 kind_below row = lit< tt
-kind_below cell = lit< tt
 
 -- a line is of one kind only
 pub same_kind_lem : (fs : List (List ℕ)) (j k : Kind) → at fs 0 ≡ get_or kind_words (kind_number j) [] → at fs 0 ≡ get_or kind_words (kind_number k) [] → j ≡ k

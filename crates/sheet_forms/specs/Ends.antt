@@ -1,4 +1,4 @@
--- An end of a placement, or of a cell: kind, name, number (document 01, panel sheet and panel ranges; document 02, request 10).
+-- An end of a placement: kind, name, number (document 01, panel sheet and panel ranges).
 use Rattle.std.specs.Prelude.{ℕ, List, Bool, cond, ◌||◌, eqb, pos}
 use Rattle.text.specs.Split.{index, same}
 use Rattle.text.specs.Whole.{whole_of, index_in}
@@ -56,11 +56,3 @@ made_end kind name number =
 
 unfoldable pub end_of : List ℕ → List ℕ → List ℕ → EndField
 end_of f name number = made_end (end_kind f) (end_name (end_kind f).value name) (end_number (end_kind f).value number)
-
--- ---- an end of a cell: "their plain spans outside 1..32 are refused by 4"
-unfoldable pub span_fault : ℕ → List ℕ → ℕ
-span_fault kind f = cond (eqb kind 3) (count_of 1 32 f).fault 0
-
-unfoldable pub cell_end_of : List ℕ → List ℕ → List ℕ → EndField
-cell_end_of f name number =
-    record { fault = first_of (end_of f name number).fault (span_fault (end_of f name number).end.kind number); end = (end_of f name number).end }

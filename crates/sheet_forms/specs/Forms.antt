@@ -37,10 +37,6 @@ OutsideIndexes f = OutsideRange (negsuc 32767) (pos 32767) f
 abbrev pub OutsideCounts : List ℕ → Type 0
 OutsideCounts f = OutsideRange (pos 0) (pos 65535) f
 
--- document 02, request 10: plain spans of a cell are 1 to 32
-abbrev pub OutsideSpans : List ℕ → Type 0
-OutsideSpans f = OutsideRange (pos 1) (pos 32) f
-
 abbrev pub Size : List ℕ → Type 0
 Size f = (bits : ℕ) × WritesBits f bits
 
@@ -54,7 +50,7 @@ Allowed Minimum j = maximum_only j ≡ false
 Allowed Maximum j = Unit {0}
 Allowed Gap j = j < 2
 
--- ---- an end of a placement, or of a cell
+-- ---- an end of a placement
 
 abbrev pub is_auto : List ℕ → Type 0
 is_auto f = f ≡ get_or end_words 0 []
@@ -90,7 +86,6 @@ pub data Part : Type 0 where
   a_size : Position → ℕ → Part
   a_repetition : ℕ → Part
   an_end : ℕ → Part
-  a_cell_end : ℕ → Part
   the_words : ℕ → Part
 
 -- a part of the form that the sheet's rules give it; what a used name holds is row 2's
@@ -103,13 +98,12 @@ Formed fs (a_rule k) = OneOf rule_words (at fs k)
 Formed fs (a_size p k) = ((j : ℕ) × SizeKind j (at fs k) × Allowed p j) × Size (at fs (suc k))
 Formed fs (a_repetition k) = OneOf repeat_words (at fs k) ⊎ Whole (at fs k)
 Formed fs (an_end k) = EndForm (at fs k) (at fs (suc k)) (at fs (suc (suc k)))
-Formed fs (a_cell_end k) = EndForm (at fs k) (at fs (suc k)) (at fs (suc (suc k)))
 Formed fs (the_words k) = Unit {0}
 
 -- ---- a line
 
 pub data Kind : Type 0 where
-  axis area name track repeat end spare extra item place row cell : Kind
+  axis area name track repeat end spare extra item place row : Kind
 
 -- its number in the order of `kind_words`
 abbrev pub kind_number : Kind → ℕ
@@ -124,7 +118,6 @@ kind_number extra = 7
 kind_number item = 8
 kind_number place = 9
 kind_number row = 10
-kind_number cell = 11
 
 -- that a line of a kind may have n fields, its word the first
 abbrev pub Fields : Kind → ℕ → Type 0
@@ -139,7 +132,6 @@ Fields extra n = n ≡ 4
 Fields item n = n ≡ 3
 Fields place n = n ≡ 8
 Fields row n = 2 ≤ n
-Fields cell n = n ≡ 13
 
 -- what stands in them
 abbrev pub parts_of : Kind → List Part
@@ -154,7 +146,6 @@ parts_of extra = an_axis 1 ∷ a_count 0 10000 2 ∷ a_count 0 10000 3 ∷ []
 parts_of item = an_axis 1 ∷ a_count 0 29999 2 ∷ []
 parts_of place = an_axis 1 ∷ an_end 2 ∷ an_end 5 ∷ []
 parts_of row = the_words 1 ∷ []
-parts_of cell = a_cell_end 1 ∷ a_cell_end 4 ∷ a_cell_end 7 ∷ a_cell_end 10 ∷ []
 
 -- a line of a kind, by its first field and how many fields there are
 pub record Of (fs : List (List ℕ)) (k : Kind) : Type 0 where

@@ -6,7 +6,7 @@ use Rattle.text.specs.Spelling.{Writes, WritesBits}
 use Rattle.sizing.specs.Ranges.{value_in_range, length_in_range}
 use Rattle.sheet_forms.specs.Faults.{FirstBy}
 use Rattle.sheet_forms.specs.Words.{at}
-use Rattle.sheet_forms.specs.Forms.{Every, Formed, InNameRange, Kind, Of, OutsideCounts, OutsideIndexes, OutsideRange, OutsideSpans, Part, SizeKind, a_cell_end, a_count, a_name, a_repetition, a_rule, a_size, an_axis, an_end, an_inner, area, is_line, is_named, is_nspan, is_span, parts_of, the_words}
+use Rattle.sheet_forms.specs.Forms.{Every, Formed, InNameRange, Kind, Of, OutsideCounts, OutsideIndexes, OutsideRange, Part, SizeKind, a_count, a_name, a_repetition, a_rule, a_size, an_axis, an_end, an_inner, area, is_line, is_named, is_nspan, is_span, parts_of, the_words}
 
 -- a word that is neither dots nor in the name range
 pub record BadWord (w : Word) : Type 0 where
@@ -27,7 +27,6 @@ NameOutside fs (a_rule k) = ⊥
 NameOutside fs (a_size p k) = ⊥
 NameOutside fs (a_repetition k) = ⊥
 NameOutside fs (an_end k) = (is_named (at fs k) ⊎ is_nspan (at fs k)) × (InNameRange (at fs (suc k)) → ⊥)
-NameOutside fs (a_cell_end k) = (is_named (at fs k) ⊎ is_nspan (at fs k)) × (InNameRange (at fs (suc k)) → ⊥)
 NameOutside fs (the_words k) = BadWords (drop k fs)
 
 -- a size outside its range; "a keyword has value zero, else 3"
@@ -40,14 +39,7 @@ ValueOutside fs (a_rule k) = ⊥
 ValueOutside fs (a_size p k) = (j : ℕ) × (bits : ℕ) × SizeKind j (at fs k) × WritesBits (at fs (suc k)) bits × (value_in_range j bits ≡ false)
 ValueOutside fs (a_repetition k) = ⊥
 ValueOutside fs (an_end k) = ⊥
-ValueOutside fs (a_cell_end k) = ⊥
 ValueOutside fs (the_words k) = ⊥
-
--- the number of an end
-abbrev pub EndOutside : List (List ℕ) → ℕ → Type 0
-EndOutside fs k =
-    ((is_line (at fs k) ⊎ is_named (at fs k)) × OutsideIndexes (at fs (suc (suc k))))
-    ⊎ ((is_span (at fs k) ⊎ is_nspan (at fs k)) × OutsideCounts (at fs (suc (suc k))))
 
 -- a whole number outside its range; more words than a row may have
 abbrev pub CountOutside : List (List ℕ) → Part → Type 0
@@ -58,8 +50,9 @@ CountOutside fs (an_inner k) = ⊥
 CountOutside fs (a_rule k) = ⊥
 CountOutside fs (a_size p k) = ⊥
 CountOutside fs (a_repetition k) = OutsideCounts (at fs k)
-CountOutside fs (an_end k) = EndOutside fs k
-CountOutside fs (a_cell_end k) = EndOutside fs k ⊎ (is_span (at fs k) × OutsideSpans (at fs (suc (suc k))))
+CountOutside fs (an_end k) =
+    ((is_line (at fs k) ⊎ is_named (at fs k)) × OutsideIndexes (at fs (suc (suc k))))
+    ⊎ ((is_span (at fs k) ⊎ is_nspan (at fs k)) × OutsideCounts (at fs (suc (suc k))))
 CountOutside fs (the_words k) = 10000 < length (drop k fs)
 
 abbrev pub Some : (Part → Type 0) → List Part → Type 0

@@ -35,7 +35,7 @@ pub struct RepeatRecord {
     pub number: u32,
 }
 
-// An end of a `place` or `cell` line: kinds 0 to 4 are `auto line named span nspan`. The number is 0 where it is unused.
+// An end of a `place` line: kinds 0 to 4 are `auto line named span nspan`. The number is 0 where it is unused.
 #[derive(Drop)]
 pub struct PlaceEnd {
     pub kind: u32,
@@ -43,7 +43,7 @@ pub struct PlaceEnd {
 }
 
 // What a line says. A size is one word, its kind times 2^32 and its bits. Names stay in the line: field 1 of an `area`,
-// field 2 of a `name`, fields 3 and 6 of a `place`, fields 2, 5, 8 and 11 of a `cell`, which has the ends of its columns and then those of its rows. The words of a `row` are its fields from 1 on; the record says how many there are.
+// field 2 of a `name`, fields 3 and 6 of a `place`. The words of a `row` are its fields from 1 on; the record says how many there are.
 #[derive(Drop)]
 pub enum Record {
     Fault(u32),
@@ -58,7 +58,6 @@ pub enum Record {
     Item(Axis, u32),
     Place(Axis, PlaceEnd, PlaceEnd),
     PictureRow(u32),
-    Cell(PlaceEnd, PlaceEnd, PlaceEnd, PlaceEnd),
 }
 
 #[derive(Drop)]

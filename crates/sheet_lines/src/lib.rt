@@ -15,6 +15,4 @@ pub struct LineRecord {
     pub said: Record,
     pub first: Place,
     pub second: Place,
-    pub third: Place,
-    pub fourth: Place,
 }

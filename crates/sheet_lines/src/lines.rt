@@ -1,11 +1,10 @@
-// The lines that stand beside a template: `area`, `name`, `extra`, `item`, `place`, `cell`. A line comes with the starts of its fields and their number.
-ghost use Rattle.std.specs.Prelude.{◌≡◌, ◌≤◌, ◌+◌};
-ghost use Rattle.text.specs.Places.{field_by, fields_by};
-ghost use Rattle.sheet_forms.specs.Ends.{cell_end_of};
-ghost use Rattle.sheet_forms.specs.Records.{edges_of, made_area, area_line, made_name, name_line, made_extra, extra_line, made_item, item_line, made_place, place_line, made_cell, cell_line};
+// The lines that stand beside a template: `area`, `name`, `extra`, `item`, `place`. A line comes with the starts of its fields and their number.
+ghost use Rattle.std.specs.Prelude.{◌≡◌};
+ghost use Rattle.text.specs.Places.{fields_by};
+ghost use Rattle.sheet_forms.specs.Records.{edges_of, made_area, area_line, made_name, name_line, made_extra, extra_line, made_item, item_line, made_place, place_line};
 
 use coordinates::refusal::{AREA, UNREAD};
-use sheet_fields::ends::{cell_end, end};
+use sheet_fields::ends::end;
 use sheet_forms::fault::first_fault;
 use sheet_forms::field::{AxisField, Field, axis, count};
 use sheet_forms::name::name_fault;
@@ -164,51 +163,4 @@ pub(crate) fn place_line(line: &[u8], starts: &[usize; STARTS], fields: usize) -
         text::field(line, starts, 7),
     );
     make_place(a, s, e)
-}
-
-// The end of a cell whose kind is field k.
-fn cell_end_at(line: &[u8], starts: &[usize; STARTS], k: usize) -> EndField
-    requires { k ≤ 10 }
-    ensures { result ≡ cell_end_of (field_by starts.now line.now k) (field_by starts.now line.now (k + 1)) (field_by starts.now line.now (k + 2)) }
-{
-    cell_end(
-        text::field(line, starts, k),
-        text::field(line, starts, k + 1),
-        text::field(line, starts, k + 2),
-    )
-}
-
-fn make_cell(
-    columnstart: EndField,
-    columnend: EndField,
-    rowstart: EndField,
-    rowend: EndField,
-) -> Record
-    ensures { result ≡ made_cell columnstart columnend rowstart rowend }
-{
-    let rows = first_fault(rowstart.fault, rowend.fault);
-    let fault = first_fault(columnstart.fault, first_fault(columnend.fault, rows));
-    let a = columnstart.end;
-    let b = columnend.end;
-    let c = rowstart.end;
-    let d = rowend.end;
-    if fault == 0 {
-        Record::Cell(a, b, c, d)
-    } else {
-        Record::Fault(fault)
-    }
-}
-
-// `cell`, then kind, name, number for the start of its columns, for their end, for the start of its rows and for their end
-pub(crate) fn cell_line(line: &[u8], starts: &[usize; STARTS], fields: usize) -> Record
-    ensures { result ≡ cell_line (fields_by starts.now line.now fields) }
-{
-    if fields != 13 {
-        return Record::Fault(UNREAD);
-    }
-    let columnstart = cell_end_at(line, starts, 1);
-    let columnend = cell_end_at(line, starts, 4);
-    let rowstart = cell_end_at(line, starts, 7);
-    let rowend = cell_end_at(line, starts, 10);
-    make_cell(columnstart, columnend, rowstart, rowend)
 }

@@ -3,11 +3,11 @@ ghost use Rattle.std.specs.Prelude.{◌≡◌, cond, eqb};
 ghost use Rattle.text.specs.Split.{split, index};
 ghost use Rattle.text.specs.Places.{part_at, fields_by};
 ghost use Rattle.sheet_forms.specs.Words.{kind_words};
-ghost use Rattle.sheet_forms.specs.Names.{of_first, of_second, of_third, of_fourth, first_name, second_name, third_name, fourth_name};
+ghost use Rattle.sheet_forms.specs.Names.{of_first, of_second, first_name, second_name};
 ghost use Rattle.sheet_forms.specs.Records.{row_line, fixed_kind, record_of};
 
 use crate::LineRecord;
-use crate::lines::{area_line, cell_line, extra_line, item_line, name_line, place_line};
+use crate::lines::{area_line, extra_line, item_line, name_line, place_line};
 use crate::row::row_line;
 use crate::templates::{axis_line, end_line, repeat_line, sizes_line};
 use coordinates::refusal::UNREAD;
@@ -31,7 +31,6 @@ fn by_kind(k: usize, line: &[u8], starts: &[usize; STARTS], fields: usize) -> Re
         8 => item_line(line, starts, fields),
         9 => place_line(line, starts, fields),
         10 => row_line(line),
-        11 => cell_line(line, starts, fields),
         _ => Record::Fault(UNREAD),
     }
 }
@@ -73,10 +72,7 @@ pub fn kind(f: &[u8]) -> usize
     if text::equal(b"row", f) {
         return 10;
     }
-    if text::equal(b"cell", f) {
-        return 11;
-    }
-    12
+    11
 }
 
 // The field of a record that holds its first name; past the fields that are kept where there is none.
@@ -96,7 +92,6 @@ fn first_name_field(said: Record) -> usize
         Record::Item(_, _) => FIELDS,
         Record::Place(_, _, _) => 3,
         Record::PictureRow(_) => FIELDS,
-        Record::Cell(_, _, _, _) => 2,
     }
 }
 
@@ -117,56 +112,12 @@ fn second_name_field(said: Record) -> usize
         Record::Item(_, _) => FIELDS,
         Record::Place(_, _, _) => 6,
         Record::PictureRow(_) => FIELDS,
-        Record::Cell(_, _, _, _) => 5,
-    }
-}
-
-// The field of a record that holds its third name, likewise.
-fn third_name_field(said: Record) -> usize
-    ensures { result ≡ of_third 14 (λ k. k) said }
-{
-    match said {
-        Record::Fault(_) => FIELDS,
-        Record::Axis(_) => FIELDS,
-        Record::Area(_) => FIELDS,
-        Record::Name(_) => FIELDS,
-        Record::Track(_, _, _) => FIELDS,
-        Record::Repeat(_, _) => FIELDS,
-        Record::End(_) => FIELDS,
-        Record::Spare(_, _, _) => FIELDS,
-        Record::Extra(_, _, _) => FIELDS,
-        Record::Item(_, _) => FIELDS,
-        Record::Place(_, _, _) => FIELDS,
-        Record::PictureRow(_) => FIELDS,
-        Record::Cell(_, _, _, _) => 8,
-    }
-}
-
-// The field of a record that holds its fourth name, likewise.
-fn fourth_name_field(said: Record) -> usize
-    ensures { result ≡ of_fourth 14 (λ k. k) said }
-{
-    match said {
-        Record::Fault(_) => FIELDS,
-        Record::Axis(_) => FIELDS,
-        Record::Area(_) => FIELDS,
-        Record::Name(_) => FIELDS,
-        Record::Track(_, _, _) => FIELDS,
-        Record::Repeat(_, _) => FIELDS,
-        Record::End(_) => FIELDS,
-        Record::Spare(_, _, _) => FIELDS,
-        Record::Extra(_, _, _) => FIELDS,
-        Record::Item(_, _) => FIELDS,
-        Record::Place(_, _, _) => FIELDS,
-        Record::PictureRow(_) => FIELDS,
-        Record::Cell(_, _, _, _) => 11,
     }
 }
 
 // The record that a line makes, and where its names lie in the line.
 pub fn read_record(line: &[u8]) -> LineRecord
-    ensures said_value { (result.said ≡ record_of (split 9 line.now)) × (part_at line.now result.first ≡ first_name result.said (split 9 line.now)) × (part_at line.now result.second ≡ second_name result.said (split 9 line.now)) }
-    ensures rows { (part_at line.now result.third ≡ third_name result.said (split 9 line.now)) × (part_at line.now result.fourth ≡ fourth_name result.said (split 9 line.now)) }
+    ensures { (result.said ≡ record_of (split 9 line.now)) × (part_at line.now result.first ≡ first_name result.said (split 9 line.now)) × (part_at line.now result.second ≡ second_name result.said (split 9 line.now)) }
 {
     let mut starts = [0usize; STARTS];
     let fields = text::cut_parts(line, 9, &mut starts);
@@ -176,7 +127,5 @@ pub fn read_record(line: &[u8]) -> LineRecord
         said,
         first: field_place(&starts, first_name_field(said)),
         second: field_place(&starts, second_name_field(said)),
-        third: field_place(&starts, third_name_field(said)),
-        fourth: field_place(&starts, fourth_name_field(said)),
     }
 }

@@ -21,7 +21,7 @@ use Rattle.text.specs.declared.Index.TheVariants.{Outside as OutsideIndex, Value
 use Rattle.sheet_forms.specs.declared.NumberField.{NumberField}
 use Rattle.text.specs.declared.Bits.TheVariants.{Unread, Value}
 use Rattle.sheet_forms.specs.declared.Record.{Record}
-use Rattle.sheet_forms.specs.declared.Record.TheVariants.{Fault, Axis as AxisLine, Area, Name, Track, Repeat, End, Spare, Extra, Item, Place, PictureRow, Cell}
+use Rattle.sheet_forms.specs.declared.Record.TheVariants.{Fault, Axis as AxisLine, Area, Name, Track, Repeat, End, Spare, Extra, Item, Place, PictureRow}
 use Rattle.sheet_forms.specs.declared.RepeatRecord.{RepeatRecord}
 use Rattle.sheet_forms.specs.declared.AxisRecord.{AxisRecord}
 use Rattle.sheet_forms.specs.declared.PlaceEnd.{PlaceEnd}
@@ -35,9 +35,9 @@ use Rattle.sheet_forms.specs.Words.{at, dash, nought, kind_words, size_words, ru
 use Rattle.sheet_forms.specs.Faults.{first_of}
 use Rattle.sheet_forms.specs.Fields.{good, faulty, word_of, count_field, axis_of, rule_of, count_of, repetition_of, repetition_at, name_fault, row_fault}
 use Rattle.sheet_forms.specs.Sizes.{allowed_at, faulty_size, size_field, size_of, kind_of, inner_field, no_inner, some_inner, inner_of}
-use Rattle.sheet_forms.specs.Ends.{end_kind, end_name, end_number, index_field, faulty_number, span_field, unused_number, end_of, span_fault, cell_end_of}
-use Rattle.sheet_forms.specs.Records.{unless, edges_of, made_axis, made_area, made_name, made_sizes, made_repeat, made_end, made_extra, made_item, made_place, made_cell, axis_line, area_line, name_line, sizes_line, repeat_line, end_line, extra_line, item_line, place_line, row_line, cell_line, record_of}
-use Rattle.sheet_forms.specs.Forms.{Kind, axis, area, name, track, repeat, end, spare, extra, item, place, row, cell}
+use Rattle.sheet_forms.specs.Ends.{end_kind, end_name, end_number, index_field, faulty_number, span_field, unused_number, end_of}
+use Rattle.sheet_forms.specs.Records.{unless, edges_of, made_axis, made_area, made_name, made_sizes, made_repeat, made_end, made_extra, made_item, made_place, axis_line, area_line, name_line, sizes_line, repeat_line, end_line, extra_line, item_line, place_line, row_line, record_of}
+use Rattle.sheet_forms.specs.Forms.{Kind, axis, area, name, track, repeat, end, spare, extra, item, place, row}
 use Rattle.sheet_forms.proofs.Firsts.{none_or_some, first_zero}
 use Rattle.sheet_forms.proofs.FieldRows.{below_or}
 use Rattle.sheet_forms.proofs.LineRows.{kind_at, number_back_lem}
@@ -211,10 +211,6 @@ end-value f n m z =
       number = number_value k.value m (first_zero (end_name k.value n) (end_number k.value m).fault y.1).1;
     }
 
-cell_end_value : (f n m : List ℕ) → (cell_end_of f n m).fault ≡ 0 → EndReads f m (cell_end_of f n m).end
-unfolding cell_end_of
-cell_end_value f n m z = end-value f n m (first_zero (end_of f n m).fault (span_fault (end_of f n m).end.kind m) z).0
-
 -- ---- a line
 
 pub record AxisReads (fs : Line) (a : AxisRecord) : Type 0 where
@@ -236,7 +232,6 @@ Reads fs (Extra a n p) = (n ≡ count_in (at fs 2)) × (p ≡ count_in (at fs 3)
 Reads fs (Item a i) = i ≡ count_in (at fs 2)
 Reads fs (Place a s e) = EndReads (at fs 2) (at fs 4) s × EndReads (at fs 5) (at fs 7) e
 Reads fs (PictureRow n) = Unit {0}
-Reads fs (Cell cs ce rs re) = (EndReads (at fs 1) (at fs 3) cs × EndReads (at fs 4) (at fs 6) ce) × (EndReads (at fs 7) (at fs 9) rs × EndReads (at fs 10) (at fs 12) re)
 
 unless_reads : (fs : Line) (n : ℕ) (r : Record) → (n ≡ 0 → Reads fs r) → Reads fs (unless n r)
 unless_reads fs n r h = ⊎_elim (λ e. rw (eq-eqb n 0 e) (h e)) (λ k. rw (ne_eqb n 0 k) k) (none_or_some n)
@@ -264,7 +259,7 @@ sizes_reads fs is_spare a low high p q =
     go false h = h
 
 line_reads : (k : Kind) (fs : Line) → Reads fs (line_of k fs)
-unfolding axis_line area_line name_line sizes_line repeat_line end_line extra_line item_line place_line row_line cell_line
+unfolding axis_line area_line name_line sizes_line repeat_line end_line extra_line item_line place_line row_line
 line_reads axis fs =
     let a = axis_of (at fs 1) in
     let i = inner_of (at fs 2) in
@@ -337,20 +332,6 @@ line_reads place fs =
     (unless_reads fs (first_of a.fault (first_of s.fault e.fault)) (Place a.axis s.end e.end)
     (λ z. let y = first_zero s.fault e.fault (first_zero a.fault (first_of s.fault e.fault) z).1 in
     (end-value (at fs 2) (at fs 3) (at fs 4) y.0, end-value (at fs 5) (at fs 6) (at fs 7) y.1)))
-line_reads cell fs =
-    let cs = cell_end_of (at fs 1) (at fs 2) (at fs 3) in
-    let ce = cell_end_of (at fs 4) (at fs 5) (at fs 6) in
-    let rs = cell_end_of (at fs 7) (at fs 8) (at fs 9) in
-    let re = cell_end_of (at fs 10) (at fs 11) (at fs 12) in
-    fields_reads fs (eqb (length fs) 13) (made_cell cs ce rs re)
-    (unless_reads fs (first_of cs.fault (first_of ce.fault (first_of rs.fault re.fault))) (Cell cs.end ce.end rs.end re.end)
-    (λ z.
-    let z1 = first_zero cs.fault (first_of ce.fault (first_of rs.fault re.fault)) z in
-    let z2 = first_zero ce.fault (first_of rs.fault re.fault) z1.1 in
-    let z3 = first_zero rs.fault re.fault z2.1 in (
-      (cell_end_value (at fs 1) (at fs 2) (at fs 3) z1.0, cell_end_value (at fs 4) (at fs 5) (at fs 6) z2.0),
-      (cell_end_value (at fs 7) (at fs 8) (at fs 9) z3.0, cell_end_value (at fs 10) (at fs 11) (at fs 12) z3.1),
-    )))
 line_reads row fs = go (ltb (length fs) 2)
   where
     go : (t : Bool) → Reads fs (cond t (Fault 1) (unless (row_fault (drop 1 fs)) (PictureRow (length (drop 1 fs)))))
@@ -366,4 +347,4 @@ record_reads fs =
     let w = index_word (at fs 0) kind_words h ∙ ap (λ (i : ℕ). get_or kind_words i []) (sym (number_back_lem (index (at fs 0) kind_words) h)) in
     subst (Reads fs) (sym (line_record k fs w)) (line_reads k fs))
     (λ h. subst (Reads fs) (sym (no_record fs h)) (not-zero 0))
-    (below_or (index (at fs 0) kind_words) 12)
+    (below_or (index (at fs 0) kind_words) 11)

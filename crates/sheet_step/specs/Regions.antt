@@ -10,8 +10,6 @@ use Rattle.panel_tables.specs.declared.Panel.{Panel}
 use Rattle.panel_tables.specs.declared.Reading.{Reading}
 use Rattle.panel_tables.specs.declared.AreaEdges.{AreaEdges}
 use Rattle.panel_tables.specs.Areas.{InAreas, put_area}
-use Rattle.panel_tables.specs.declared.CellHalf.{CellHalf}
-use Rattle.panel_tables.specs.Placements.{half_start, half_end, put_cell}
 use Rattle.panel_tables.specs.Axes.{state_in, reading_in}
 use Rattle.panel_tables.specs.Regions.{first_word, first_mark, axis_words_in, marks_in, area_words_in, area_bytes_in, placement_words_in, placement_bytes_in}
 use Rattle.sheet_forms.specs.Faults.{first_of}
@@ -49,13 +47,7 @@ on_areas p words bytes name e = parts_back 24960 128 60000 2048 words bytes (put
 
 unfoldable pub on_placements : Panel → List ℕ → List ℕ → Axis → PlaceEnd → List ℕ → PlaceEnd → List ℕ → InAreas
 on_placements p words bytes a s first e second =
-    parts_back 25088 1280 62048 32768 words bytes (place_in p (placement_words_in words) (placement_bytes_in bytes) a s first e second)
-
--- a cell, with its names of its line
-unfoldable pub on_cells : Panel → List ℕ → List ℕ → CellHalf → CellHalf → List ℕ → ℕ → InAreas
-on_cells p words bytes columns rows line number =
-    parts_back 25088 1280 62048 32768 words bytes
-    (put_cell p (placement_words_in words) (placement_bytes_in bytes) number (half_start line columns) (half_end line columns) (half_start line rows) (half_end line rows))
+    parts_back 25088 512 62048 16384 words bytes (place_in p (placement_words_in words) (placement_bytes_in bytes) a s first e second)
 
 -- ---- a row of a picture
 
@@ -72,7 +64,7 @@ drawn_read r width d =
     record {
       fault = first_of d.fault (width_fault r.picture width);
       panel = d.panel;
-      reading = record { stage = r.stage; lines = r.lines; picture = with_row r.picture width d.broken; columns = r.columns; rows = r.rows };
+      reading = record { stage = r.stage; picture = with_row r.picture width d.broken; columns = r.columns; rows = r.rows };
     }
 
 -- the answer with the words and the bytes

@@ -48,6 +48,5 @@ pub fn axis_record(
         Record::Item(_, i) => put_item(state, reading, marks, i),
         Record::Place(_, _, _) => put(0, state, reading),
         Record::PictureRow(_) => put(0, state, reading),
-        Record::Cell(_, _, _, _) => put(0, state, reading),
     }
 }

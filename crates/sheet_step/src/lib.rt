@@ -1,6 +1,5 @@
 // One line of a panel sheet: its record is read, checked against the lines before it, and written into the tables.
 mod axis;
-mod cell;
 mod panel;
 mod picture;
 
@@ -12,7 +11,6 @@ ghost use Rattle.sheet_faults.specs.Lines.{line_in, line_shared};
 ghost use Rattle.sheet_faults.specs.Parts.{before_of, shared_of, staged_read};
 
 use axis_tables::layout::AXIS_BYTES;
-use cell::next_line;
 use panel::panel_record;
 use panel_tables::region::{PANEL_BYTES, PANEL_WORDS, area_bytes, area_words};
 use panel_tables::{Panel, PanelRead, Reading};
@@ -23,15 +21,13 @@ use sheet_forms::{Record, first_fault};
 use sheet_lines::read_record;
 use text::part_at;
 
-// An answer with the line's fault, the area that it shares a cell with and its place in the kind order; one line more is counted.
+// An answer with the line's fault, the area that it shares a cell with and its place in the kind order.
 fn at_stage(fault: u32, shared: u32, stage: u32, read: PanelRead) -> LineRead
     ensures { result ≡ staged_read fault shared stage read }
 {
     let panel = read.panel;
-    let lines = next_line(read.reading.lines);
     let mut reading = read.reading;
     reading.stage = stage;
-    reading.lines = lines;
     LineRead {
         fault,
         shared,

@@ -1,13 +1,12 @@
-// What a record does to the panel: it is written to one axis, to the areas or to the placements, or drawn; a cell is two placements.
+// What a record does to the panel: it is written to one axis, to the areas or to the placements, or drawn.
 ghost use Rattle.std.specs.Prelude.{◌≡◌, length, drop};
 ghost use Rattle.text.specs.Split.{split};
 ghost use Rattle.text.specs.Places.{part_at};
 ghost use Rattle.panel_tables.specs.Written.{panel_held_of};
-ghost use Rattle.sheet_faults.specs.Parts.{axis_part, part_of, Names, named_step};
+ghost use Rattle.sheet_faults.specs.Parts.{axis_part, part_of, named_step};
 ghost use Rattle.sheet_step.specs.Regions.{on_axis, on_areas, on_placements};
 
 use crate::axis::axis_record;
-use crate::cell::{half, next_line, on_cells};
 use crate::picture::on_picture;
 use axis_tables::AxisPut;
 use axis_tables::layout::{AXIS_BYTES, AXIS_MARKS, AXIS_WORDS};
@@ -59,12 +58,11 @@ fn part_of(said: Record) -> Part
         Record::Item(axis, _) => axis_part(axis),
         Record::Place(axis, start, end) => Part::Placements(axis, start, end),
         Record::PictureRow(width) => Part::Picture(width),
-        Record::Cell(a, b, c, d) => Part::Cells(a, b, c, d),
     }
 }
 
 // An end as a placement has it.
-pub(crate) fn placed(end: PlaceEnd) -> PlacementEnd
+fn placed(end: PlaceEnd) -> PlacementEnd
     ensures { result ≡ record { kind = end.kind; number = end.number } }
 {
     PlacementEnd {
@@ -84,7 +82,7 @@ fn on_axis(
     name: &[u8],
     said: Record,
 ) -> AxisPut
-    requires { (length words.old ≡ 26368) × (length bytes.old ≡ 94816) }
+    requires { (length words.old ≡ 25600) × (length bytes.old ≡ 78432) }
     ensures { record { answer = result; words = words.new; marks = bytes.new; bytes = store.new } ≡ on_axis axis panel reading words.old bytes.old store.old name.now said }
 {
     let first = first_word(axis);
@@ -112,7 +110,7 @@ pub(crate) fn area_names_start() -> usize
 }
 
 // Where the names of placements start in the bytes, likewise.
-pub(crate) fn placement_names_start() -> usize
+fn placement_names_start() -> usize
     ensures { result ≡ 62048 }
 {
     PLACEMENT_NAMES_START
@@ -126,7 +124,7 @@ fn on_areas(
     name: &[u8],
     edges: AreaEdges,
 ) -> PanelPut
-    requires { (length words.old ≡ 26368) × (length bytes.old ≡ 94816) }
+    requires { (length words.old ≡ 25600) × (length bytes.old ≡ 78432) }
     ensures { record { answer = result; words = words.new; bytes = bytes.new } ≡ on_areas panel words.old bytes.old name.now edges }
 {
     let first = AREAS;
@@ -153,7 +151,7 @@ fn on_placements(
     end: PlaceEnd,
     second: &[u8],
 ) -> PanelPut
-    requires { (length words.old ≡ 26368) × (length bytes.old ≡ 94816) }
+    requires { (length words.old ≡ 25600) × (length bytes.old ≡ 78432) }
     ensures { record { answer = result; words = words.new; bytes = bytes.new } ≡ on_placements panel words.old bytes.old axis start first.now end second.now }
 {
     let at = PLACEMENTS;
@@ -195,7 +193,7 @@ pub fn panel_record(
     line: &[u8],
     there: LineRecord,
 ) -> PanelRead
-    ensures { record { fault = result.fault; held = panel_held_of result.panel result.reading words.new bytes.new columnbytes.new rowbytes.new } ≡ named_step (panel_held_of panel reading words.old bytes.old columnbytes.old rowbytes.old) (record { first = part_at line.now there.first; second = part_at line.now there.second; third = part_at line.now there.third; fourth = part_at line.now there.fourth }) (drop 1 (split 9 line.now)) there.said }
+    ensures { record { fault = result.fault; held = panel_held_of result.panel result.reading words.new bytes.new columnbytes.new rowbytes.new } ≡ named_step (panel_held_of panel reading words.old bytes.old columnbytes.old rowbytes.old) (part_at line.now there.first) (part_at line.now there.second) (drop 1 (split 9 line.now)) there.said }
 {
     let said = there.said;
     let first = part_at(line, there.first);
@@ -218,12 +216,5 @@ pub fn panel_record(
             with_reading(answer, reading)
         }
         Part::Picture(width) => on_picture(panel, reading, words, bytes, line, width),
-        Part::Cells(columnstart, columnend, rowstart, rowend) => {
-            let columns = half(columnstart, there.first, columnend, there.second);
-            let rows = half(rowstart, there.third, rowend, there.fourth);
-            let number = next_line(reading.lines);
-            let answer = on_cells(panel, words, bytes, columns, rows, line, number);
-            with_reading(answer, reading)
-        }
     }
 }

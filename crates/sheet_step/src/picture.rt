@@ -50,7 +50,7 @@ fn with_row(picture: PictureReading, width: u32, broken: bool) -> PictureReading
 
 // A row drawn into the areas' parts of the words and of the bytes.
 fn on_drawing(panel: Panel, words: &mut [u64], bytes: &mut [u8], line: &[u8], row: u32) -> Drawn
-    requires { (length words.old ≡ 26368) × (length bytes.old ≡ 94816) }
+    requires { (length words.old ≡ 25600) × (length bytes.old ≡ 78432) }
     ensures { record { answer = result; words = words.new; bytes = bytes.new } ≡ on_drawing panel words.old bytes.old (words_of line.now) row }
 {
     let first = AREAS;
@@ -102,7 +102,7 @@ pub(crate) fn on_picture(
     line: &[u8],
     width: u32,
 ) -> PanelRead
-    requires { (length words.old ≡ 26368) × (length bytes.old ≡ 94816) }
+    requires { (length words.old ≡ 25600) × (length bytes.old ≡ 78432) }
     ensures { record { answer = result; words = words.new; bytes = bytes.new } ≡ on_picture panel reading words.old bytes.old (words_of line.now) width }
 {
     if late_at(ROWS, reading.stage) {

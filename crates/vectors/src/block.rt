@@ -1,13 +1,14 @@
 // One block of a list.
+use crate::answers::seen_answer;
 use crate::calls::{call_lines, lent};
-use crate::expected::{Text, seen_pair, seen_refusal};
+use crate::expected::{seen_pair, seen_refusal};
 use crate::input::{
     ASK, CUT, DISPLAY, Head, STORES, after_line, between, further, head_at, line_at, number_of,
 };
-use crate::panel::{Answered, seen_areas, seen_panel};
+use crate::marks::seen_marks;
+use crate::names::seen_names;
 use crate::questions::seen_questions;
 use panel_tables::region::{PANEL_BYTES, PANEL_WORDS};
-use panel_tables::state::zero_panel;
 use panel_tables::{Grid, Panel};
 use sheet_rules::{DisplayAnswer, SheetAnswer};
 
@@ -145,47 +146,43 @@ fn display_block(
     )
 }
 
-// What is only displayed, as a panel in which nothing can be entered.
-fn only_displayed(grid: Grid) -> Panel {
-    let none = zero_panel();
-    let room = none.room;
-    Panel { grid, room }
-}
-
-// The answers of what was read or displayed, or the answers to questions.
+// The answers of what was read or displayed, or the answers to questions: the place up to which the expected text is seen.
 fn seen_grid<'a>(
     input: &[u8],
     block: Block,
     seen: usize,
-    panel: Panel,
+    grid: Grid,
     words: &[u64; PANEL_WORDS],
     bytes: &[u8; PANEL_BYTES],
     columnstore: &'a [u8],
     rowstore: &'a [u8],
-) -> Answered {
+) -> usize {
     let expected = expected_of(input, block);
+    let cut = block.cut;
     if block.asked {
-        let last = seen_questions(
+        return seen_questions(
             input,
             block,
             seen,
-            panel,
+            grid,
             words,
             bytes,
             columnstore,
             rowstore,
         );
-        return Answered {
-            seen: last,
-            unplaced: false,
-        };
     }
-    let from = Text {
+    let last = seen_answer(
+        expected,
         seen,
-        cut: block.cut,
-    };
-    let grid = panel.grid;
-    seen_panel(expected, from, grid, words, bytes, columnstore, rowstore)
+        cut,
+        grid,
+        words,
+        bytes,
+        columnstore,
+        rowstore,
+    );
+    let named = seen_names(expected, last, cut, grid, words, columnstore, rowstore);
+    seen_marks(expected, named, grid, words, bytes, columnstore, rowstore)
 }
 
 // The entry calls and all answers of an accepted sheet.
@@ -198,14 +195,15 @@ fn seen_accepted(
     bytes: &[u8; PANEL_BYTES],
     columnstore: &mut [u8],
     rowstore: &mut [u8],
-) -> Answered {
+) -> usize {
     let called = call_lines(input, block, expected, panel, words, columnstore, rowstore);
     let after = called.panel;
+    let grid = after.grid;
     seen_grid(
         input,
         block,
         called.seen,
-        after,
+        grid,
         words,
         bytes,
         columnstore,
@@ -232,7 +230,7 @@ fn seen_sheet(
         return seen_pair(expected, seen_refusal(expected, 0, refusal), earlier, later);
     }
     let panel = answer.panel;
-    let answered = seen_accepted(
+    let seen = seen_accepted(
         input,
         expected,
         block,
@@ -242,7 +240,7 @@ fn seen_sheet(
         columnstore,
         rowstore,
     );
-    seen_areas(expected, answered, earlier, later)
+    seen_pair(expected, seen, earlier, later)
 }
 
 // The display call and all answers of a block.
@@ -264,9 +262,8 @@ fn seen_display(
         return seen_pair(expected, seen_refusal(expected, 0, refusal), earlier, later);
     }
     let grid = answer.grid;
-    let panel = only_displayed(grid);
-    let answered = seen_grid(input, block, 0, panel, words, bytes, columnstore, rowstore);
-    seen_areas(expected, answered, earlier, later)
+    let seen = seen_grid(input, block, 0, grid, words, bytes, columnstore, rowstore);
+    seen_pair(expected, seen, earlier, later)
 }
 
 // Whether the answers of a block are the expected ones.

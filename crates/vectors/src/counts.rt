@@ -3,7 +3,7 @@ use libc::STDOUT_FILENO;
 use std::num::wrapping_add_u64;
 
 // How many that differ are named.
-const MOST_NAMED: u64 = 128;
+const MOST_NAMED: u64 = 64;
 
 #[derive(Drop)]
 pub struct Counts {

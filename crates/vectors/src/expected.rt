@@ -1,16 +1,8 @@
 // An expected text that is compared part by part: the place up to which it is seen, or `DIFFERENT`.
 use coordinates::Refusal;
-use coordinates::signed::Signed;
 
 // No place of a text.
 pub const DIFFERENT: usize = 18446744073709551615;
-
-// How far an expected text is seen, and whether it is cut: without records and without empty lists of names.
-#[derive(Drop)]
-pub struct Text {
-    pub seen: usize,
-    pub cut: bool,
-}
 
 // The place after a part, where the text goes on with it.
 pub fn seen_part(expected: &[u8], seen: usize, part: &[u8]) -> usize {
@@ -66,12 +58,4 @@ pub fn seen_number(expected: &[u8], seen: usize, number: u64) -> usize {
     let mut digits = [0u8; 20];
     let count = io::decimal(number, &mut digits);
     seen_part(expected, seen, &digits[..count])
-}
-
-// The same for a number after its sign.
-pub fn seen_signed(expected: &[u8], seen: usize, number: Signed) -> usize {
-    match number {
-        Signed::NonNegative(n) => seen_number(expected, seen, n as u64),
-        Signed::Negative(k) => seen_number(expected, seen_part(expected, seen, b"-"), k as u64 + 1),
-    }
 }

@@ -10,7 +10,7 @@ use panel_tables::region::{PANEL_BYTES, PANEL_WORDS, marks};
 use text::Index;
 
 // The placements that a list has room for.
-const MOST_HITS: usize = 512;
+const MOST_HITS: usize = 256;
 
 // The line that a field writes, 0 where it writes none.
 fn line_of(field: &[u8]) -> i32 {

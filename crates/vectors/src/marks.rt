@@ -1,8 +1,6 @@
-// The marks of a panel's placements beside the expected text: a line for each but the halves of cells, `held`, its axis, and `y` or `n`
-// for its start and its end.
+// The marks of a panel's placements beside the expected text: a line for each, `held`, its axis, and `y` or `n` for its start and its end.
 use crate::expected::seen_part;
 use coordinates::Axis;
-use name_resolver::HeldEnds;
 use panel_resolving::placing::resolve_placement;
 use panel_rules::PlacementAnswer;
 use panel_tables::Grid;
@@ -24,21 +22,13 @@ fn seen_mark(expected: &[u8], seen: usize, held: bool) -> usize {
     seen_part(expected, seen, b"\tn")
 }
 
-// The marks of both ends, and the end of the line.
-pub fn seen_held(expected: &[u8], seen: usize, held: HeldEnds) -> usize {
-    let start = seen_mark(expected, seen, held.start);
-    let end = seen_mark(expected, start, held.end);
-    seen_part(expected, end, b"\n")
-}
-
-// The line of a placement; none for a cell's half.
+// The line of a placement.
 fn seen_line(expected: &[u8], seen: usize, answer: PlacementAnswer) -> usize {
     let axis = answer.axis;
     let held = answer.held;
-    if answer.cell {
-        return seen;
-    }
-    seen_held(expected, seen_axis(expected, seen, axis), held)
+    let start = seen_mark(expected, seen_axis(expected, seen, axis), held.start);
+    let end = seen_mark(expected, start, held.end);
+    seen_part(expected, end, b"\n")
 }
 
 // The lines of all placements.

@@ -1,11 +1,19 @@
 // The nearest line to a cursor, beside the expected text: `nearest`, then a grid line.
 use crate::calls::{axis_of, lent};
-use crate::expected::{seen_part, seen_refused, seen_signed};
+use crate::expected::{seen_number, seen_part, seen_refused};
 use crate::input::{bits_of, number_of};
-use coordinates::signed::split;
+use coordinates::signed::{Signed, split};
 use panel_positions::nearest_line;
 use panel_tables::Grid;
 use panel_tables::region::{PANEL_BYTES, PANEL_WORDS, marks};
+
+// A number after its sign.
+fn seen_signed(expected: &[u8], seen: usize, number: i32) -> usize {
+    match split(number) {
+        Signed::NonNegative(n) => seen_number(expected, seen, n as u64),
+        Signed::Negative(k) => seen_number(expected, seen_part(expected, seen, b"-"), k as u64 + 1),
+    }
+}
 
 // The nearest line: axis, cursor, item bytes.
 pub fn seen_nearest(
@@ -32,7 +40,7 @@ pub fn seen_nearest(
     let last = seen_signed(
         expected,
         seen_part(expected, seen, b"nearest\t"),
-        split(answer.line),
+        answer.line,
     );
     seen_part(expected, last, b"\n")
 }

@@ -1,7 +1,7 @@
 use mir.Syntax.{w32}
 use mathlib.Core.Path.{sym, ap, ap₂, ◌∙◌}
 use mir.Facts.{to_z-of_z}
-use Rattle.panel_settled.specs.Settled.{lent_in}
+use Rattle.panel_hits.specs.Settled.{lent_in}
 use Rattle.panel_hits.specs.Lists.{lower, store_refusal}
 use Rattle.panel_hits.proofs.Answers.{lower-none, stores_long, around-refused, around-listed}
 use borrow.Author.Rules.{rules}

@@ -1,5 +1,5 @@
 use mathlib.Core.Path.{sym, ap, ◌∙◌}
-use Rattle.panel_settled.specs.Settled.{lent_in}
+use Rattle.panel_hits.specs.Settled.{lent_in}
 use Rattle.panel_hits.specs.Lists.{lower, store_refusal}
 use Rattle.panel_hits.proofs.Answers.{lower-none, stores_long, within-refused, within-listed}
 use borrow.Author.Rules.{rules}

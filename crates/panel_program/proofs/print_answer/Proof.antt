@@ -7,18 +7,17 @@ use lib.ListN.{length}
 use lib.Seq.{length-take-le}
 use Rattle.sheet_rules.specs.Panels.{tables_in}
 use Rattle.panel_answer.specs.Walk.{is_end}
-use Rattle.panel_answer.specs.Text.{lines_from}
-use Rattle.panel_answer.proofs.Printed.{same_lands_lem}
-use Rattle.panel_answer.proofs.Fills.{not_true, not_false, same_bytes}
+use Rattle.panel_answer.specs.Text.{text_from}
+use Rattle.panel_answer.proofs.Fills.{not_true, not_false, shorter, same_bytes}
 use borrow.Author.Rules.{rules}
 use Rattle.panel_program.proofs.print_answer.Statement.{statement}
 use Rattle.panel_program.proofs.print_answer.Tie as tie
 
 abbrev invariant-loop : tie.invariant-loop
-invariant-loop sheet words bytes columnstore rowstore lands grid next₀ out₀ next out = length out ≡ 65536
+invariant-loop sheet words bytes columnstore rowstore grid next₀ out₀ next out = length out ≡ 65536
 
 abbrev decreases-loop : tie.decreases-loop
-decreases-loop sheet words bytes columnstore rowstore lands grid next₀ out₀ next out = lines_from (record { grid = grid; tables = tables_in words bytes columnstore rowstore; lands = lands }) next
+decreases-loop sheet words bytes columnstore rowstore grid next₀ out₀ next out = length (text_from (record { grid = grid; tables = tables_in words bytes columnstore rowstore }) next)
 
 slice-aggregate-begin-answer : tie.Need-slice-aggregate-begin-answer invariant-loop decreases-loop
 slice-aggregate-begin-answer c = search rules
@@ -47,17 +46,11 @@ slice-aggregate-fill-2 c = search rules
 slice-aggregate-fill-3 : tie.Need-slice-aggregate-fill-3 invariant-loop decreases-loop
 slice-aggregate-fill-3 c = search rules
 
-slice-aggregate-fill-4 : tie.Need-slice-aggregate-fill-4 invariant-loop decreases-loop
-slice-aggregate-fill-4 c =
-    let k = c.before.before.before.before.before.before.before.before.before.before.before.before.before.begin-answer in
-    let e : length k.new.1.1.1.1.1.0 ≡ 256 = same_lands_lem k.ensures.0 in
-    search (rules, e)
-
 fill-requires : tie.Need-fill-requires invariant-loop decreases-loop
 fill-requires c κs = search rules
 
 array-share-prefix-out : tie.Need-array-share-prefix-out invariant-loop decreases-loop
-array-share-prefix-out c = let w = c.before.fill.ensures.written in omega (arith, w.counted, w.fits, c.before.before.before.before.before.before.before.before.before.before.loop.invariant)
+array-share-prefix-out c = let w = c.before.fill.ensures.written in omega (arith, w.counted, w.fits, c.before.before.before.before.before.before.before.before.before.loop.invariant)
 
 slice-aggregate-write-all : tie.Need-slice-aggregate-write-all invariant-loop decreases-loop
 slice-aggregate-write-all c =
@@ -71,12 +64,12 @@ write-all-requires c κs = search rules
 loop-less : tie.Need-loop-smaller invariant-loop decreases-loop
 loop-less c =
     let k = c.before.before.before.fill.ensures in
-    let l = c.before.before.before.before.before.before.before.before.before.before.before.before.loop in
-    let e : is_end l.next ≡ false = sym c.before.before.before.before.before.before.before.before.before.before.before.is-end.ensures ∙ not_true c.before.before.before.before.before.before.before.before.before.before.before.is-end.result c.before.before.before.before.before.before.before.before.before.before.if1.true in
-    k.fewer (omega (arith, l.invariant)) e
+    let l = c.before.before.before.before.before.before.before.before.before.before.before.loop in
+    let e : is_end l.next ≡ false = sym c.before.before.before.before.before.before.before.before.before.before.is-end.ensures ∙ not_true c.before.before.before.before.before.before.before.before.before.before.is-end.result c.before.before.before.before.before.before.before.before.before.if1.true in
+    shorter k e (omega (arith, l.invariant))
 
 loop-again : tie.Need-loop-preserved invariant-loop decreases-loop
-loop-again c = same_bytes c.before.before.before.fill.ensures ∙ c.before.before.before.before.before.before.before.before.before.before.before.before.loop.invariant
+loop-again c = same_bytes c.before.before.before.fill.ensures ∙ c.before.before.before.before.before.before.before.before.before.before.before.loop.invariant
 
 returns : tie.Need-returns invariant-loop decreases-loop
 returns c = sym c.before.is-end.ensures ∙ not_false c.before.is-end.result c.if1.false
@@ -96,7 +89,6 @@ print-answer-spec =
     slice-aggregate-fill
     slice-aggregate-fill-2
     slice-aggregate-fill-3
-    slice-aggregate-fill-4
     fill-requires
     array-share-prefix-out
     slice-aggregate-write-all

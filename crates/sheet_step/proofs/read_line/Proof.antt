@@ -1,12 +1,11 @@
 use Prim.Native.Nat.{ℕ}
-use mathlib.Core.Path.{◌≡◌, ap, ◌∙◌}
+use mathlib.Core.Path.{ap, ◌∙◌}
 use mathlib.Core.List.{List}
 use Rattle.text.specs.Split.{split}
-use Rattle.text.specs.Places.{part_at}
 use Rattle.panel_tables.specs.Regions.{area_words_in, area_bytes_in}
 use Rattle.panel_tables.specs.Written.{PanelHeld, panel_held_of}
-use Rattle.sheet_faults.specs.Parts.{Names, before_of}
-use Rattle.sheet_faults.proofs.Parts.{names_of, line-by, line-noted}
+use Rattle.sheet_faults.specs.Parts.{before_of}
+use Rattle.sheet_faults.proofs.Parts.{line-by, line-noted}
 use borrow.Author.Rules.{rules}
 use Rattle.sheet_step.proofs.read_line.Statement.{statement}
 use Rattle.sheet_step.proofs.read_line.Tie as tie
@@ -47,13 +46,11 @@ returns c =
     let before =
     c.before.before.before.before.before.before.before.before.before.before.before.fault-here.ensures
     ∙ ap (λ (n : List ℕ). before_of a.panel.grid.areas a.reading (area_words_in a.words.now) (area_bytes_in a.bytes.now) n there.result.said) c.before.before.before.before.before.before.before.before.before.before.before.before.part-at.ensures in
-    let n : Names = record { first = part_at a.line.now there.result.first; second = part_at a.line.now there.result.second; third = part_at a.line.now there.result.third; fourth = part_at a.line.now there.result.fourth } in
-    let names : n ≡ names_of h (split 9 a.line.now) there.result.said = λ i. record { first = there.ensures.0.1 i; second = there.ensures.0.2 i; third = there.ensures.1.0 i; fourth = there.ensures.1.1 i } in
     let wrote = c.before.before.before.before.panel-record.ensures in (
       simp c.at_stage.ensures
-          (line-by h (split 9 a.line.now) there.ensures.0.0 names before wrote c.before.stage.ensures c.before.before.before.first-fault.ensures),
+          (line-by h (split 9 a.line.now) there.ensures.0 there.ensures.1 there.ensures.2 before wrote c.before.stage.ensures c.before.before.before.first-fault.ensures),
       simp c.at_stage.ensures
-          (line-noted h (split 9 a.line.now) there.ensures.0.0 names before wrote c.before.before.before.before.before.before.before.before.before.shared-here.ensures c.before.before.noted.ensures),
+          (line-noted h (split 9 a.line.now) there.ensures.0 there.ensures.1 there.ensures.2 before wrote c.before.before.before.before.before.before.before.before.before.shared-here.ensures c.before.before.noted.ensures),
     )
 
 pub read-line-spec : {M : Type 1} → statement M

@@ -1,5 +1,5 @@
 use borrow.Author.Tests.{lt-leb}
-use Rattle.panel_settled.specs.Settled.{lent_in}
+use Rattle.panel_hits.specs.Settled.{lent_in}
 use mir.Facts.{to_z-of_z}
 use Rattle.palgwern.specs.Hits.{hits_around}
 use Rattle.palgwern.proofs.Counted.{around-counted}

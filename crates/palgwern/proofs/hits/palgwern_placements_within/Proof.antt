@@ -1,5 +1,5 @@
 use borrow.Author.Tests.{lt-leb}
-use Rattle.panel_settled.specs.Settled.{lent_in}
+use Rattle.panel_hits.specs.Settled.{lent_in}
 use Rattle.palgwern.specs.Hits.{hits_within}
 use Rattle.palgwern.proofs.Counted.{within-counted}
 use borrow.Author.Rules.{rules}

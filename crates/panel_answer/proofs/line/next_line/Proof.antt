@@ -31,18 +31,6 @@ add-place-from c = search rules
 place-from-requires : tie.Need-place-from-requires
 place-from-requires c κs = search rules
 
-enum-known-at-4 : tie.Need-enum-known-at-4
-enum-known-at-4 c = search rules
-
-cast-cell-from : tie.Need-overflow-cast-cell-from
-cast-cell-from c = search rules
-
-add-cell-from : tie.Need-overflow-add-cell-from
-add-cell-from c = search rules
-
-cell-from-requires : tie.Need-cell-from-requires
-cell-from-requires c κs = search rules
-
 enum-told-2 : tie.Need-enum-told-2
 enum-told-2 c = search rules
 
@@ -59,10 +47,7 @@ returns-4 : tie.Need-returns-4
 returns-4 c = rw c.before.before.at3.given.1 c.place-from.ensures
 
 returns-5 : tie.Need-returns-5
-returns-5 c = rw c.before.before.at4.given.1 c.cell-from.ensures
-
-returns-6 : tie.Need-returns-6
-returns-6 c = rw c.enum-told2.given.1
+returns-5 c = rw c.enum-told2.given.1
 
 pub next-line-spec : {M : Type 1} → statement M
 next-line-spec =
@@ -77,14 +62,9 @@ next-line-spec =
     cast-place-from
     add-place-from
     place-from-requires
-    enum-known-at-4
-    cast-cell-from
-    add-cell-from
-    cell-from-requires
     enum-told-2
     returns
     returns-2
     returns-3
     returns-4
-    returns-5
-    returns-6)
+    returns-5)

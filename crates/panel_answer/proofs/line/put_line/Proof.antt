@@ -30,12 +30,6 @@ enum-known-at-4 c = search rules
 put-place-requires : tie.Need-put-place-requires
 put-place-requires c κs = search rules
 
-enum-known-at-5 : tie.Need-enum-known-at-5
-enum-known-at-5 c = search rules
-
-put-cell-requires : tie.Need-put-cell-requires
-put-cell-requires c κs = search rules
-
 enum_told : tie.Need-enum-told
 enum_told c = search rules
 
@@ -58,7 +52,7 @@ same-length-3 c = search rules
 
 returns-3 : tie.Need-returns-3
 unfolding tables_in
-returns-3 c = let a = c.before.before.before.before.before.before.before.before.before.before.before.args in rw (c.before.before.before.before.before.at3.given.1, words_of c.before.before.before.before.before.at3.given.0.0 a.words.now, marks_of_lem c.before.before.before.before.before.at3.given.0.0 a.bytes.now) c.before.before.put_record.ensures
+returns-3 c = let a = c.before.before.before.before.before.before.before.before.before.before.args in rw (c.before.before.before.before.before.at3.given.1, words_of c.before.before.before.before.before.at3.given.0.0 a.words.now, marks_of_lem c.before.before.before.before.before.at3.given.0.0 a.bytes.now) c.before.before.put_record.ensures
 
 same-length-4 : tie.Need-same-length-4
 same-length-4 c = search rules
@@ -67,16 +61,9 @@ returns-4 : tie.Need-returns-4
 unfolding tables_in
 returns-4 c = rw c.before.before.before.before.before.at4.given.1 c.before.before.put-place.ensures
 
-same-length-5 : tie.Need-same-length-5
-same-length-5 c = search rules
-
 returns-5 : tie.Need-returns-5
 unfolding tables_in
-returns-5 c = rw c.before.before.before.before.before.at5.given.1 c.before.before.put-cell.ensures
-
-returns-6 : tie.Need-returns-6
-unfolding tables_in
-returns-6 c = rw c.enum_told.given.1 (record { bytes = refl; whole = refl; fits = omega arith })
+returns-5 c = rw c.enum_told.given.1 (record { bytes = refl; whole = refl; fits = omega arith })
 
 pub put-line-spec : {M : Type 1} → statement M
 put-line-spec =
@@ -90,8 +77,6 @@ put-line-spec =
     put-record-requires
     enum-known-at-4
     put-place-requires
-    enum-known-at-5
-    put-cell-requires
     enum_told
     same_length
     returns
@@ -101,6 +86,4 @@ put-line-spec =
     returns-3
     same-length-4
     returns-4
-    same-length-5
-    returns-5
-    returns-6)
+    returns-5)

@@ -12,11 +12,8 @@ cast-t5 c = search rules
 returns : tie.Need-returns
 returns c = rw (lt-ltb _ _ c.if1.true)
 
-cell-from-requires : tie.Need-cell-from-requires
-cell-from-requires c κs = search rules
-
 returns-2 : tie.Need-returns-2
-returns-2 c = rw (le-ltb _ _ c.before.if1.false) c.cell-from.ensures
+returns-2 c = rw (le-ltb _ _ c.if1.false)
 
 pub place-from-spec : {M : Type 1} → statement M
-place-from-spec = tie.close (tie.spec cast-if1 cast-t5 returns cell-from-requires returns-2)
+place-from-spec = tie.close (tie.spec cast-if1 cast-t5 returns returns-2)

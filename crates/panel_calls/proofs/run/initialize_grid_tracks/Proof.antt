@@ -128,10 +128,10 @@ abbrev K : RattleType
 K = U.the_row
 
 abbrev N : RattleType
-N = Array u64 26368
+N = Array u64 25600
 
 abbrev ref_t : Ty
-ref_t = ty_ref (named 0) imm (ty_array (ty_int w64) 26368)
+ref_t = ty_ref (named 0) imm (ty_array (ty_int w64) 25600)
 
 abbrev items_t : Ty
 items_t = slice_ty (ty_ref (named 1) imm (ty_int w8))
@@ -150,7 +150,7 @@ slice_t = slice_ty (ty_ref erased mut (pointee R.written))
 
 -- of the parameters only the run's last contents are told
 abbrev stayed : Stays (call.ended).signature.params (call.ended).kept
-stayed = (stay_dropped (plain (λ _. G)) yes, (stay_dropped (shr_ref_to (0 ∷ []) tt (ArrayOf (plain (λ _. u64)) (λ _. tt) 26368)) yes, (stay_dropped (plain (λ _. B)) yes, (stay_dropped (shr_slice_of (1 ∷ []) tt (plain (λ _. u8))) yes, (gave_slice (2 ∷ []) tt (plain (λ _. R)), tt)))))
+stayed = (stay_dropped (plain (λ _. G)) yes, (stay_dropped (shr_ref_to (0 ∷ []) tt (ArrayOf (plain (λ _. u64)) (λ _. tt) 25600)) yes, (stay_dropped (plain (λ _. B)) yes, (stay_dropped (shr_slice_of (1 ∷ []) tt (plain (λ _. u8))) yes, (gave_slice (2 ∷ []) tt (plain (λ _. R)), tt)))))
 
 -- the function with its types and its body left open, so that entering it is checked with no type written out
 abbrev shape : Ty → Ty → Ty → Ty → Ty → Ty → Ty → Ty → Ty → Ty → Ty → MirBody → Fn
@@ -496,7 +496,7 @@ module _ {M : Type 1} {𝓤 : Ura M} (𝓛 : Logic 𝓤) (at_mem : Memory → SP
       𝓣.C 𝓣.Λ (fm_of 𝓤 H 𝓛.laws 𝓣) known-grid-in known-axis-words known-components-of known-minimums-of known-maximums-of known-spare-minimums-of known-spare-maximums-of known-axis-tracks known-fill))
 
   run-goes : AllGo 𝓛 3 (call.signature).params (call.ended).kept stayed
-  run-goes = (Goes-dropped 𝓛 3 (plain (λ _. G)) yes (λ κs x f. refl), (Goes-dropped 𝓛 3 (shr_ref_to (0 ∷ []) tt (ArrayOf (plain (λ _. u64)) (λ _. tt) 26368)) yes (λ κs x f. refl), (Goes-dropped 𝓛 3 (plain (λ _. B)) yes (λ κs x f. refl), (Goes-dropped 𝓛 3 (shr_slice_of (1 ∷ []) tt (plain (λ _. u8))) yes (λ κs x f. refl), (Goes-gave_slice 𝓛 3 2 tt (plain (λ _. R)), tt)))))
+  run-goes = (Goes-dropped 𝓛 3 (plain (λ _. G)) yes (λ κs x f. refl), (Goes-dropped 𝓛 3 (shr_ref_to (0 ∷ []) tt (ArrayOf (plain (λ _. u64)) (λ _. tt) 25600)) yes (λ κs x f. refl), (Goes-dropped 𝓛 3 (plain (λ _. B)) yes (λ κs x f. refl), (Goes-dropped 𝓛 3 (shr_slice_of (1 ∷ []) tt (plain (λ _. u8))) yes (λ κs x f. refl), (Goes-gave_slice 𝓛 3 2 tt (plain (λ _. R)), tt)))))
 
   run-meets : Meets 𝓛 call.signature (WpFn 𝓤 H 𝓣.C 𝓣.Λ code.function) (call.spec 𝓛 at_mem run)
   run-meets = walk_Meets 𝓛 call.ended stayed run-goes (call.clauses 𝓛 at_mem run) (WpFn 𝓤 H 𝓣.C 𝓣.Λ code.function) (WpFn-mono 𝓤 H 𝓛.laws 𝓣 code.function) run-walks

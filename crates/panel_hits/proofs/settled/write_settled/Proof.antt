@@ -1,5 +1,5 @@
 use mathlib.Core.Path.{refl}
-use Rattle.panel_settled.specs.Settled.{lent_in}
+use Rattle.panel_hits.specs.Settled.{lent_in}
 use Rattle.panel_hits.proofs.Numbers.{settled-listed}
 use borrow.Author.Rules.{rules}
 use Rattle.panel_hits.proofs.settled.write_settled.Statement.{statement}

@@ -79,7 +79,7 @@ placed-by-requires : tie.Need-placed-by-requires invariant-loop decreases-loop
 placed-by-requires c κs = search rules
 
 put-placement-requires : tie.Need-put-placement-requires invariant-loop decreases-loop
-put-placement-requires c κs = let a = c.before.before.before.before.before.before.before.before.before.before.before.before.before.before.before.before.args in let l = c.before.before.before.before.before.before.before.before.before.before.before.loop in (omega (arith, c.before.before.before.before.before.before.before.before.before.before.before.before.before.before.before.before.requires.0.1, l.invariant.0, c.before.before.before.before.before.before.before.before.before.if1.true), rw (c.placed_by.ensures, c.before.before.resolve-line-names.ensures) (small-placed ((resolution_by a.run.around.explicit (bears_by a.run.around a.index.now a.store.now (area_words_in a.words.now) (area_bytes_in a.bytes.now)) (placement_bytes_in a.bytes.now)) c.before.before.before.line-placement.result) c.before.before.before.before.before.before.placement-at.result.axis c.before.before.before.before.before.before.placement-at.result.cell false (small_by a.run.around.explicit (bears_by a.run.around a.index.now a.store.now (area_words_in a.words.now) (area_bytes_in a.bytes.now)) (placement_bytes_in a.bytes.now) c.before.before.before.line-placement.result)))
+put-placement-requires c κs = let a = c.before.before.before.before.before.before.before.before.before.before.before.before.before.before.before.before.args in let l = c.before.before.before.before.before.before.before.before.before.before.before.loop in (omega (arith, c.before.before.before.before.before.before.before.before.before.before.before.before.before.before.before.before.requires.0.1, l.invariant.0, c.before.before.before.before.before.before.before.before.before.if1.true), rw (c.placed_by.ensures, c.before.before.resolve-line-names.ensures) (small-placed ((resolution_by a.run.around.explicit (bears_by a.run.around a.index.now a.store.now (area_words_in a.words.now) (area_bytes_in a.bytes.now)) (placement_bytes_in a.bytes.now)) c.before.before.before.line-placement.result) c.before.before.before.before.before.before.placement-at.result.axis false (small_by a.run.around.explicit (bears_by a.run.around a.index.now a.store.now (area_words_in a.words.now) (area_bytes_in a.bytes.now)) (placement_bytes_in a.bytes.now) c.before.before.before.line-placement.result)))
 
 add-i-2 : tie.Need-overflow-add-i-2 invariant-loop decreases-loop
 add-i-2 c = record { fits = omega (arith, c.before.before.before.before.before.before.before.before.before.before.before.before.before.before.before.before.before.before.requires.0.0, c.before.before.before.before.before.before.before.before.before.before.before.if1.true) }

@@ -6,8 +6,8 @@ use Rattle.panel_tables.proofs.placement.placement_at.Tie as tie
 start-word-requires : tie.Need-start-word-requires
 start-word-requires c κs = search rules
 
-cast-mark : tie.Need-overflow-cast-mark
-cast-mark c = search rules
+cast-axis-of : tie.Need-overflow-cast-axis-of
+cast-axis-of c = search rules
 
 axis-of-requires : tie.Need-axis-of-requires
 axis-of-requires c κs = search rules
@@ -30,7 +30,7 @@ placement-at-spec =
     tie.close
     (tie.spec
     start-word-requires
-    cast-mark
+    cast-axis-of
     axis-of-requires
     end-of-requires
     finish-word-requires

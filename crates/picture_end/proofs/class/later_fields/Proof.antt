@@ -42,11 +42,7 @@ returns-9 c = simp c.match.keys9
 
 returns-10 : tie.Need-returns-10
 unfolding later_fields
-returns-10 c = simp c.match.keys10
-
-returns-11 : tie.Need-returns-11
-unfolding later_fields
-returns-11 c = simp (ne_eqb _ _ c.match.rest.1, ne_eqb _ _ c.match.rest.0.1, ne_eqb _ _ c.match.rest.0.0.1, ne_eqb _ _ c.match.rest.0.0.0.1, ne_eqb _ _ c.match.rest.0.0.0.0.1, ne_eqb _ _ c.match.rest.0.0.0.0.0.1, ne_eqb _ _ c.match.rest.0.0.0.0.0.0.1, ne_eqb _ _ c.match.rest.0.0.0.0.0.0.0.1, ne_eqb _ _ c.match.rest.0.0.0.0.0.0.0.0.1, ne_eqb _ _ c.match.rest.0.0.0.0.0.0.0.0.0.1)
+returns-10 c = simp (ne_eqb _ _ c.match.rest.1, ne_eqb _ _ c.match.rest.0.1, ne_eqb _ _ c.match.rest.0.0.1, ne_eqb _ _ c.match.rest.0.0.0.1, ne_eqb _ _ c.match.rest.0.0.0.0.1, ne_eqb _ _ c.match.rest.0.0.0.0.0.1, ne_eqb _ _ c.match.rest.0.0.0.0.0.0.1, ne_eqb _ _ c.match.rest.0.0.0.0.0.0.0.1, ne_eqb _ _ c.match.rest.0.0.0.0.0.0.0.0.1)
 
 pub later-fields-spec : {M : Type 1} → statement M
-later-fields-spec = tie.close (tie.spec returns returns-2 returns-3 returns-4 returns-5 returns-6 returns-7 returns-8 returns-9 returns-10 returns-11)
+later-fields-spec = tie.close (tie.spec returns returns-2 returns-3 returns-4 returns-5 returns-6 returns-7 returns-8 returns-9 returns-10)

@@ -38,8 +38,8 @@ returns c =
     let n = c.before.before.before.end-in2 in
     let x : EndedAxis = record { answer = k.result; words = k.new.1.1.1.0 } in
     let y : EndedAxis = record { answer = n.result; words = n.new.1.1.1.0 } in
-    let l : length a.words.now ≡ 26368 = omega (arith, c.before.before.before.before.before.before.end-in-arg.given) in
-    let m : length x.words ≡ 26368 = omega (arith, k.auto.1.1.1.0) in
+    let l : length a.words.now ≡ 25600 = omega (arith, c.before.before.before.before.before.before.end-in-arg.given) in
+    let m : length x.words ≡ 25600 = omega (arith, k.auto.1.1.1.0) in
     let e = k.ensures ∙ ap (λ (s : AxisState). ended_in Column s a.reading.columns a.words.now) c.before.before.before.before.before.before.before.before.before.before.state-in.ensures in
     let d = n.ensures ∙ ap (λ (s : AxisState). ended_in Row s a.reading.rows x.words) c.before.before.before.before.before.before.before.before.before.state-in2.ensures in
     (rw (c.first-fault.ensures, c.before.with-state2.ensures, c.before.before.with-state.ensures) (both-ended a.panel a.reading a.words.now l x y m e d), (areas-kept a.panel a.reading a.words.now l x y m e d, placements-kept a.panel a.reading a.words.now l x y m e d))

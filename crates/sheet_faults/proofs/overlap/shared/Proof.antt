@@ -44,9 +44,6 @@ enum-told-10 c = search rules
 enum-told-11 : tie.Need-enum-told-11
 enum-told-11 c = search rules
 
-enum-told-12 : tie.Need-enum-told-12
-enum-told-12 c = search rules
-
 returns : tie.Need-returns
 returns c = search rules
 
@@ -83,9 +80,6 @@ returns-11 c = search rules
 returns-12 : tie.Need-returns-12
 returns-12 c = search rules
 
-returns-13 : tie.Need-returns-13
-returns-13 c = search rules
-
 pub shared-spec : {M : Type 1} → statement M
 shared-spec =
     tie.close
@@ -104,7 +98,6 @@ shared-spec =
     enum-told-9
     enum-told-10
     enum-told-11
-    enum-told-12
     returns
     returns-2
     returns-3
@@ -116,5 +109,4 @@ shared-spec =
     returns-9
     returns-10
     returns-11
-    returns-12
-    returns-13)
+    returns-12)

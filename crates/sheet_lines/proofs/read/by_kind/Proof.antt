@@ -37,9 +37,6 @@ place-line-requires c κs = search rules
 row-line-requires : tie.Need-row-line-requires
 row-line-requires c κs = search rules
 
-cell-line-requires : tie.Need-cell-line-requires
-cell-line-requires c κs = search rules
-
 returns : tie.Need-returns
 unfolding fixed_kind
 returns c = simp c.before.match.keys1 c.axis-line.ensures
@@ -85,11 +82,7 @@ returns-11 c = simp c.before.match.keys11 c.row-line.ensures
 
 returns-12 : tie.Need-returns-12
 unfolding fixed_kind
-returns-12 c = simp c.before.match.keys12 c.cell-line.ensures
-
-returns-13 : tie.Need-returns-13
-unfolding fixed_kind
-returns-13 c = simp (ne_eqb _ _ c.match.rest.1, ne_eqb _ _ c.match.rest.0.1, ne_eqb _ _ c.match.rest.0.0.1, ne_eqb _ _ c.match.rest.0.0.0.1, ne_eqb _ _ c.match.rest.0.0.0.0.1, ne_eqb _ _ c.match.rest.0.0.0.0.0.1, ne_eqb _ _ c.match.rest.0.0.0.0.0.0.1, ne_eqb _ _ c.match.rest.0.0.0.0.0.0.0.1, ne_eqb _ _ c.match.rest.0.0.0.0.0.0.0.0.1, ne_eqb _ _ c.match.rest.0.0.0.0.0.0.0.0.0.1, ne_eqb _ _ c.match.rest.0.0.0.0.0.0.0.0.0.0.1, ne_eqb _ _ c.match.rest.0.0.0.0.0.0.0.0.0.0.0.1)
+returns-12 c = simp (ne_eqb _ _ c.match.rest.1, ne_eqb _ _ c.match.rest.0.1, ne_eqb _ _ c.match.rest.0.0.1, ne_eqb _ _ c.match.rest.0.0.0.1, ne_eqb _ _ c.match.rest.0.0.0.0.1, ne_eqb _ _ c.match.rest.0.0.0.0.0.1, ne_eqb _ _ c.match.rest.0.0.0.0.0.0.1, ne_eqb _ _ c.match.rest.0.0.0.0.0.0.0.1, ne_eqb _ _ c.match.rest.0.0.0.0.0.0.0.0.1, ne_eqb _ _ c.match.rest.0.0.0.0.0.0.0.0.0.1, ne_eqb _ _ c.match.rest.0.0.0.0.0.0.0.0.0.0.1)
 
 pub by-kind-spec : {M : Type 1} → statement M
 by-kind-spec =
@@ -106,7 +99,6 @@ by-kind-spec =
     item-line-requires
     place-line-requires
     row-line-requires
-    cell-line-requires
     returns
     returns-2
     returns-3
@@ -118,5 +110,4 @@ by-kind-spec =
     returns-9
     returns-10
     returns-11
-    returns-12
-    returns-13)
+    returns-12)

@@ -119,32 +119,21 @@ returns-11 : tie.Need-returns-11
 unfolding index same
 returns-11 c = ap (λ (l : List ℕ). index l kind_words) (same_equal (get_or kind_words 10 []) c.before.before.before.before.before.before.before.before.before.before.before.before.before.before.before.before.before.before.before.before.before.before.before.before.before.before.before.before.before.before.before.before.before.before.args.f.now (sym c.before.equal11.ensures ∙ c.if11.true))
 
-slice-aggregate-equal-12 : tie.Need-slice-aggregate-equal-12
-slice-aggregate-equal-12 c = search rules
-
-equal-requires-12 : tie.Need-equal-requires-12
-equal-requires-12 c κs = search rules
-
 returns-12 : tie.Need-returns-12
-unfolding index same
-returns-12 c = ap (λ (l : List ℕ). index l kind_words) (same_equal (get_or kind_words 11 []) c.before.before.before.before.before.before.before.before.before.before.before.before.before.before.before.before.before.before.before.before.before.before.before.before.before.before.before.before.before.before.before.before.before.before.before.before.before.args.f.now (sym c.before.equal12.ensures ∙ c.if12.true))
-
-returns-13 : tie.Need-returns-13
 unfolding index
-returns-13 c =
+returns-12 c =
     simp (
-      sym c.before.before.before.before.before.before.before.before.before.before.before.before.before.before.before.before.before.before.before.before.before.before.before.before.before.before.before.before.before.before.before.before.before.before.equal.ensures ∙ c.before.before.before.before.before.before.before.before.before.before.before.before.before.before.before.before.before.before.before.before.before.before.before.before.before.before.before.before.before.before.before.before.before.if1.false,
-      sym c.before.before.before.before.before.before.before.before.before.before.before.before.before.before.before.before.before.before.before.before.before.before.before.before.before.before.before.before.before.before.before.equal2.ensures ∙ c.before.before.before.before.before.before.before.before.before.before.before.before.before.before.before.before.before.before.before.before.before.before.before.before.before.before.before.before.before.before.if2.false,
-      sym c.before.before.before.before.before.before.before.before.before.before.before.before.before.before.before.before.before.before.before.before.before.before.before.before.before.before.before.before.equal3.ensures ∙ c.before.before.before.before.before.before.before.before.before.before.before.before.before.before.before.before.before.before.before.before.before.before.before.before.before.before.before.if3.false,
-      sym c.before.before.before.before.before.before.before.before.before.before.before.before.before.before.before.before.before.before.before.before.before.before.before.before.before.equal4.ensures ∙ c.before.before.before.before.before.before.before.before.before.before.before.before.before.before.before.before.before.before.before.before.before.before.before.before.if4.false,
-      sym c.before.before.before.before.before.before.before.before.before.before.before.before.before.before.before.before.before.before.before.before.before.before.equal5.ensures ∙ c.before.before.before.before.before.before.before.before.before.before.before.before.before.before.before.before.before.before.before.before.before.if5.false,
-      sym c.before.before.before.before.before.before.before.before.before.before.before.before.before.before.before.before.before.before.before.equal6.ensures ∙ c.before.before.before.before.before.before.before.before.before.before.before.before.before.before.before.before.before.before.if6.false,
-      sym c.before.before.before.before.before.before.before.before.before.before.before.before.before.before.before.before.equal7.ensures ∙ c.before.before.before.before.before.before.before.before.before.before.before.before.before.before.before.if7.false,
-      sym c.before.before.before.before.before.before.before.before.before.before.before.before.before.equal8.ensures ∙ c.before.before.before.before.before.before.before.before.before.before.before.before.if8.false,
-      sym c.before.before.before.before.before.before.before.before.before.before.equal9.ensures ∙ c.before.before.before.before.before.before.before.before.before.if9.false,
-      sym c.before.before.before.before.before.before.before.equal10.ensures ∙ c.before.before.before.before.before.before.if10.false,
-      sym c.before.before.before.before.equal11.ensures ∙ c.before.before.before.if11.false,
-      sym c.before.equal12.ensures ∙ c.if12.false,
+      sym c.before.before.before.before.before.before.before.before.before.before.before.before.before.before.before.before.before.before.before.before.before.before.before.before.before.before.before.before.before.before.before.equal.ensures ∙ c.before.before.before.before.before.before.before.before.before.before.before.before.before.before.before.before.before.before.before.before.before.before.before.before.before.before.before.before.before.before.if1.false,
+      sym c.before.before.before.before.before.before.before.before.before.before.before.before.before.before.before.before.before.before.before.before.before.before.before.before.before.before.before.before.equal2.ensures ∙ c.before.before.before.before.before.before.before.before.before.before.before.before.before.before.before.before.before.before.before.before.before.before.before.before.before.before.before.if2.false,
+      sym c.before.before.before.before.before.before.before.before.before.before.before.before.before.before.before.before.before.before.before.before.before.before.before.before.before.equal3.ensures ∙ c.before.before.before.before.before.before.before.before.before.before.before.before.before.before.before.before.before.before.before.before.before.before.before.before.if3.false,
+      sym c.before.before.before.before.before.before.before.before.before.before.before.before.before.before.before.before.before.before.before.before.before.before.equal4.ensures ∙ c.before.before.before.before.before.before.before.before.before.before.before.before.before.before.before.before.before.before.before.before.before.if4.false,
+      sym c.before.before.before.before.before.before.before.before.before.before.before.before.before.before.before.before.before.before.before.equal5.ensures ∙ c.before.before.before.before.before.before.before.before.before.before.before.before.before.before.before.before.before.before.if5.false,
+      sym c.before.before.before.before.before.before.before.before.before.before.before.before.before.before.before.before.equal6.ensures ∙ c.before.before.before.before.before.before.before.before.before.before.before.before.before.before.before.if6.false,
+      sym c.before.before.before.before.before.before.before.before.before.before.before.before.before.equal7.ensures ∙ c.before.before.before.before.before.before.before.before.before.before.before.before.if7.false,
+      sym c.before.before.before.before.before.before.before.before.before.before.equal8.ensures ∙ c.before.before.before.before.before.before.before.before.before.if8.false,
+      sym c.before.before.before.before.before.before.before.equal9.ensures ∙ c.before.before.before.before.before.before.if9.false,
+      sym c.before.before.before.before.equal10.ensures ∙ c.before.before.before.if10.false,
+      sym c.before.equal11.ensures ∙ c.if11.false,
     )
 
 pub kind-spec : {M : Type 1} → statement M
@@ -184,7 +173,4 @@ kind-spec =
     slice-aggregate-equal-11
     equal-requires-11
     returns-11
-    slice-aggregate-equal-12
-    equal-requires-12
-    returns-12
-    returns-13)
+    returns-12)

@@ -1,4 +1,4 @@
-use Rattle.sheet_lines.proofs.Cuts.{read-there, rows-there}
+use Rattle.sheet_lines.proofs.Cuts.{read-there}
 use borrow.Author.Rules.{rules}
 use Rattle.sheet_lines.proofs.read.read_record.Statement.{statement}
 use Rattle.sheet_lines.proofs.read.read_record.Tie as tie
@@ -30,26 +30,14 @@ second-name-field-requires c κs = search rules
 field-place-requires-2 : tie.Need-field-place-requires-2
 field-place-requires-2 c κs = search rules
 
-third-name-field-requires : tie.Need-third-name-field-requires
-third-name-field-requires c κs = search rules
-
-field-place-requires-3 : tie.Need-field-place-requires-3
-field-place-requires-3 c κs = search rules
-
-fourth-name-field-requires : tie.Need-fourth-name-field-requires
-fourth-name-field-requires c κs = search rules
-
-field-place-requires-4 : tie.Need-field-place-requires-4
-field-place-requires-4 c κs = search rules
-
 returns : tie.Need-returns
 returns c =
-    let cut = c.before.before.before.before.before.before.before.before.before.before.before.before.before.before.before.before.before.before.cut_parts.ensures in
-    let line = c.before.before.before.before.before.before.before.before.before.before.before.before.before.before.before.before.before.before.before.before.before.args.line.now in (
-      read-there line _ _ _ _ _ _ _ _ _ cut.0 cut.1 c.before.before.before.before.before.before.before.before.before.before.before.before.before.before.before.field.ensures c.before.before.before.before.before.before.before.before.before.before.before.before.before.before.kind.ensures c.before.before.before.before.before.before.before.before.before.before.before.before.by_kind.ensures
-          c.before.before.before.before.before.before.before.before.before.before.first-name-field.ensures c.before.before.before.before.before.before.before.before.before.field-place.ensures c.before.before.before.before.before.before.before.second-name-field.ensures c.before.before.before.before.before.before.field-place2.ensures,
-      rows-there line _ _ _ c.before.before.before.before.before.before.before.before.before.before.before.before.by_kind.result _ _ cut.1 c.before.before.before.before.third-name-field.ensures c.before.before.before.field-place3.ensures c.before.fourth-name-field.ensures c.field-place4.ensures,
-    )
+    let cut = c.before.before.before.before.before.before.before.before.before.before.before.before.cut_parts.ensures in
+    read-there c.before.before.before.before.before.before.before.before.before.before.before.before.before.before.before.args.line.now _ _ _ _ _ _ _ _ _
+    cut.0 cut.1
+    c.before.before.before.before.before.before.before.before.before.field.ensures c.before.before.before.before.before.before.before.before.kind.ensures c.before.before.before.before.before.before.by_kind.ensures
+    c.before.before.before.before.first-name-field.ensures c.before.before.before.field-place.ensures
+    c.before.second-name-field.ensures c.field-place2.ensures
 
 pub read-record-spec : {M : Type 1} → statement M
 read-record-spec =
@@ -64,8 +52,4 @@ read-record-spec =
     field-place-requires
     second-name-field-requires
     field-place-requires-2
-    third-name-field-requires
-    field-place-requires-3
-    fourth-name-field-requires
-    field-place-requires-4
     returns)

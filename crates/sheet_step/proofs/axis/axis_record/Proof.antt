@@ -81,12 +81,6 @@ enum-told-6 c = search rules
 put-requires-4 : tie.Need-put-requires-4
 put-requires-4 c κs = search rules
 
-enum-told-7 : tie.Need-enum-told-7
-enum-told-7 c = search rules
-
-put-requires-5 : tie.Need-put-requires-5
-put-requires-5 c κs = search rules
-
 returns : tie.Need-returns
 returns c = simp (c.before.enum_told.given.1, c.put.ensures)
 
@@ -156,9 +150,6 @@ returns-11 c = simp (c.before.enum-told5.given.1, c.put3.ensures)
 returns-12 : tie.Need-returns-12
 returns-12 c = simp (c.before.enum-told6.given.1, c.put4.ensures)
 
-returns-13 : tie.Need-returns-13
-returns-13 c = simp (c.before.enum-told7.given.1, c.put5.ensures)
-
 pub axis-record-spec : {M : Type 1} → statement M
 axis-record-spec =
     tie.close
@@ -188,8 +179,6 @@ axis-record-spec =
     put-requires-3
     enum-told-6
     put-requires-4
-    enum-told-7
-    put-requires-5
     returns
     returns-2
     returns-3
@@ -207,5 +196,4 @@ axis-record-spec =
     same-length-6
     returns-10
     returns-11
-    returns-12
-    returns-13)
+    returns-12)

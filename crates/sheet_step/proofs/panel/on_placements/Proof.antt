@@ -67,7 +67,7 @@ returns c =
     let a = c.before.before.before.before.before.before.before.before.before.before.before.before.before.before.before.before.args in
     let g = c.before.before.before.before.before.before.before.before.before.before.before.placement-names-start in
     let k = c.before.before.before.before.put-placement in
-    parts-put 25088 1280 62048 32768 g.result 1280 (g.result + 32768 - g.result) a.words.now a.bytes.now
+    parts-put 25088 512 62048 16384 g.result 512 (g.result + 16384 - g.result) a.words.now a.bytes.now
     (λ (w : List ℕ) (b : List ℕ). place_in a.panel w b a.axis a.start a.first.now a.end a.second.now)
     (record { answer = k.result; words = k.new.1.0; bytes = k.new.1.1.0 })
     g.ensures refl (omega arith)

@@ -5,9 +5,8 @@ use Rattle.text.specs.Split.{split}
 use Rattle.text.specs.Places.{part_at}
 use Rattle.panel_tables.specs.Written.{PanelHeld, panel_held_of}
 use Rattle.sheet_faults.specs.declared.Part.TheVariants.{Nothing, Columns, Rows}
-use Rattle.sheet_faults.specs.Parts.{Names}
 use Rattle.sheet_faults.proofs.Parts.{by_part}
-use Rattle.sheet_step.proofs.Back.{columns-back, rows_back, areas-back, placements-back, cells-back, picture-back}
+use Rattle.sheet_step.proofs.Back.{columns-back, rows_back, areas-back, placements-back, picture-back}
 use borrow.Author.Rules.{rules}
 use Rattle.sheet_step.proofs.panel.panel_record.Statement.{statement}
 use Rattle.sheet_step.proofs.panel.panel_record.Tie as tie
@@ -72,33 +71,14 @@ enum-known-width c = search rules
 on-picture-requires : tie.Need-on-picture-requires
 on-picture-requires c κs = search rules
 
-enum-known-columnstart : tie.Need-enum-known-columnstart
-enum-known-columnstart c = search rules
-
-half-requires : tie.Need-half-requires
-half-requires c κs = search rules
-
-half-requires-2 : tie.Need-half-requires-2
-half-requires-2 c κs = search rules
-
-next-line-requires : tie.Need-next-line-requires
-next-line-requires c κs = search rules
-
-on-cells-requires : tie.Need-on-cells-requires
-on-cells-requires c κs = search rules
-
-with-reading-requires-4 : tie.Need-with-reading-requires-4
-with-reading-requires-4 c κs = search rules
-
 returns : tie.Need-returns
 returns c =
     let a = c.before.before.before.before.before.before.before.before.args in
     let h : PanelHeld = panel_held_of a.panel a.reading a.words.now a.bytes.now a.columnbytes.now a.rowbytes.now in
     let first = part_at a.line.now a.there.first in
     let second = part_at a.line.now a.there.second in
-    let n : Names = record { first = first; second = second; third = part_at a.line.now a.there.third; fourth = part_at a.line.now a.there.fourth } in
     let ws = drop 1 (split 9 a.line.now) in
-    by_part h n ws a.there.said Nothing (sym c.before.before.before.before.part_of.ensures ∙ c.before.before.enum_told.given.1) (simp (c.with-reading.ensures, c.before.put.ensures))
+    by_part h first second ws a.there.said Nothing (sym c.before.before.before.before.part_of.ensures ∙ c.before.before.enum_told.given.1) (simp (c.with-reading.ensures, c.before.put.ensures))
 
 returns-2 : tie.Need-returns-2
 returns-2 c =
@@ -106,10 +86,9 @@ returns-2 c =
     let h : PanelHeld = panel_held_of a.panel a.reading a.words.now a.bytes.now a.columnbytes.now a.rowbytes.now in
     let first = part_at a.line.now a.there.first in
     let second = part_at a.line.now a.there.second in
-    let n : Names = record { first = first; second = second; third = part_at a.line.now a.there.third; fourth = part_at a.line.now a.there.fourth } in
     let ws = drop 1 (split 9 a.line.now) in
     let k = c.before.on-axis in
-    by_part h n ws a.there.said Columns (sym c.before.before.before.before.before.before.before.part_of.ensures ∙ c.before.before.before.before.before.enum-told2.given.1)
+    by_part h first second ws a.there.said Columns (sym c.before.before.before.before.before.before.before.part_of.ensures ∙ c.before.before.before.before.before.enum-told2.given.1)
     (rw c.read-by.ensures
     (columns-back a.panel a.reading a.words.now a.bytes.now a.columnbytes.now a.rowbytes.now (omega (arith, c.before.before.before.before.on-axis-arg.given)) (omega (arith, c.before.before.before.on-axis-arg2.given)) _ first a.there.said
     (record { answer = k.result; words = k.new.1.1.1.0; marks = k.new.1.1.1.1.0; bytes = k.new.1.1.1.1.1.0 })
@@ -121,10 +100,9 @@ returns-3 c =
     let h : PanelHeld = panel_held_of a.panel a.reading a.words.now a.bytes.now a.columnbytes.now a.rowbytes.now in
     let first = part_at a.line.now a.there.first in
     let second = part_at a.line.now a.there.second in
-    let n : Names = record { first = first; second = second; third = part_at a.line.now a.there.third; fourth = part_at a.line.now a.there.fourth } in
     let ws = drop 1 (split 9 a.line.now) in
     let k = c.before.on-axis2 in
-    by_part h n ws a.there.said Rows (sym c.before.before.before.before.before.before.before.part_of.ensures ∙ c.before.before.before.before.before.enum-told3.given.1)
+    by_part h first second ws a.there.said Rows (sym c.before.before.before.before.before.before.before.part_of.ensures ∙ c.before.before.before.before.before.enum-told3.given.1)
     (rw c.read-by2.ensures
     (rows_back a.panel a.reading a.words.now a.bytes.now a.columnbytes.now a.rowbytes.now (omega (arith, c.before.before.before.before.on-axis-arg4.given)) (omega (arith, c.before.before.before.on-axis-arg5.given)) _ first a.there.said
     (record { answer = k.result; words = k.new.1.1.1.0; marks = k.new.1.1.1.1.0; bytes = k.new.1.1.1.1.1.0 })
@@ -136,10 +114,9 @@ returns-4 c =
     let h : PanelHeld = panel_held_of a.panel a.reading a.words.now a.bytes.now a.columnbytes.now a.rowbytes.now in
     let first = part_at a.line.now a.there.first in
     let second = part_at a.line.now a.there.second in
-    let n : Names = record { first = first; second = second; third = part_at a.line.now a.there.third; fourth = part_at a.line.now a.there.fourth } in
     let ws = drop 1 (split 9 a.line.now) in
     let k = c.before.on-areas in
-    by_part h n ws a.there.said _ (sym c.before.before.before.before.before.before.before.part_of.ensures ∙ c.before.before.before.before.before.edges.given.1)
+    by_part h first second ws a.there.said _ (sym c.before.before.before.before.before.before.before.part_of.ensures ∙ c.before.before.before.before.before.edges.given.1)
     (rw c.with-reading2.ensures
     (areas-back a.panel a.reading a.words.now a.bytes.now a.columnbytes.now a.rowbytes.now (omega (arith, c.before.before.before.on-areas-arg.given)) (omega (arith, c.before.before.on-areas-arg2.given)) _ first _
     (record { answer = k.result; words = k.new.1.0; bytes = k.new.1.1.0 })
@@ -151,10 +128,9 @@ returns-5 c =
     let h : PanelHeld = panel_held_of a.panel a.reading a.words.now a.bytes.now a.columnbytes.now a.rowbytes.now in
     let first = part_at a.line.now a.there.first in
     let second = part_at a.line.now a.there.second in
-    let n : Names = record { first = first; second = second; third = part_at a.line.now a.there.third; fourth = part_at a.line.now a.there.fourth } in
     let ws = drop 1 (split 9 a.line.now) in
     let k = c.before.on-placements in
-    by_part h n ws a.there.said _ (sym c.before.before.before.before.before.before.before.part_of.ensures ∙ c.before.before.before.before.before.axis.given.1)
+    by_part h first second ws a.there.said _ (sym c.before.before.before.before.before.before.before.part_of.ensures ∙ c.before.before.before.before.before.axis.given.1)
     (rw c.with-reading3.ensures
     (placements-back a.panel a.reading a.words.now a.bytes.now a.columnbytes.now a.rowbytes.now (omega (arith, c.before.before.before.on-placements-arg.given)) (omega (arith, c.before.before.on-placements-arg2.given)) _ _ _ first _ _ second
     (record { answer = k.result; words = k.new.1.0; bytes = k.new.1.1.0 })
@@ -166,27 +142,12 @@ returns-6 c =
     let h : PanelHeld = panel_held_of a.panel a.reading a.words.now a.bytes.now a.columnbytes.now a.rowbytes.now in
     let first = part_at a.line.now a.there.first in
     let second = part_at a.line.now a.there.second in
-    let n : Names = record { first = first; second = second; third = part_at a.line.now a.there.third; fourth = part_at a.line.now a.there.fourth } in
     let ws = drop 1 (split 9 a.line.now) in
     let k = c.on-picture in
-    by_part h n ws a.there.said _ (sym c.before.before.before.before.before.before.part_of.ensures ∙ c.before.before.before.before.width.given.1)
+    by_part h first second ws a.there.said _ (sym c.before.before.before.before.before.before.part_of.ensures ∙ c.before.before.before.before.width.given.1)
     (picture-back a.panel a.reading a.words.now a.bytes.now a.columnbytes.now a.rowbytes.now (omega (arith, c.before.before.on-picture-arg.given)) (omega (arith, c.before.on-picture-arg2.given)) ws _
     (record { answer = k.result; words = k.new.1.1.0; bytes = k.new.1.1.1.0 })
     k.ensures (omega (arith, c.before.before.on-picture-arg.given, k.auto.1.1.0)) (omega (arith, c.before.on-picture-arg2.given, k.auto.1.1.1.0)))
-
-returns-7 : tie.Need-returns-7
-unfolding panel_held_of
-returns-7 c =
-    let a = c.before.before.before.before.before.before.before.before.before.before.before.before.before.before.args in
-    let h : PanelHeld = panel_held_of a.panel a.reading a.words.now a.bytes.now a.columnbytes.now a.rowbytes.now in
-    let n : Names = record { first = part_at a.line.now a.there.first; second = part_at a.line.now a.there.second; third = part_at a.line.now a.there.third; fourth = part_at a.line.now a.there.fourth } in
-    let ws = drop 1 (split 9 a.line.now) in
-    let k = c.before.on-cells in
-    by_part h n ws a.there.said _ (sym c.before.before.before.before.before.before.before.before.before.before.part_of.ensures ∙ c.before.before.before.before.before.before.before.before.columnstart.given.1)
-    (rw c.with-reading4.ensures
-    (cells-back a.panel a.reading a.words.now a.bytes.now a.columnbytes.now a.rowbytes.now (omega (arith, c.before.before.before.on-cells-arg.given)) (omega (arith, c.before.before.on-cells-arg2.given)) _ _ _ _
-    (record { answer = k.result; words = k.new.1.0; bytes = k.new.1.1.0 })
-    (rw (c.before.before.before.before.before.before.half.ensures, c.before.before.before.before.before.half2.ensures, c.before.before.before.before.next-line.ensures) at k.ensures) (omega (arith, c.before.before.before.on-cells-arg.given, k.auto.1.0)) (omega (arith, c.before.before.on-cells-arg2.given, k.auto.1.1.0))))
 
 pub panel-record-spec : {M : Type 1} → statement M
 panel-record-spec =
@@ -212,16 +173,9 @@ panel-record-spec =
     with-reading-requires-3
     enum-known-width
     on-picture-requires
-    enum-known-columnstart
-    half-requires
-    half-requires-2
-    next-line-requires
-    on-cells-requires
-    with-reading-requires-4
     returns
     returns-2
     returns-3
     returns-4
     returns-5
-    returns-6
-    returns-7)
+    returns-6)

@@ -65,14 +65,11 @@ enum-known-said-10 c = search rules
 enum-known-said-11 : tie.Need-enum-known-said-11
 enum-known-said-11 c = search rules
 
-enum-known-said-12 : tie.Need-enum-known-said-12
-enum-known-said-12 c = search rules
-
 returns : tie.Need-returns
 returns c = search rules
 
 returns-2 : tie.Need-returns-2
-returns-2 c = simp c.before.before.said.given.1 c.axis-part.ensures
+returns-2 c = search rules
 
 returns-3 : tie.Need-returns-3
 returns-3 c = simp (c.before.before.said2.given.1, c.edges-of.ensures)
@@ -96,16 +93,13 @@ returns-9 : tie.Need-returns-9
 returns-9 c = simp c.before.before.said8.given.1 c.axis-part7.ensures
 
 returns-10 : tie.Need-returns-10
-returns-10 c = simp c.before.before.said9.given.1 c.axis-part8.ensures
+returns-10 c = search rules
 
 returns-11 : tie.Need-returns-11
 returns-11 c = simp c.before.said10.given.1
 
 returns-12 : tie.Need-returns-12
 returns-12 c = simp c.before.said11.given.1
-
-returns-13 : tie.Need-returns-13
-returns-13 c = simp c.before.said12.given.1
 
 pub part-of-spec : {M : Type 1} → statement M
 part-of-spec =
@@ -132,7 +126,6 @@ part-of-spec =
     axis-part-requires-8
     enum-known-said-10
     enum-known-said-11
-    enum-known-said-12
     returns
     returns-2
     returns-3
@@ -144,5 +137,4 @@ part-of-spec =
     returns-9
     returns-10
     returns-11
-    returns-12
-    returns-13)
+    returns-12)

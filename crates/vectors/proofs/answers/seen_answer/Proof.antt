@@ -1,14 +1,14 @@
-use Rattle.std.proofs.Common.{◌-◌, ◌≤◌, sym, arith, length-take-le, rules}
+use Rattle.std.proofs.Common.{◌-◌, ◌≤◌, rules}
 use Rattle.vectors.proofs.answers.seen_answer.Statement.{statement}
 use Rattle.vectors.proofs.answers.seen_answer.Tie as tie
 
 abbrev invariant-loop : tie.invariant-loop
-invariant-loop expected grid words bytes columnstore rowstore lands cut placed at₀ last₀ turns₀ at last turns =
-    turns ≤ 120772
+invariant-loop expected seen cut grid words bytes columnstore rowstore at₀ last₀ turns₀ at last turns =
+    turns ≤ 120260
 
 abbrev decreases-loop : tie.decreases-loop
-decreases-loop expected grid words bytes columnstore rowstore lands cut placed at₀ last₀ turns₀ at last turns =
-    120772 - turns
+decreases-loop expected seen cut grid words bytes columnstore rowstore at₀ last₀ turns₀ at last turns =
+    120260 - turns
 
 loop-holds : tie.Need-loop-init invariant-loop decreases-loop
 loop-holds c = search rules
@@ -22,20 +22,8 @@ returns c = search rules
 is-listed-requires : tie.Need-is-listed-requires invariant-loop decreases-loop
 is-listed-requires c κs = search rules
 
-slice-aggregate-put-line : tie.Need-slice-aggregate-put-line invariant-loop decreases-loop
-slice-aggregate-put-line c = search rules
-
-put-line-requires : tie.Need-put-line-requires invariant-loop decreases-loop
-put-line-requires c κs = search rules
-
-array-share-prefix-line : tie.Need-array-share-prefix-line invariant-loop decreases-loop
-array-share-prefix-line c = search rules
-
-slice-aggregate-seen-part : tie.Need-slice-aggregate-seen-part invariant-loop decreases-loop
-slice-aggregate-seen-part c = sym (length-take-le _ _ (omega (arith, c.before.before.put-line.ensures.fits, c.before.before.put-line.auto.0)))
-
-seen-part-requires : tie.Need-seen-part-requires invariant-loop decreases-loop
-seen-part-requires c κs = search rules
+seen-line-requires : tie.Need-seen-line-requires invariant-loop decreases-loop
+seen-line-requires c κs = search rules
 
 next-line-requires : tie.Need-next-line-requires invariant-loop decreases-loop
 next-line-requires c κs = search rules
@@ -62,11 +50,7 @@ seen-answer-spec =
     is-end-requires
     returns
     is-listed-requires
-    slice-aggregate-put-line
-    put-line-requires
-    array-share-prefix-line
-    slice-aggregate-seen-part
-    seen-part-requires
+    seen-line-requires
     next-line-requires
     add-turns
     loop-less

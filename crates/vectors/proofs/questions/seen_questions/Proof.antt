@@ -3,11 +3,11 @@ use Rattle.vectors.proofs.questions.seen_questions.Statement.{statement}
 use Rattle.vectors.proofs.questions.seen_questions.Tie as tie
 
 abbrev invariant-loop : tie.invariant-loop
-invariant-loop input seen panel words bytes columnstore rowstore expected place₀ last₀ left₀ place last left =
+invariant-loop input seen grid words bytes columnstore rowstore expected place₀ last₀ left₀ place last left =
     Unit {0}
 
 abbrev decreases-loop : tie.decreases-loop
-decreases-loop input seen panel words bytes columnstore rowstore expected place₀ last₀ left₀ place last left =
+decreases-loop input seen grid words bytes columnstore rowstore expected place₀ last₀ left₀ place last left =
     left
 
 expected-of-requires : tie.Need-expected-of-requires invariant-loop decreases-loop
