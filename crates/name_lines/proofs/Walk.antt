@@ -83,10 +83,10 @@ back-alike p q f (suc k) m h =
     alike (p (f + k)) (q (f + k)) (h (f + k) (omega arith) (omega arith)) (f + k) m _ _ (λ j. back-alike p q f k j (λ i a b. h i (omega arith) (omega arith)))
 
 -- nothing is found where nothing is marked
-pub seek-unmarked : (p : ℕ → Bool) (k f m : ℕ) → ((j : ℕ) → f ≤ j → j < f + k → p j ≡ false) → seek p k f m ≡ left m
+pub seek_unmarked : (p : ℕ → Bool) (k f m : ℕ) → ((j : ℕ) → f ≤ j → j < f + k → p j ≡ false) → seek p k f m ≡ left m
 unfolding seek
-seek-unmarked p zero f m h = refl
-seek-unmarked p (suc k) f m h = rw (h f (omega arith) (omega arith)) (seek-unmarked p k (suc f) m (λ j a b. h j (omega arith) (omega arith)))
+seek_unmarked p zero f m h = refl
+seek_unmarked p (suc k) f m h = rw (h f (omega arith) (omega arith)) (seek_unmarked p k (suc f) m (λ j a b. h j (omega arith) (omega arith)))
 
 -- a search goes on where another ends
 abbrev pub or_else : Seek → (ℕ → Seek) → Seek
@@ -117,7 +117,7 @@ back-split p f a (suc b) m =
     (alike (p (f + a + b)) (p (f + a + b)) refl (f + a + b) m _ _ (λ j. back-split p f a b j)
     ∙ sym (onward_else (p (f + a + b)) (f + a + b) m (λ j. back p (f + a) b j) (λ r. back p f a r)))
 
-pub back-unmarked : (p : ℕ → Bool) (f k m : ℕ) → ((j : ℕ) → f ≤ j → j < f + k → p j ≡ false) → back p f k m ≡ left m
+pub back_unmarked : (p : ℕ → Bool) (f k m : ℕ) → ((j : ℕ) → f ≤ j → j < f + k → p j ≡ false) → back p f k m ≡ left m
 unfolding back
-back-unmarked p f zero m h = refl
-back-unmarked p f (suc k) m h = rw (h (f + k) (omega arith) (omega arith)) (back-unmarked p f k m (λ j a b. h j (omega arith) (omega arith)))
+back_unmarked p f zero m h = refl
+back_unmarked p f (suc k) m h = rw (h (f + k) (omega arith) (omega arith)) (back_unmarked p f k m (λ j a b. h j (omega arith) (omega arith)))

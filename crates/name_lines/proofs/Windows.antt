@@ -8,7 +8,7 @@ use lib.ListN.{replicate}
 use Rattle.name_rules.specs.Rule.{Seek, at, left, seek}
 use Rattle.name_lines.specs.Marks.{marked, Adds, back}
 use Rattle.name_lines.proofs.Marking.{fresh}
-use Rattle.name_lines.proofs.Walk.{or_else, seek-alike, back-alike, seek-unmarked, back-unmarked, seek-split, back-split}
+use Rattle.name_lines.proofs.Walk.{or_else, seek-alike, back-alike, seek_unmarked, back_unmarked, seek-split, back-split}
 
 -- a window of n marks from low on shows the lines that were marked
 module _ (n low e m : ℕ) (ms : List ℕ) (p : ℕ → Bool) (f : Adds (replicate n 0) ms (λ k. p (low + k))) (h : e - low ≤ n) where
@@ -24,13 +24,13 @@ module _ (n low e m : ℕ) (ms : List ℕ) (p : ℕ → Bool) (f : Adds (replica
 -- lines from e on that bear no name need not be looked at
 module _ (p : ℕ → Bool) (e z m : ℕ) (h : (j : ℕ) → e ≤ j → j < z → p j ≡ false) where
   pub none-up : (f : ℕ) → e ≤ f → left m ≡ seek p (z - f) f m
-  none-up f g = sym (seek-unmarked p (z - f) f m (λ j a b. h j (omega arith) (omega arith)))
+  none-up f g = sym (seek_unmarked p (z - f) f m (λ j a b. h j (omega arith) (omega arith)))
 
   pub cut_down : e ≤ z → back p 0 e m ≡ back p 0 z m
   cut_down b =
       let s : z ≡ e + (z - e) = omega arith in
       let t : back p 0 z m ≡ or_else (back p (0 + e) (z - e) m) (λ r. back p 0 e r) = ap (λ (k : ℕ). back p 0 k m) s ∙ back-split p 0 e (z - e) m in
-      let q : back p (0 + e) (z - e) m ≡ left m = back-unmarked p (0 + e) (z - e) m (λ j a c. h j (omega arith) (omega arith)) in
+      let q : back p (0 + e) (z - e) m ≡ left m = back_unmarked p (0 + e) (z - e) m (λ j a c. h j (omega arith) (omega arith)) in
       sym (t ∙ ap (λ (x : Seek). or_else x (λ r. back p 0 e r)) q)
 
 -- a window from f to e, and the rest on to z

@@ -47,15 +47,15 @@ module _ (words store : List ℕ) where
   few_words : (line : ℕ) → length (line_words words store line) ≤ length (on_line line words)
   few_words line = rw (length-map (line_entries_of words store line) (part_word store)) (few-entries line store words)
 
-  few_from : (line n : ℕ) → length (lists_from words store line n) ≤ count_from line words
+  few-from : (line n : ℕ) → length (lists_from words store line n) ≤ count_from line words
   unfolding lists_from
-  few_from line zero = omega arith
-  few_from line (suc n) =
+  few-from line zero = omega arith
+  few-from line (suc n) =
       let a = few_words line in
-      let b = few_from (suc line) n in
+      let b = few-from (suc line) n in
       let s = split_from line words in
       rw (length-append (line_words words store line) (lists_from words store (suc line) n)) (omega (arith, a, b, s))
 
   pub few-lists : (explicit : ℕ) → length (lists explicit words store) ≤ length words
   unfolding lists
-  few-lists explicit = let a = few_from 1 (explicit + 1) in let b = all_from 1 words in omega (arith, a, b)
+  few-lists explicit = let a = few-from 1 (explicit + 1) in let b = all_from 1 words in omega (arith, a, b)

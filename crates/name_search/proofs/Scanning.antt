@@ -9,7 +9,7 @@ use Rattle.name_rules.specs.Rule.{Seek, at, left, onward, seek}
 use Rattle.name_lines.specs.Marks.{marked, Adds, back, walk}
 use Rattle.name_lines.specs.declared.Way.{Way}
 use Rattle.name_lines.specs.declared.Way.TheVariants.{Up, Down}
-use Rattle.name_lines.proofs.Walk.{or_else, seek-unmarked, seek-split, back-split}
+use Rattle.name_lines.proofs.Walk.{or_else, seek_unmarked, seek-split, back-split}
 use Rattle.name_lines.proofs.Windows.{window-up, window-down, cut_down}
 use Rattle.name_search.specs.Scans.{scan, place_at, lines_sought, window_length, next_window, lines_left}
 use Rattle.name_search.specs.declared.window.Window.{Window}
@@ -65,7 +65,7 @@ scan_in way p w m = scan way p w.low (w.end - w.low) m
 pub scan_sought : (way : Way) (p : ℕ → Bool) (f h m : ℕ) → ((j : ℕ) → h ≤ j → p j ≡ false) → scan_in way p (lines_sought way f h) m ≡ walk way p f m
 scan_sought Up p f h m c =
     let s : 20000 - f ≡ (min h 20000 - f) + (20000 - f - (min h 20000 - f)) = omega arith in
-    let u : (r : ℕ) → seek p (20000 - f - (min h 20000 - f)) (f + (min h 20000 - f)) r ≡ left r = λ r. seek-unmarked p (20000 - f - (min h 20000 - f)) (f + (min h 20000 - f)) r (λ j a b. c j (omega arith)) in
+    let u : (r : ℕ) → seek p (20000 - f - (min h 20000 - f)) (f + (min h 20000 - f)) r ≡ left r = λ r. seek_unmarked p (20000 - f - (min h 20000 - f)) (f + (min h 20000 - f)) r (λ j a b. c j (omega arith)) in
     sym (ap (λ (k : ℕ). seek p k f m) s ∙ seek-split p (min h 20000 - f) (20000 - f - (min h 20000 - f)) f m ∙ else-left (seek p (min h 20000 - f) f m) _ u)
   where
     else-left : (x : Seek) (go : ℕ → Seek) → ((r : ℕ) → go r ≡ left r) → or_else x go ≡ x

@@ -80,16 +80,16 @@ pieces-tracks [] = refl
 pieces-tracks (name n ∷ ps) = pieces-tracks ps
 pieces-tracks (track t ∷ ps) = ap suc (pieces-tracks ps)
 
-pub items-tracks : (is : List Item) (n : ℕ) → SmallItems is → Css.tracks_in (Css.flat (items_of n is)) ≡ length (written_out (components_of is) n)
+pub items_tracks : (is : List Item) (n : ℕ) → SmallItems is → Css.tracks_in (Css.flat (items_of n is)) ≡ length (written_out (components_of is) n)
 unfolding written_out
-items-tracks [] n s = refl
-items-tracks (single (name l) ∷ is) n s = items-tracks is n s
-items-tracks (single (track t) ∷ is) n s = ap suc (items-tracks is n s)
-items-tracks (repeat r ∷ is) n s =
+items_tracks [] n s = refl
+items_tracks (single (name l) ∷ is) n s = items_tracks is n s
+items_tracks (single (track t) ∷ is) n s = ap suc (items_tracks is n s)
+items_tracks (repeat r ∷ is) n s =
     let ps : List Css.Piece = pieces_of r.pieces in
     let c : Component = record { count = count_of r.kind r.number; tracks = map sizes_of (tracks_in r.pieces) } in
     tracks-append (Css.copies (times_of n r) ps) (Css.flat (items_of n is))
-    ∙ rw (tracks-copies (times_of n r) ps, times r n s.0, pieces-tracks r.pieces, items-tracks is n s.1)
+    ∙ rw (tracks-copies (times_of n r) ps, times r n s.0, pieces-tracks r.pieces, items_tracks is n s.1)
     (sym (written-more c (components_of is) n ∙ rw (length-map (tracks_in r.pieces) sizes_of)))
 
 -- a single is one track
@@ -216,7 +216,7 @@ module _ (m : CssTemplate) (v : PanelView) (a : Axis) (calls : List Call) (f : F
 
   pub tracks-book : (size_of va).tracks ≡ sheet_tracks m
   unfolding sheet_tracks
-  tracks-book = tracks-found ∙ sym (items-tracks m.template found small) ∙ ap (λ (l : List Css.Item). Css.tracks_in (Css.flat l)) items-found
+  tracks-book = tracks-found ∙ sym (items_tracks m.template found small) ∙ ap (λ (l : List Css.Item). Css.tracks_in (Css.flat l)) items-found
 
   pub explicit-book : explicit_of va ≡ book_explicit m va
   explicit-book = rw tracks-book

@@ -71,7 +71,7 @@ module _ (m : CssTemplate) (v : PanelView) (a : Axis) (calls : List Call) (f : F
   -- as many as the book counts
   pub written-tracks : length written_tracks ≡ sheet_tracks m
   unfolding sheet_tracks
-  written-tracks = sym (Book.items-tracks m.template m.repetitions (Book.small m v a calls f css r))
+  written-tracks = sym (Book.items_tracks m.template m.repetitions (Book.small m v a calls f css r))
 
   within : length (written_out cs (size_of va).repetitions) ≤ explicit_of va
   within = let e = Book.tracks-found m v a calls f css r in omega arith

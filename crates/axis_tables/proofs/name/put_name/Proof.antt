@@ -61,7 +61,7 @@ same-length-2 c = search rules
 
 returns-2 : tie.Need-returns-2
 unfolding put_name
-returns-2 c = rw (c.put2.ensures, c.before.before.before.before.before.copy-what-fits.ensures, c.before.before.before.before.before.before.before.before.before.set_word.ensures, c.before.before.before.before.before.before.before.before.before.before.before.name-word.ensures, c.before.before.before.before.before.before.before.before.before.before.before.before.place_in.ensures, sym c.before.before.before.before.before.before.before.before.before.before.before.before.before.before.no_room.ensures ∙ c.before.before.before.before.before.before.before.before.before.before.before.before.before.if1.false)
+returns-2 c = rw (c.put2.ensures, c.before.before.before.before.before.copy-what-fits.ensures, c.before.before.before.before.before.before.before.before.before.set_word.ensures, c.before.before.before.before.before.before.before.before.before.before.before.name-word.ensures, c.before.before.before.before.before.before.before.before.before.before.before.before.IsPlace-in.ensures, sym c.before.before.before.before.before.before.before.before.before.before.before.before.before.before.no_room.ensures ∙ c.before.before.before.before.before.before.before.before.before.before.before.before.before.if1.false)
 
 pub put-name-spec : {M : Type 1} → statement M
 put-name-spec =
