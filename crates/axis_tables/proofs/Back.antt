@@ -1,18 +1,14 @@
 -- What is written reads back: the template, the tracks, the spare sizes and the names of an axis. Assumes nothing.
-use Prim.Native.Nat.{ℕ, zero, suc, ◌+◌, ◌*◌, ◌/◌, ◌%◌, ◌≤◌, ◌<◌}
+use Prim.Native.Nat.{ℕ, suc, ◌+◌, ◌/◌, ◌%◌, ◌≤◌, ◌<◌}
 use mathlib.Core.Path.{◌≡◌, refl, sym, ap, ◌∙◌}
 use mathlib.Core.List.{List, [], ◌∷◌, ◌++◌, map, append_assoc, append-nil}
-use mathlib.Core.Bool.{Bool, true, false, cond}
 use native.Mathlib.Omega.{arith}
-use lib.Dec.{eqb}
 use lib.ListN.{length, get_or, take, drop, length-map, length-append, get_or-map}
 use lib.Seq.{get_or-drop, drop-drop, drop_at}
 use Rattle.sizing.specs.declared.MinMax.{MinMax}
-use Rattle.template_rules.specs.declared.GridTemplateComponent.{GridTemplateComponent}
 use Rattle.template_rules.specs.Template.{Component, count_of, length_of, component_of, track_at, tracks_from, with_tracks, template_of}
-use Rattle.axis_tables.specs.Lay.{Region}
-use Rattle.axis_tables.specs.Runs.{bytes_of, words_from, part_of}
-use Rattle.axis_tables.specs.View.{Sizes, Piece, name, track, Repeat, Item, single, repeat, Unended, none, inside, AxisView, sizes_of, tracks_in, tracks_of, components_of, NameRecord, name_of, names_in, names_from, names_of, written, axis_names, axis_bytes}
+use Rattle.axis_tables.specs.Runs.{words_from, part_of}
+use Rattle.axis_tables.specs.View.{Sizes, Piece, name, track, Item, single, repeat, Unended, none, inside, AxisView, sizes_of, tracks_in, tracks_of, components_of, NameRecord, name_of, names_in, names_from, names_of, written, axis_names, axis_bytes}
 use Rattle.axis_tables.specs.Store.{component_word, name_word}
 use Rattle.axis_tables.specs.Written.{components_from, min_of, max_of, record_word, axis_tracks, regions_of, words_with, names_store, state_of}
 use Rattle.axis_tables.specs.Reads.{name_place, name_record_in}
@@ -21,7 +17,7 @@ use Rattle.axis_tables.proofs.Runs.{length-words, All, all_append, run-back}
 use Rattle.axis_tables.proofs.Joins.{length-components}
 use Rattle.axis_tables.proofs.More
 use Rattle.axis_tables.proofs.Same.{positive}
-use Rattle.axis_tables.proofs.Fits.{Fits, SmallRepeat, SmallItems, SmallUnended, to_come, Short, few-tracks}
+use Rattle.axis_tables.proofs.Fits.{Fits, SmallItems, SmallUnended, to_come, Short, few-tracks}
 use Rattle.axis_tables.proofs.Kept.{small-more}
 
 -- ---- a component's word

@@ -1,16 +1,9 @@
 -- What the lines of an axis leave fits the rooms of its tables. Assumes nothing.
-use Prim.Native.Nat.{ℕ, zero, suc, ◌+◌, ◌*◌, ◌≤◌, ◌<◌}
-use mathlib.Core.Path.{◌≡◌, refl, sym, ap, ◌∙◌}
-use mathlib.Core.List.{List, [], ◌∷◌, ◌++◌}
-use mathlib.Core.Bool.{Bool, true, false, cond}
+use Prim.Native.Nat.{ℕ, ◌+◌, ◌*◌, ◌≤◌, ◌<◌}
+use mathlib.Core.List.{List, [], ◌∷◌}
 use native.Mathlib.Omega.{arith}
-use lib.Dec.{eqb, ltb}
-use borrow.Author.Tests.{ltb-true, ltb-false}
 use lib.ListN.{length, length-append}
-use Rattle.axis_tables.specs.Runs.{bytes_of}
-use Rattle.axis_tables.specs.View.{Sizes, Piece, name, track, Repeat, Item, single, repeat, Unended, none, inside, AxisView, AxisOutcome, pieces_of, tracks_in, tracks_of, components_of, NameRecord, name_of, names_of, written, axis_names, axis_bytes}
-use Rattle.axis_tables.specs.Written.{axis_tracks}
-use Rattle.axis_tables.proofs.More.{repeat-tracks}
+use Rattle.axis_tables.specs.View.{name, track, Repeat, Item, single, repeat, Unended, none, inside, AxisView, tracks_in, tracks_of, components_of, NameRecord, axis_names, axis_bytes}
 
 -- a repeat as a sheet can write it
 pub record SmallRepeat (r : Repeat) : Type 0 where

@@ -1,15 +1,15 @@
 -- The words and bytes of an axis follow its view, line by line. Assumes nothing.
-use Prim.Native.Nat.{ℕ, zero, suc, ◌+◌, ◌≤◌, ◌<◌}
-use mathlib.Core.Path.{◌≡◌, refl, sym, ap, ◌∙◌}
-use mathlib.Core.List.{List, [], ◌∷◌, ◌++◌, map, map-append}
+use Prim.Native.Nat.{ℕ, ◌+◌, ◌≤◌, ◌<◌}
+use mathlib.Core.Path.{◌≡◌, sym, ap, ◌∙◌}
+use mathlib.Core.List.{List, [], ◌∷◌, ◌++◌, map-append}
 use native.Mathlib.Omega.{arith}
 use lib.ListN.{length, set, length-map}
 use lib.Seq.{sets}
-use Rattle.axis_tables.specs.Lay.{pad, Region, lay, joined}
-use Rattle.axis_tables.specs.Runs.{bytes_of, words_from}
-use Rattle.axis_tables.specs.View.{Sizes, Piece, name, track, Repeat, Item, single, repeat, Unended, none, inside, AxisView, tracks_in, tracks_of, components_of, NameRecord, name_of, names_of, written, axis_names, axis_bytes, with_template, more_pieces}
+use Rattle.axis_tables.specs.Lay.{pad, Region, joined}
+use Rattle.axis_tables.specs.Runs.{bytes_of}
+use Rattle.axis_tables.specs.View.{Sizes, name, track, Repeat, Item, single, repeat, none, inside, AxisView, tracks_in, tracks_of, components_of, NameRecord, name_of, names_of, with_template, more_pieces}
 use Rattle.axis_tables.specs.Store.{component_word, name_word}
-use Rattle.axis_tables.specs.Written.{components_from, min_of, max_of, record_word, axis_tracks, regions_of, words_with, axis_words, names_store}
+use Rattle.axis_tables.specs.Written.{min_of, max_of, record_word, regions_of, words_with, axis_words}
 use Rattle.axis_tables.proofs.Lays.{pad_puts, lay-put}
 use Rattle.axis_tables.proofs.Runs.{bytes-more, length-words, words_more}
 use Rattle.axis_tables.proofs.Joins.{length-components}

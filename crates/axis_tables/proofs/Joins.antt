@@ -1,12 +1,10 @@
 -- What a view lists after one item or piece more. Assumes nothing.
-use Prim.Native.Nat.{ℕ, zero, suc, ◌+◌, ◌*◌, ◌≤◌, ◌<◌}
+use Prim.Native.Nat.{ℕ, suc, ◌+◌}
 use mathlib.Core.Path.{◌≡◌, refl, sym, ap, ◌∙◌}
-use mathlib.Core.List.{List, [], ◌∷◌, ◌++◌, append_assoc, append-nil}
+use mathlib.Core.List.{List, [], ◌∷◌, ◌++◌, append_assoc}
 use native.Mathlib.Omega.{arith}
 use lib.ListN.{length, length-append}
-use Rattle.template_rules.specs.Template.{Component}
-use Rattle.axis_tables.specs.Runs.{bytes_of, words_from}
-use Rattle.axis_tables.specs.View.{Sizes, Piece, name, track, Repeat, Item, single, repeat, pieces_of, tracks_in, tracks_of, components_of, NameRecord, names_in, names_from}
+use Rattle.axis_tables.specs.View.{Sizes, Piece, name, track, Item, single, repeat, pieces_of, tracks_in, tracks_of, components_of, NameRecord, names_in, names_from}
 use Rattle.axis_tables.specs.Written.{components_from}
 
 pub length_more : {A : Type 0} (l : List A) (x : A) → length (l ++ (x ∷ [])) ≡ length l + 1

@@ -1,6 +1,6 @@
 -- Every record keeps `Fits`, and an empty axis fits. Assumes nothing.
-use Prim.Native.Nat.{ℕ, zero, suc, ◌+◌, ◌*◌, ◌≤◌, ◌<◌}
-use mathlib.Core.Path.{◌≡◌, refl, sym, ap, ◌∙◌}
+use Prim.Native.Nat.{ℕ, ◌+◌, ◌≤◌, ◌<◌}
+use mathlib.Core.Path.{◌≡◌, refl}
 use mathlib.Core.List.{List, [], ◌∷◌, ◌++◌}
 use mathlib.Core.Bool.{Bool, true, false, cond}
 use native.Mathlib.Omega.{arith}
@@ -8,13 +8,13 @@ use lib.Dec.{eqb, ltb}
 use lib.ListN.{length, length-append}
 use borrow.Author.Tests.{ltb-false}
 use Rattle.axis_tables.specs.Runs.{bytes_of}
-use Rattle.axis_tables.specs.View.{Sizes, Piece, name, track, Repeat, Item, single, repeat, Unended, none, inside, AxisView, AxisOutcome, refused, accepted, tracks_in, tracks_of, components_of, NameRecord, name_of, names_of, axis_names, axis_bytes, with_template, with_item, with_piece, with_name, repeat_kind, no_room, named_fault, empty_axis, track_step, repeat_step, end_step, name_step, spare_step, item_step, extra_step, axis_step}
+use Rattle.axis_tables.specs.View.{Sizes, name, track, Repeat, Item, single, repeat, Unended, none, inside, AxisView, AxisOutcome, refused, accepted, tracks_in, components_of, NameRecord, name_of, names_of, with_template, with_item, with_piece, with_name, repeat_kind, no_room, named_fault, empty_axis, track_step, repeat_step, end_step, name_step, spare_step, item_step, extra_step, axis_step}
 use Rattle.axis_tables.specs.Written.{record_word}
 use Rattle.axis_tables.proofs.Runs.{bytes-more}
 use Rattle.axis_tables.proofs.Joins.{length_more}
 use Rattle.axis_tables.proofs.More
 use Rattle.axis_tables.proofs.Rooms.{Room, room}
-use Rattle.axis_tables.proofs.Fits.{Fits, SmallRepeat, SmallItems, Short}
+use Rattle.axis_tables.proofs.Fits.{Fits, SmallItems, Short}
 
 fits-cond : (t : Bool) (a b : AxisOutcome) → (t ≡ true → Fits a.axis) → (t ≡ false → Fits b.axis) → Fits (cond t a b).axis
 fits-cond true a b f g = f refl

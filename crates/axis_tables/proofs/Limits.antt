@@ -1,13 +1,11 @@
 -- The limits of an axis: with one place free a record is accepted, with none it is refused by 8. Assumes nothing.
 use Prim.Native.Nat.{ℕ, ◌+◌, ◌≤◌, ◌<◌}
-use mathlib.Core.Path.{◌≡◌, refl}
+use mathlib.Core.Path.{◌≡◌}
 use mathlib.Core.List.{List}
-use mathlib.Core.Bool.{true, false}
 use native.Mathlib.Omega.{arith}
-use lib.Dec.{ltb}
 use lib.ListN.{length}
 use borrow.Author.Tests.{lt-ltb, le-ltb, lt-leb, le-leb}
-use Rattle.axis_tables.specs.View.{Repeat, Unended, none, inside, AxisView, tracks_in, components_of, axis_names, axis_bytes, track_step, repeat_step, name_step, spare_step, item_step}
+use Rattle.axis_tables.specs.View.{Repeat, none, inside, AxisView, tracks_in, components_of, axis_names, axis_bytes, track_step, repeat_step, name_step, spare_step, item_step}
 
 module _ (v : AxisView) where
   -- 64 components an axis

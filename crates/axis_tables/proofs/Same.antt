@@ -1,25 +1,24 @@
 -- State and tables follow the view: an operation on those of a view leaves those of the view after the record, with its fault.
 -- `Fits` keeps the guards of the code that no sheet can reach from firing.
-use Prim.Native.Nat.{ℕ, zero, suc, ◌+◌, ◌*◌, ◌≤◌, ◌<◌}
-use mathlib.Core.Path.{◌≡◌, refl, sym, ap, ◌∙◌}
+use Prim.Native.Nat.{ℕ, zero, suc, ◌+◌, ◌<◌}
+use mathlib.Core.Path.{◌≡◌, refl, sym, ap}
 use mathlib.Core.List.{List, [], ◌∷◌, ◌++◌}
-use mathlib.Core.Bool.{Bool, true, false, cond}
+use mathlib.Core.Bool.{Bool, true, false}
 use native.Mathlib.Omega.{arith}
 use lib.Dec.{eqb, ltb}
 use lib.ListN.{length, replicate, length-append}
-use borrow.Author.Tests.{ltb-true, ltb-false, le-ltb, ne_eqb}
-use Rattle.axis_tables.specs.Lay.{pad}
+use borrow.Author.Tests.{ltb-false, le-ltb, ne_eqb}
 use Rattle.axis_tables.specs.Runs.{bytes_of}
-use Rattle.axis_tables.specs.View.{Sizes, Piece, name, track, Repeat, Item, single, repeat, Unended, none, inside, AxisView, tracks_in, tracks_of, components_of, NameRecord, name_of, names_of, axis_names, axis_bytes, with_template, more_pieces, repeat_kind, no_room, empty_axis, track_step, repeat_step, end_step, name_step, spare_step, item_step, extra_step, axis_step, accepted}
+use Rattle.axis_tables.specs.View.{Sizes, Item, repeat, Unended, none, inside, AxisView, tracks_in, tracks_of, components_of, NameRecord, name_of, names_of, with_template, repeat_kind, no_room, empty_axis, track_step, repeat_step, end_step, name_step, spare_step, item_step, extra_step, axis_step, accepted}
 use Rattle.axis_tables.specs.Store.{zero_state, zero_reading, put_single, put_repeated, put_track, open_repeat, close_repeat, put_name, put_spare, put_item, put_extra, put_axis}
-use Rattle.axis_tables.specs.Written.{record_word, regions_of, words_with, axis_words, names_store, state_of, reading_of, Held, held_of, of_answer, of_words, of_marks, of_names}
+use Rattle.axis_tables.specs.Written.{record_word, regions_of, words_with, axis_words, names_store, state_of, reading_of, held_of, of_answer, of_words, of_marks, of_names}
 use Rattle.axis_tables.proofs.Lays.{lay-none, pad-none}
 use Rattle.axis_tables.proofs.Runs.{bytes-more}
 use Rattle.axis_tables.proofs.Joins.{length_more}
 use Rattle.axis_tables.proofs.More
 use Rattle.axis_tables.proofs.Follow
 use Rattle.axis_tables.proofs.Rooms.{Room, room}
-use Rattle.axis_tables.proofs.Fits.{Fits, SmallRepeat, few-tracks}
+use Rattle.axis_tables.proofs.Fits.{Fits, few-tracks}
 
 pub positive : (n : ℕ) → 0 < n → eqb n 0 ≡ false
 positive zero h = absurd (omega arith)

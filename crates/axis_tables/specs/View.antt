@@ -1,5 +1,5 @@
 -- One axis of a panel as lists, in the words of document 01's panel sheet, and what each record does to it.
-use Rattle.std.specs.Prelude.{ℕ, ◌+◌, List, [], ◌∷◌, ◌++◌, map, Bool, true, false, cond, eqb, leb, ltb, length, set, replicate}
+use Rattle.std.specs.Prelude.{ℕ, ◌+◌, List, [], ◌∷◌, ◌++◌, map, Bool, true, cond, eqb, leb, ltb, length, set, replicate}
 use Rattle.sizing.specs.Words.{min_max_of}
 use Rattle.sizing.specs.declared.MinMax.{MinMax}
 use Rattle.template_rules.specs.declared.RepetitionCount.TheVariants.{Single}

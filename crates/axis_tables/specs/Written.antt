@@ -7,7 +7,7 @@ use Rattle.axis_tables.specs.declared.AxisReading.{AxisReading}
 use Rattle.axis_tables.specs.declared.AxisPut.{AxisPut}
 use Rattle.axis_tables.specs.Lay.{pad, Region, region, lay}
 use Rattle.axis_tables.specs.Runs.{words_from}
-use Rattle.axis_tables.specs.View.{Sizes, Piece, name, track, Repeat, Item, single, repeat, Unended, none, inside, AxisView, AxisOutcome, written, pieces_of, tracks_in, tracks_of, components_of, NameRecord, name_of, axis_names, axis_bytes}
+use Rattle.axis_tables.specs.View.{Sizes, name, track, Item, single, repeat, Unended, none, inside, AxisView, AxisOutcome, written, tracks_in, tracks_of, components_of, NameRecord, name_of, axis_names, axis_bytes}
 use Rattle.axis_tables.specs.Store.{component_word, name_word, zero_template, put, InWords, InMarks, InNames}
 
 -- the words of the components of items whose first track is number n

@@ -74,6 +74,7 @@ pub fn name_word(component: u32, place: u64, offset: u32, length: u64) -> u64
 }
 
 // A name's word taken apart. Any word gives a place.
+#[tactic(auto, unfolding(crate::specs::Reads::name_place))]
 pub fn name_place(word: u64) -> NamePlace
     ensures { result ≡ name_place word }
 {

@@ -1,4 +1,7 @@
 // The tables of one axis of a panel: a small state by value, and lent arrays of words, marks and name bytes.
+
+#![tactic(auto)]
+
 pub mod layout;
 pub mod name;
 pub mod state;
@@ -7,7 +10,7 @@ pub mod write;
 // The space of an axis, as its `axis` record says it: whether it has an inner size, the bits of that, rule 0 `max` or 1 `min`, the
 // gap's word.
 #[repr(C)]
-#[derive(Drop)]
+#[derive(Clone, Copy)]
 pub struct AxisSpace {
     pub definite: u32,
     pub inner: u32,
@@ -17,7 +20,7 @@ pub struct AxisSpace {
 
 // The components of a template, and their tracks.
 #[repr(C)]
-#[derive(Drop)]
+#[derive(Clone, Copy)]
 pub struct TemplateCounts {
     pub components: u32,
     pub tracks: u32,
@@ -25,7 +28,7 @@ pub struct TemplateCounts {
 
 // The implicit tracks before the grid, those after it, and the spare sizes that such tracks take.
 #[repr(C)]
-#[derive(Drop)]
+#[derive(Clone, Copy)]
 pub struct ImplicitCounts {
     pub negative: u32,
     pub positive: u32,
@@ -34,7 +37,7 @@ pub struct ImplicitCounts {
 
 // The explicit size of an axis.
 #[repr(C)]
-#[derive(Drop)]
+#[derive(Clone, Copy)]
 pub struct AxisSize {
     pub repetitions: u32,
     pub explicit: u32,
@@ -43,7 +46,7 @@ pub struct AxisSize {
 // What answers are read from on an axis, beside the tables: its space, the counts of its template and of its implicit tracks, how many
 // name entries there are, and its explicit size.
 #[repr(C)]
-#[derive(Drop)]
+#[derive(Clone, Copy)]
 pub struct AxisGrid {
     pub space: AxisSpace,
     pub template: TemplateCounts,
@@ -55,7 +58,7 @@ pub struct AxisGrid {
 // What only an edit reads of an axis: the template as it is written, how many `name` records there are, the bytes of the line-name
 // store that are used, and the tracks that areas span.
 #[repr(C)]
-#[derive(Drop)]
+#[derive(Clone, Copy)]
 pub struct AxisRoom {
     pub template: TemplateCounts,
     pub names: u32,
@@ -64,7 +67,7 @@ pub struct AxisRoom {
 }
 
 // An axis of a panel: what answers, and what edits.
-#[derive(Drop)]
+#[derive(Clone, Copy)]
 pub struct AxisState {
     pub grid: AxisGrid,
     pub room: AxisRoom,
@@ -72,7 +75,7 @@ pub struct AxisState {
 
 // What only reading needs: whether the `axis` record was seen, and the repeat that is open: kind 0 is none, 1 counted, 2 `fill`,
 // 3 `fit`; its number, the place of its first track and its tracks so far.
-#[derive(Drop)]
+#[derive(Clone, Copy)]
 pub struct AxisReading {
     pub seen: u32,
     pub kind: u32,
@@ -82,7 +85,7 @@ pub struct AxisReading {
 }
 
 // The answer of a record: its refusal's number, 0 where there is none, and the axis after it, on a refusal as it came.
-#[derive(Drop)]
+#[derive(Clone, Copy)]
 pub struct AxisPut {
     pub fault: u32,
     pub state: AxisState,
@@ -91,7 +94,7 @@ pub struct AxisPut {
 
 // Where a name stands and where its bytes lie: the component before or in which it stands, its place there (0 outside a repeat,
 // i + 1 after i of the repeat's tracks), and its part of the store.
-#[derive(Drop)]
+#[derive(Clone, Copy)]
 pub struct NamePlace {
     pub component: u32,
     pub place: u32,

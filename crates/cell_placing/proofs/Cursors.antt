@@ -1,24 +1,23 @@
 -- The cursors of sparse packing. Assumes nothing.
-use mathlib.Core.Path.{◌≡◌, refl, sym, ap, ◌∙◌}
+use mathlib.Core.Path.{◌≡◌, refl}
 use mathlib.Core.Bool.{Bool, true, false, cond}
 use mathlib.Core.List.{List}
 use mathlib.Core.Logic.{◌⊎◌, inl, inr, ⊎_elim}
-use Prim.Native.Nat.{ℕ, zero, suc, ◌+◌, ◌-◌, ◌≤◌, ◌<◌}
+use Prim.Native.Nat.{ℕ, suc, ◌+◌, ◌-◌, ◌≤◌, ◌<◌}
 use native.Mathlib.Omega.{arith}
 use native.Mathlib.Numerals.{add-one}
 use lib.Dec.{eqb, ltb}
 use lib.ListN.{length, get_or, set, take, drop}
 use lib.Seq.{sets, drop-cons}
 use borrow.Author.Tests.{eqb-true, eqb-false, ltb-true, ltb-false}
-use Rattle.free_cells.specs.declared.Rectangle.{Rectangle}
 use Rattle.free_cells.specs.declared.Place.{Place}
-use Rattle.free_cells.specs.Words.{rectangle_of, rectangle_in}
+use Rattle.free_cells.specs.Words.{rectangle_in}
 use Rattle.free_cells.specs.Free.{AtOrAfter, no_place_of}
 use Rattle.free_cells.proofs.Places.{order, same_row, row_from, rows_on, row_past}
 use Rattle.free_cells.proofs.Words.{rectangle_small}
 use Rattle.cell_placing.specs.declared.Packing.{Packing}
 use Rattle.cell_placing.specs.declared.Packing.TheVariants.{Sparse, Dense}
-use Rattle.cell_placing.specs.Items.{item_of, item_in, group_of}
+use Rattle.cell_placing.specs.Items.{item_in, group_of}
 use Rattle.cell_placing.specs.Css.{start_of}
 use Rattle.cell_placing.specs.Steps.{later_column, RowCursor, RestCursor, after, begins, start_row, CursorPlace}
 

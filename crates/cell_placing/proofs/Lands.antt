@@ -1,9 +1,9 @@
 -- The first rectangle that a search finds, as a word. Assumes nothing.
 use mathlib.Core.Path.{◌≡◌, refl, sym, ap, ◌∙◌}
-use mathlib.Core.Bool.{Bool, true, false, cond, ◌&&◌, false≢true}
+use mathlib.Core.Bool.{Bool, true, false, ◌&&◌, false≢true}
 use mathlib.Core.List.{List}
-use mathlib.Core.Logic.{◌⊎◌, inl, inr, ⊎_elim}
-use Prim.Native.Nat.{ℕ, zero, suc, ◌+◌, ◌≤◌, ◌<◌}
+use mathlib.Core.Logic.{⊎_elim}
+use Prim.Native.Nat.{ℕ, ◌+◌, ◌≤◌, ◌<◌}
 use native.Mathlib.Omega.{arith}
 use lib.Dec.{leb, ltb}
 use borrow.Author.Tests.{leb-true, ltb-true, le-leb, lt-ltb}
@@ -15,7 +15,7 @@ use Rattle.free_cells.specs.declared.Rectangle.{Rectangle}
 use Rattle.free_cells.specs.declared.Size.{Size}
 use Rattle.free_cells.specs.declared.Place.{Place}
 use Rattle.free_cells.specs.Words.{rectangle_of, rectangle_word}
-use Rattle.free_cells.specs.Free.{Clear, tracks_from, along, area_at, FreeLine, FirstOr0, first, nowhere, AtOrAfter, FreePlace, FirstPlace, earliest, no_place, last_row_line}
+use Rattle.free_cells.specs.Free.{tracks_from, along, area_at, FreeLine, FirstOr0, first, nowhere, AtOrAfter, FreePlace, FirstPlace, earliest, no_place, last_row_line}
 use Rattle.free_cells.proofs.Places.{order, row_from, row_past}
 use Rattle.free_cells.proofs.Words.{Small, rectangle_back}
 use Rattle.cell_placing.specs.declared.Item.{Item}

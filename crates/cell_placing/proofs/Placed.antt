@@ -2,20 +2,17 @@
 use mathlib.Core.Path.{◌≡◌, refl, sym, ap, ◌∙◌}
 use mathlib.Core.Bool.{Bool, true, false, cond, false≢true}
 use mathlib.Core.List.{List}
-use mathlib.Core.Logic.{◌⊎◌, inl, inr, ⊎_elim}
-use Prim.Native.Nat.{ℕ, zero, suc, ◌+◌, ◌*◌, ◌≤◌, ◌<◌, min}
+use mathlib.Core.Logic.{⊎_elim}
+use Prim.Native.Nat.{ℕ, zero, suc, ◌+◌, ◌*◌, ◌≤◌, ◌<◌}
 use native.Mathlib.Omega.{arith}
 use lib.ListN.{length, get_or, set, take, replicate, length-set, length-take, length-replicate, get_or-replicate}
 use lib.Seq.{sets, get_or-set_same, get_or-set_other, get_or-take}
-use Rattle.cell_sides.specs.declared.Side.{Side}
 use Rattle.free_cells.specs.declared.Rectangle.{Rectangle}
 use Rattle.free_cells.specs.Words.{lines_of, rectangle_of, rectangle_in}
-use Rattle.free_cells.specs.Free.{Overlap, AtOrAfter}
 use Rattle.free_cells.proofs.Places.{order}
 use Rattle.cell_placing.specs.declared.Item.{Item}
 use Rattle.cell_placing.specs.declared.Packing.{Packing}
 use Rattle.cell_placing.specs.declared.Packing.TheVariants.{Sparse, Dense}
-use Rattle.cell_placing.specs.declared.Outcome.{Outcome}
 use Rattle.cell_placing.specs.declared.Outcome.TheVariants as Came
 use Rattle.cell_placing.specs.Items.{is_lined, item_in, group_of}
 use Rattle.cell_placing.specs.Css.{turn, Earlier, Fits, start_of, Unoccupied, PastInRow, LastOfRest, PastCursor, Past, Candidate, First, Stuck, AllLand, FirstStuck, Answers}

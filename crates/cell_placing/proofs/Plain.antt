@@ -2,16 +2,16 @@
 use mathlib.Core.Path.{◌≡◌, refl, sym, ap, ◌∙◌}
 use mathlib.Core.Bool.{Bool, true, false, cond, not, ◌&&◌, ◌||◌, false≢true}
 use mathlib.Core.Logic.{◌⊎◌, inl, inr, ⊎_elim}
-use Prim.Native.Nat.{ℕ, zero, suc, ◌+◌, ◌-◌, ◌*◌, ◌%◌, ◌≤◌, ◌<◌}
+use Prim.Native.Nat.{ℕ, zero, suc, ◌+◌, ◌-◌, ◌%◌, ◌≤◌, ◌<◌}
 use native.Mathlib.Omega.{arith}
 use lib.Dec.{eqb, leb, ltb}
-use borrow.Author.Tests.{ltb-true, ltb-false, leb-true, eqb-true, eqb-false, lt-ltb, le-leb, eq-eqb, ne_eqb, not-true, not-false}
+use borrow.Author.Tests.{ltb-true, leb-true, eqb-true, eqb-false, lt-ltb, le-leb, eq-eqb, ne_eqb, not-true, not-false}
 use Rattle.cell_sides.specs.declared.Side.{Side}
 use Rattle.cell_sides.specs.declared.Side.TheVariants.{Outside, Free, Fixed}
 use Rattle.free_cells.specs.declared.Lines.{Lines}
 use Rattle.free_cells.specs.declared.Rectangle.{Rectangle}
 use Rattle.free_cells.specs.declared.Place.{Place}
-use Rattle.free_cells.specs.Free.{Overlap, tracks_from, Before, AtOrAfter, last_row_line}
+use Rattle.free_cells.specs.Free.{tracks_from, Before, AtOrAfter, last_row_line}
 use Rattle.free_cells.specs.Steps.{overlaps}
 use Rattle.free_cells.proofs.Cells.{overlaps_to, apart}
 use Rattle.free_cells.proofs.Places.{order}
@@ -19,7 +19,7 @@ use Rattle.cell_placing.specs.declared.Item.{Item}
 use Rattle.cell_placing.specs.declared.Packing.{Packing}
 use Rattle.cell_placing.specs.declared.Packing.TheVariants.{Sparse, Dense}
 use Rattle.cell_placing.specs.Items.{group_of}
-use Rattle.cell_placing.specs.Css.{turn, Earlier, Keeps, On, Fits, start_of, Unoccupied, PastInRow, LastOfRest, PastCursor, Past, Candidate, First, Stuck, AllLand, FirstStuck}
+use Rattle.cell_placing.specs.Css.{turn, Keeps, On, Fits, start_of, Unoccupied, PastInRow, LastOfRest, PastCursor, Past, Candidate, First, Stuck, AllLand, FirstStuck}
 use Rattle.cell_placing.specs.Steps.{is_on}
 use Rattle.cell_placing.specs.Plain as Plain
 use Rattle.cell_placing.specs.Plain.{all_below, implies, keeps, fits, before, first_from, tracks_in, first_start, starts, rectangle_at, column_in, first_row, Run, placing, stuck_at, nowhere, landed, place_one, after, up_to, plainly}

@@ -1,19 +1,16 @@
 -- Document 02, Req 10: there is one answer; and what it means for cells. Assumes nothing.
-use mathlib.Core.Path.{◌≡◌, refl, sym, ap, ◌∙◌}
-use mathlib.Core.Bool.{Bool, true, false}
+use mathlib.Core.Path.{◌≡◌, sym, ap, ◌∙◌}
 use mathlib.Core.List.{List}
-use mathlib.Core.Logic.{◌⊎◌, inl, inr, ⊎_elim}
-use Prim.Native.Nat.{ℕ, zero, suc, ◌+◌, ◌*◌, ◌≤◌, ◌<◌}
+use mathlib.Core.Logic.{⊎_elim}
+use Prim.Native.Nat.{ℕ, zero, suc, ◌+◌, ◌≤◌, ◌<◌}
 use native.Mathlib.Omega.{arith}
-use lib.ListN.{length}
-use lib.Seq.{sets}
 use Rattle.cell_sides.specs.declared.Side.{Side}
 use Rattle.cell_sides.specs.declared.Side.TheVariants.{Outside, Free, Fixed}
 use Rattle.free_cells.specs.declared.Lines.{Lines}
 use Rattle.free_cells.specs.declared.Rectangle.{Rectangle}
 use Rattle.free_cells.specs.declared.Place.{Place}
 use Rattle.free_cells.specs.Words.{rectangle_in}
-use Rattle.free_cells.specs.Free.{Overlap, Covers, AtOrAfter, last_row_line}
+use Rattle.free_cells.specs.Free.{Overlap, Covers, last_row_line}
 use Rattle.free_cells.proofs.Places.{order}
 use Rattle.free_cells.proofs.Unique.{same_start}
 use Rattle.cell_placing.specs.declared.Item.{Item}
@@ -21,9 +18,9 @@ use Rattle.cell_placing.specs.declared.Packing.{Packing}
 use Rattle.cell_placing.specs.declared.Outcome.{Outcome}
 use Rattle.cell_placing.specs.declared.Outcome.TheVariants as Came
 use Rattle.cell_placing.specs.Items.{group_of}
-use Rattle.cell_placing.specs.Css.{turn, Earlier, Keeps, On, Fits, start_of, Candidate, First, Stuck, AllLand, FirstStuck, Answers, placed, refused}
+use Rattle.cell_placing.specs.Css.{turn, Earlier, Keeps, On, start_of, First, AllLand, FirstStuck, Answers, placed, refused}
 use Rattle.cell_placing.proofs.Lands.{same_rectangle, same_lines}
-use Rattle.cell_placing.proofs.Placed.{candidate-same, first-same, stuck-same, one-turn}
+use Rattle.cell_placing.proofs.Placed.{first-same, stuck-same, one-turn}
 
 -- ---- a cell has one land
 

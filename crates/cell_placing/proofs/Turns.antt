@@ -1,11 +1,9 @@
 -- A cell's turn: what is placed before it, the cursor past which it is looked for, and where it lands. Assumes nothing.
 use mathlib.Core.Path.{◌≡◌, refl, sym, ap, ◌∙◌}
-use mathlib.Core.Bool.{Bool, true, false}
 use mathlib.Core.List.{List}
 use mathlib.Core.Logic.{◌⊎◌, inl, inr, ⊎_elim}
-use Prim.Native.Nat.{ℕ, zero, suc, ◌+◌, ◌*◌, ◌≤◌, ◌<◌, min}
+use Prim.Native.Nat.{ℕ, ◌≤◌, ◌<◌, min}
 use native.Mathlib.Omega.{arith}
-use lib.ListN.{length, get_or}
 use Rattle.coordinates.specs.declared.axis.Axis.TheVariants.{Column, Row}
 use Rattle.cell_sides.specs.declared.Side.{Side}
 use Rattle.cell_sides.specs.declared.Side.TheVariants.{Outside, Free, Fixed}
@@ -14,15 +12,15 @@ use Rattle.free_cells.specs.declared.Rectangle.{Rectangle}
 use Rattle.free_cells.specs.declared.Size.{Size}
 use Rattle.free_cells.specs.declared.Place.{Place}
 use Rattle.free_cells.specs.Words.{rectangle_of, rectangle_in}
-use Rattle.free_cells.specs.Free.{Overlap, Clear, AtOrAfter, no_place_of}
+use Rattle.free_cells.specs.Free.{Clear, AtOrAfter, no_place_of}
 use Rattle.free_cells.proofs.Cells.{none_at_0}
 use Rattle.free_cells.proofs.Places.{order}
 use Rattle.cell_placing.specs.declared.Item.{Item}
 use Rattle.cell_placing.specs.declared.Packing.{Packing}
 use Rattle.cell_placing.specs.declared.Packing.TheVariants.{Sparse, Dense}
 use Rattle.cell_placing.specs.Items.{item_in, group_of}
-use Rattle.cell_placing.specs.Css.{turn, Earlier, Fits, start_of, Unoccupied, PastInRow, LastOfRest, PastCursor, Past, Candidate, First, Stuck}
-use Rattle.cell_placing.specs.Steps.{item_along, start_along, Here, FirstLand, found, none, RowCursor, RestCursor, after, begins, CursorColumn, CursorPlace, start_row, Going, Ready, Landing, lands, sticks}
+use Rattle.cell_placing.specs.Css.{turn, Fits, start_of, Unoccupied, PastInRow, PastCursor, Past, Candidate}
+use Rattle.cell_placing.specs.Steps.{item_along, start_along, Here, FirstLand, found, none, RowCursor, RestCursor, after, begins, CursorColumn, CursorPlace, start_row, Ready, Landing, lands, sticks}
 use Rattle.cell_placing.proofs.Cursors.{start_row_to, start_row_from}
 
 -- ---- the groups

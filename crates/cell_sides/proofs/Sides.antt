@@ -4,13 +4,12 @@ use mathlib.Core.Bool.{Bool, true, false, cond}
 use mathlib.Core.Logic.{⊎_elim}
 use Prim.Native.Nat.{ℕ, zero, suc, ◌+◌, ◌-◌, ◌≤◌, ◌<◌, max}
 use native.Mathlib.Omega.{arith}
-use borrow.Author.Tests.{leb-true, leb-false, ltb-true, ltb-false, eqb-true, eqb-false, le-leb, lt-leb, lt-ltb, le-ltb, eq-eqb, ne_eqb}
-use lib.Dec.{eqb, leb, ltb, lt→ltb, ltb→lt}
+use borrow.Author.Tests.{leb-true, leb-false, ltb-true, ltb-false, eqb-true, eqb-false, le-ltb, ne_eqb}
+use lib.Dec.{eqb, leb, ltb, lt→ltb}
 use lib.IntN.{ℤ, pos, negsuc, ◌+ℤ◌, ◌-ℤ◌, nat_abs}
 use mir.Syntax.{w32}
 use mir.Val.{SFits, to_z, of_z}
 use mir.Facts.{to_z-of_z}
-use lib.Signed.{◌<ℤ◌}
 use Rattle.coordinates.proofs.Integers.{plus_before, plus_past, minus_at, minus_past, fits_pos_32}
 use Rattle.coordinates.proofs.Lines.{lt_or_ge}
 use Rattle.name_rules.specs.Css.{Resolved, free, at_line, spanning, ResolvedEnds}
@@ -18,9 +17,9 @@ use Rattle.name_rules.specs.CssOrder.{OrderedLines, in_order, swapped, one_track
 use Rattle.name_rules.proofs.CssOrder.{ordered_exist, ordered_unique}
 use Rattle.placement_hits.specs.Steps.{end_by}
 use Rattle.cell_sides.specs.Css.{End, auto, line, span, end_of, Extent, between, automatic, CssExtent, two_lines_lem, span_ahead, span_back, start_alone, end_alone, two_spans, start_span, end_span, nothing, Among, SideOf, inside, leaves, anywhere, CssSide}
-use Rattle.cell_sides.specs.Steps.{number_up_to, number_back, end_ahead, tracks_of, end_in, fixed_side, side_back, ordered_side, lines_side, from_line, from_span, from_auto, side_in}
+use Rattle.cell_sides.specs.Steps.{number_up_to, number_back, end_ahead, tracks_of, end_in, fixed_side, side_back, ordered_side, lines_side, side_in}
 use Rattle.cell_sides.specs.declared.Side.{Side}
-use Rattle.cell_sides.specs.declared.Side.TheVariants.{Outside, Free, Fixed}
+use Rattle.cell_sides.specs.declared.Side.TheVariants.{Outside, Fixed}
 use Rattle.cell_sides.specs.declared.CellEnd.{CellEnd}
 use Rattle.cell_sides.specs.declared.CellEnd.TheVariants.{Auto, Line, Span}
 

@@ -1,6 +1,6 @@
 -- The steps of the code: the number of a line, the end of a cell, and its side.
-use Rattle.std.specs.Prelude.{cond, ℕ, zero, suc, ◌+◌, ◌-◌, eqb, leb, ltb, ℤ, pos, negsuc}
-use Rattle.name_rules.specs.Css.{Resolved, free, at_line, spanning, ResolvedEnds}
+use Rattle.std.specs.Prelude.{cond, ℕ, ◌+◌, ◌-◌, eqb, leb, ltb, pos, negsuc}
+use Rattle.name_rules.specs.Css.{Resolved, free, at_line, spanning}
 use Rattle.cell_sides.specs.declared.Side.{Side}
 use Rattle.cell_sides.specs.declared.Side.TheVariants.{Outside, Free, Fixed}
 use Rattle.cell_sides.specs.declared.CellEnd.{CellEnd}

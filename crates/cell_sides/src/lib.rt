@@ -1,8 +1,11 @@
 // Document 02, Req 10: where a cell lies in one axis, from its settled ends (CSS Grid Level 1, 8.3.1); over line numbers alone.
+
+#![tactic(auto)]
+
 pub mod cell;
 
 // A cell in one axis: an edge leaves the lines, it has so many tracks and no line, or it lies between two lines.
-#[derive(Drop)]
+#[derive(Clone, Copy)]
 pub enum Side {
     Outside,
     Free(u32),
@@ -10,7 +13,7 @@ pub enum Side {
 }
 
 // A settled end: no line, the number of a line, 0 where it is not among the lines, or so many tracks.
-#[derive(Drop)]
+#[derive(Clone, Copy)]
 pub enum CellEnd {
     Auto,
     Line(u32),

@@ -2,7 +2,7 @@
 ghost use Rattle.std.specs.Prelude.{◌≡◌};
 ghost use Rattle.coordinates.specs.Axes.{axis_number, axis_of};
 
-#[derive(Drop)]
+#[derive(Clone, Copy)]
 pub enum Axis {
     Column,
     Row,

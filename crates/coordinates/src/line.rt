@@ -10,22 +10,22 @@ use crate::signed::Signed;
 use crate::{refusal, signed};
 
 // A grid line as CSS numbers them: 1 at the start edge, -1 at the end edge. There is no line 0.
-#[derive(Drop)]
+#[derive(Clone, Copy)]
 pub struct GridLine(pub i16);
 
 // An origin-zero line: 0 at the first explicit line.
-#[derive(Drop)]
+#[derive(Clone, Copy)]
 pub struct OriginZeroLine(pub i16);
 
 // An origin-zero line, or why there is none.
-#[derive(Drop)]
+#[derive(Clone, Copy)]
 pub struct OriginZeroAnswer {
     pub refusal: Refusal,
     pub line: OriginZeroLine,
 }
 
 // A grid line as an origin-zero line, or why there is none; and its mark: whether it was held at an end.
-#[derive(Drop)]
+#[derive(Clone, Copy)]
 pub struct ConvertedLine {
     pub refusal: Refusal,
     pub line: OriginZeroLine,
@@ -33,14 +33,14 @@ pub struct ConvertedLine {
 }
 
 // A grid line, or why there is none.
-#[derive(Drop)]
+#[derive(Clone, Copy)]
 pub struct GridLineAnswer {
     pub refusal: Refusal,
     pub line: GridLine,
 }
 
 // A number of tracks, or why there is none.
-#[derive(Drop)]
+#[derive(Clone, Copy)]
 pub struct CountAnswer {
     pub refusal: Refusal,
     pub count: u32,
@@ -132,6 +132,7 @@ fn past(l: u32, n: u32) -> u32
 
 impl GridLine {
     // The origin-zero line, held, with its mark. Refused: more than 10,000 explicit tracks (4), and then line 0 (9).
+    #[tactic(auto, unfolding(crate::specs::Answers::origin_zero_answer))]
     pub fn into_origin_zero_line(self, explicit: u16) -> ConvertedLine
         ensures { result ≡ origin_zero_answer explicit self.0 }
     {
@@ -162,6 +163,7 @@ impl OriginZeroLine {
     }
 
     // The grid line. Refused by 4: more than 10,000 explicit tracks, and a line outside -10,000..10,000.
+    #[tactic(auto, unfolding(crate::specs::Answers::grid_line_answer))]
     pub fn into_grid_line(self, explicit: u16) -> GridLineAnswer
         ensures { result ≡ grid_line_answer explicit self.0 }
     {
@@ -179,6 +181,7 @@ impl OriginZeroLine {
     }
 
     // The tracks there must be before the grid if an item starts at this line. Refused by 4: a line outside -10,000..10,000.
+    #[tactic(auto, unfolding(crate::specs::Answers::implied_negative_answer))]
     pub fn implied_negative_implicit_tracks(self) -> CountAnswer
         ensures { result ≡ implied_negative_answer self.0 }
     {
@@ -194,6 +197,7 @@ impl OriginZeroLine {
 
     // The tracks there must be after the grid if an item ends at this line. Refused by 4: more than 10,000 explicit tracks, and a
     // line outside -10,000..10,000.
+    #[tactic(auto, unfolding(crate::specs::Answers::implied_positive_answer))]
     pub fn implied_positive_implicit_tracks(self, explicit: u16) -> CountAnswer
         ensures { result ≡ implied_positive_answer explicit self.0 }
     {

@@ -34,7 +34,7 @@ pub const BROKEN: u32 = 14;
 pub const UNPLACED: u32 = 15;
 
 // A refusal: its number, 0 where nothing is refused, and its place, the sheet's line, 0 for a call without a sheet.
-#[derive(Drop)]
+#[derive(Clone, Copy)]
 pub struct Refusal {
     pub number: u32,
     pub line: u32,

@@ -1,4 +1,7 @@
 // Layer 3: the repetitions of an automatic repeat, and the explicit size of an axis.
+
+#![tactic(auto)]
+
 pub mod repeat;
 mod repetitions;
 pub mod size;

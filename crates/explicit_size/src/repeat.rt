@@ -16,7 +16,7 @@ use template_summary::summary::template_summary;
 
 // What of a template decides how often its automatic repeat is written out, whatever the inner size: the space of the first repetition with
 // the tracks outside it and the gaps, that of each further one, and the most repetitions.
-#[derive(Drop)]
+#[derive(Clone, Copy)]
 pub struct RepeatSpaces {
     pub first: f32,
     pub further: f32,
@@ -34,6 +34,7 @@ fn smaller(a: u32, b: u32) -> u32
 }
 
 // What is gathered of a whole template.
+#[tactic(auto, unfolding(crate::specs::Repeat::gathered_of))]
 fn gathered(components: &[u64], minimums: &[u64], maximums: &[u64], inner: f32) -> TemplateSummary
     ensures { (result ≡ gathered_of inner (template_of components.now minimums.now maximums.now)) × Gathered 64 result }
 {
@@ -48,6 +49,7 @@ fn asks(summary: TemplateSummary) -> bool
 }
 
 // The same of a template by its words.
+#[tactic(auto, unfolding(crate::specs::Repeat::repeats_automatically))]
 pub fn repeats_automatically(components: &[u64], minimums: &[u64], maximums: &[u64]) -> bool
     ensures { result ≡ repeats_automatically (template_of components.now minimums.now maximums.now) }
 {
@@ -55,6 +57,7 @@ pub fn repeats_automatically(components: &[u64], minimums: &[u64], maximums: &[u
 }
 
 // What decides the count, from what is gathered; zeros where there is no automatic repeat that counts.
+#[tactic(auto, unfolding(crate::specs::Steps::spaces_by))]
 fn spaces_by(summary: TemplateSummary, gap: f32) -> RepeatSpaces
     requires { Gathered 64 summary }
     ensures { result ≡ spaces_by summary gap }
@@ -87,6 +90,7 @@ pub fn repeat_spaces(
 }
 
 // The count at an inner size.
+#[tactic(auto, unfolding(crate::specs::Steps::count_by))]
 pub fn repetitions_in(spaces: RepeatSpaces, strategy: AutoRepeatStrategy, inner: f32) -> u32
     ensures { result ≡ count_by strategy inner spaces }
 {
@@ -98,6 +102,7 @@ pub fn repetitions_in(spaces: RepeatSpaces, strategy: AutoRepeatStrategy, inner:
 
 // How often the automatic repeat of a template is written out: 0 where the template counts as none, has no automatic repeat or has more than
 // 64 components. The tracks that it comes to refuse nothing here.
+#[tactic(auto, unfolding(crate::specs::Repeat::repetitions_in))]
 pub fn template_repetitions(
     components: &[u64],
     minimums: &[u64],

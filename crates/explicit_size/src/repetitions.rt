@@ -77,6 +77,7 @@ pub(crate) fn fit_in(strategy: AutoRepeatStrategy, inner: f32, first: f32, furth
 }
 
 // The repetitions that an inner size asks for.
+#[tactic(auto, unfolding(template_rules::specs::Repetitions::fitting_of))]
 fn repetitions_that_fit(
     strategy: AutoRepeatStrategy,
     inner: f32,
@@ -92,6 +93,7 @@ fn repetitions_that_fit(
 }
 
 // Held to the repetitions that begin within 10,000 tracks, and to 1; 0 where the tracks before the repeat fill the grid.
+#[tactic(auto, unfolding(template_rules::specs::Repetitions::held_of))]
 pub(crate) fn held_repetitions(before: u64, repeated: u64, repetitions: u64) -> u64
     requires { (0 < repeated) × (repeated ≤ 65535) }
     ensures { (result ≡ held_of before repeated repetitions) × (result ≤ 10000) }
@@ -110,6 +112,7 @@ pub(crate) fn held_repetitions(before: u64, repeated: u64, repetitions: u64) -> 
 }
 
 // The repetitions of a valid template with one automatic repeat: without an inner size, 1.
+#[tactic(auto, unfolding(template_rules::specs::Repetitions::repetitions_of))]
 pub(crate) fn automatic_repetitions(
     summary: TemplateSummary,
     inner: InnerSize,

@@ -21,6 +21,7 @@ pub(crate) fn is_valid(summary: TemplateSummary) -> bool
 }
 
 // The repetitions and tracks of a template; none where it is invalid.
+#[tactic(auto, unfolding(template_rules::specs::Explicit::template_size_of))]
 fn template_size(
     summary: TemplateSummary,
     inner: InnerSize,
@@ -72,6 +73,7 @@ fn refused_size(number: u32) -> ExplicitSize
 }
 
 // The explicit tracks of a template beside areas; above 10,000 they are refused.
+#[tactic(auto, unfolding(template_rules::specs::Explicit::with_areas))]
 fn size_with_areas(size: TemplateSize, areas: u32) -> ExplicitSize
     requires { size.repetitions ≤ 10000 }
     ensures { result ≡ with_areas areas size }
@@ -130,6 +132,7 @@ fn crowded_by(areas: u32) -> u32
 
 // The explicit size of an axis, from the words of its template and the tracks that its areas span. Refuses an inner size or a gap out of
 // range by 3, more than 10,000 tracks by 4, and more than 64 components by 8.
+#[tactic(auto, unfolding(template_rules::specs::Explicit::explicit_answer_of))]
 pub fn compute_explicit_grid_size_in_axis(
     components: &[u64],
     minimums: &[u64],

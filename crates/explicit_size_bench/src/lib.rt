@@ -1,4 +1,7 @@
 // The explicit size call by itself, for the bench to hold against the Rust's. No part of the library.
+
+#![tactic(auto)]
+
 ghost use Rattle.std.specs.Prelude.{◌≡◌};
 ghost use Rattle.sizing.specs.Words.{largest_bits, float_up_to, sizing_of};
 ghost use Rattle.template_rules.specs.Template.{template_of};
@@ -13,7 +16,7 @@ use template_rules::{AutoRepeatStrategy, InnerSize};
 
 // The answer as numbers: the refusal, 0 where there is none, the repetitions and the explicit count.
 #[repr(C)]
-#[derive(Drop)]
+#[derive(Clone, Copy)]
 pub struct SizeNumbers {
     pub number: u32,
     pub repetitions: u32,

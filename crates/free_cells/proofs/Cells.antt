@@ -1,9 +1,8 @@
 -- Rectangles that share a cell, and what a search may jump over. Assumes nothing.
-use mathlib.Core.Path.{◌≡◌, refl, sym, ap, ◌∙◌}
+use mathlib.Core.Path.{◌≡◌, refl, sym, ◌∙◌}
 use mathlib.Core.Bool.{Bool, true, false, cond, ◌&&◌, false≢true}
 use mathlib.Core.List.{List}
-use mathlib.Core.Logic.{◌⊎◌, inl, inr, ◌↔◌, ⊎_elim}
-use Prim.Native.Nat.{ℕ, zero, suc, ◌+◌, ◌-◌, ◌*◌, ◌/◌, ◌%◌, ◌≤◌, ◌<◌, min, max}
+use Prim.Native.Nat.{ℕ, ◌+◌, ◌≤◌, ◌<◌}
 use native.Mathlib.Omega.{arith}
 use native.Mathlib.Nat.{mod-lt}
 use lib.Dec.{leb, ltb}
@@ -12,10 +11,8 @@ use Rattle.coordinates.specs.declared.axis.Axis.{Axis}
 use Rattle.coordinates.specs.declared.axis.Axis.TheVariants.{Column, Row}
 use Rattle.free_cells.specs.declared.Lines.{Lines}
 use Rattle.free_cells.specs.declared.Rectangle.{Rectangle}
-use Rattle.free_cells.specs.declared.Size.{Size}
-use Rattle.free_cells.specs.declared.Place.{Place}
 use Rattle.free_cells.specs.Words.{lines_of, lines_word, rectangle_of, rectangle_in}
-use Rattle.free_cells.specs.Free.{Meet, Overlap, Covers, tracks_from, along, area_at, Clear, FirstInWay, FreeLine, FirstOr0, first, nowhere}
+use Rattle.free_cells.specs.Free.{Overlap, tracks_from, along, Clear, FirstInWay, FreeLine, FirstOr0, first, nowhere}
 use Rattle.free_cells.specs.Steps.{overlaps, end_along, NextEnd, nearer_end, at_least1}
 
 -- ---- the test

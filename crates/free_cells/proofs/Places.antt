@@ -1,17 +1,16 @@
 -- The first free place in row order: in a row, and past it. Assumes nothing.
-use mathlib.Core.Path.{◌≡◌, refl, sym, ap, ◌∙◌}
-use mathlib.Core.Bool.{Bool, true, false, cond}
+use mathlib.Core.Path.{◌≡◌, refl, sym, ap}
+use mathlib.Core.Bool.{Bool, true, false}
 use mathlib.Core.List.{List}
 use mathlib.Core.Logic.{◌⊎◌, inl, inr, ⊎_elim}
-use Prim.Native.Nat.{ℕ, zero, suc, ◌+◌, ◌-◌, ◌≤◌, ◌<◌}
+use Prim.Native.Nat.{ℕ, ◌+◌, ◌≤◌, ◌<◌}
 use native.Mathlib.Omega.{arith}
 use lib.Dec.{ltb}
 use borrow.Author.Tests.{ltb-true, ltb-false}
 use Rattle.coordinates.specs.declared.axis.Axis.TheVariants.{Column}
 use Rattle.free_cells.specs.declared.Size.{Size}
 use Rattle.free_cells.specs.declared.Place.{Place}
-use Rattle.free_cells.specs.Words.{rectangle_in}
-use Rattle.free_cells.specs.Free.{Overlap, tracks_from, area_at, Clear, FreeLine, FirstOr0, first, nowhere, Before, AtOrAfter, FreePlace, FirstPlace, earliest, no_place, no_place_of, last_row_line}
+use Rattle.free_cells.specs.Free.{tracks_from, area_at, Clear, FreeLine, FirstOr0, first, nowhere, Before, AtOrAfter, FreePlace, FirstPlace, earliest, no_place, no_place_of, last_row_line}
 use Rattle.free_cells.specs.Steps.{NextEnd, InRow, Below}
 
 -- ---- row order

@@ -1,13 +1,11 @@
 -- The first free line and the first free place are one; rectangles overlap where they share a cell. Assumes nothing.
-use mathlib.Core.Path.{◌≡◌, refl, sym, ap, ◌∙◌}
-use mathlib.Core.Bool.{Bool, true, false}
+use mathlib.Core.Path.{◌≡◌, sym, ap, ◌∙◌}
 use mathlib.Core.Logic.{◌⊎◌, inl, inr, ◌↔◌, ⊎_elim}
 use Prim.Native.Nat.{ℕ, ◌≤◌, ◌<◌, max}
 use native.Mathlib.Omega.{arith}
-use Rattle.free_cells.specs.declared.Lines.{Lines}
 use Rattle.free_cells.specs.declared.Rectangle.{Rectangle}
 use Rattle.free_cells.specs.declared.Place.{Place}
-use Rattle.free_cells.specs.Free.{Meet, Overlap, Covers, FirstOr0, first, nowhere, Before, AtOrAfter, FirstPlace, earliest, no_place}
+use Rattle.free_cells.specs.Free.{Overlap, Covers, FirstOr0, first, nowhere, AtOrAfter, FirstPlace, earliest, no_place}
 use Rattle.free_cells.proofs.Places.{order}
 
 -- ---- the first line

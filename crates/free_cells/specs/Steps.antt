@@ -2,7 +2,6 @@
 use Rattle.std.specs.Prelude.{ℕ, ◌+◌, ◌≤◌, ◌<◌, Bool, cond, ◌&&◌, List, leb, ltb}
 use Rattle.coordinates.specs.declared.axis.Axis.{Axis}
 use Rattle.coordinates.specs.declared.axis.Axis.TheVariants.{Column, Row}
-use Rattle.free_cells.specs.declared.Lines.{Lines}
 use Rattle.free_cells.specs.declared.Rectangle.{Rectangle}
 use Rattle.free_cells.specs.declared.Size.{Size}
 use Rattle.free_cells.specs.declared.Place.{Place}

@@ -1,32 +1,35 @@
 // Document 02, Req 10: the rectangles of cells that are placed, and the first place that is free beside them. They are kept as a list,
 // a word each, and not as a map of cells, since one may cover 10,000 times 10,000 of these: a search jumps past what is in its way.
+
+#![tactic(auto)]
+
 pub mod search;
 pub mod way;
 pub mod word;
 
 // Two lines of an axis, from 1: the tracks between them.
-#[derive(Drop)]
+#[derive(Clone, Copy)]
 pub struct Lines {
     pub start: u32,
     pub end: u32,
 }
 
 // A rectangle of cells.
-#[derive(Drop)]
+#[derive(Clone, Copy)]
 pub struct Rectangle {
     pub columns: Lines,
     pub rows: Lines,
 }
 
 // A size in tracks.
-#[derive(Drop)]
+#[derive(Clone, Copy)]
 pub struct Size {
     pub columns: u32,
     pub rows: u32,
 }
 
 // The place of a rectangle: the row and the column at which it starts.
-#[derive(Drop)]
+#[derive(Clone, Copy)]
 pub struct Place {
     pub row: u32,
     pub column: u32,

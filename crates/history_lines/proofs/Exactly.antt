@@ -1,5 +1,5 @@
 -- A line is found at a place exactly where its number, a tab, a text without a line feed and a line feed stand there. Assumes nothing.
-use Prim.Native.Nat.{ℕ, zero, suc, ◌+◌, ◌-◌, ◌≤◌, ◌<◌}
+use Prim.Native.Nat.{ℕ, suc, ◌+◌, ◌<◌}
 use mathlib.Core.Path.{◌≡◌, refl, sym, ap, ◌∙◌}
 use mathlib.Core.List.{List, [], ◌∷◌, ◌++◌, append_assoc}
 use mathlib.Core.Bool.{Bool, true, false, cond}
@@ -12,11 +12,9 @@ use borrow.Author.Tests.{eqb-true, eqb-false, eq-eqb, ne_eqb, ltb-true, lt-ltb}
 use Rattle.text.specs.Split.{before, same}
 use Rattle.text.specs.Places.{part_at}
 use Rattle.text.proofs.Cut.{Free}
-use Rattle.text.proofs.Laws.{before_le}
 use Rattle.text.proofs.Which.{same_equal, same_self}
 use Rattle.history_lines.specs.declared.After.{After}
 use Rattle.history_lines.specs.declared.After.TheVariants.{Nothing as Nothing-as-After, At}
-use Rattle.history_lines.specs.declared.Found.{Found}
 use Rattle.history_lines.specs.declared.Found.TheVariants.{Nothing, Line}
 use Rattle.history_lines.specs.declared.HistoryLine.{HistoryLine}
 use Rattle.history_lines.specs.Decimal.{decimal}

@@ -2,14 +2,12 @@
 use Prim.Native.Nat.{ℕ, zero, suc, ◌+◌, ◌≤◌}
 use mathlib.Core.Path.{◌≡◌, refl, sym, ap, ◌∙◌}
 use mathlib.Core.List.{List, [], ◌∷◌, ◌++◌, append_assoc, append-nil}
-use native.Mathlib.Numerals.{add-one}
 use native.Mathlib.Omega.{arith}
-use lib.ListN.{length, take, drop, length-append, length-drop}
+use lib.ListN.{length, take, drop, length-append}
 use lib.Seq.{sets-eq, take_at, drop_at, take-append_seam, length-take-le}
 use borrow.Author.Tests.{le-leb}
 use Rattle.text.specs.Places.{part_at}
 use Rattle.text.proofs.Cut.{Free, AllFree}
-use Rattle.history_lines.specs.declared.After.{After}
 use Rattle.history_lines.specs.declared.After.TheVariants.{Nothing as Nothing-as-After, At}
 use Rattle.history_lines.specs.declared.Found.{Found}
 use Rattle.history_lines.specs.declared.Found.TheVariants.{Nothing, Line}

@@ -1,4 +1,7 @@
 // The lines of a history, over bytes alone: each is a step's number, a tab, a text without a line feed, and a line feed.
+
+#![tactic(auto)]
+
 pub mod digits;
 pub mod find;
 pub mod write;
@@ -8,21 +11,21 @@ use text::Place;
 pub use write::{line_length, write_line};
 
 // A place after what was found or written.
-#[derive(Drop)]
+#[derive(Clone, Copy)]
 pub enum After {
     Nothing,
     At(usize),
 }
 
 // Where the text of a line lies, and where the line after it starts.
-#[derive(Drop)]
+#[derive(Clone, Copy)]
 pub struct HistoryLine {
     pub text: Place,
     pub after: usize,
 }
 
 // Whether a line stands at a place.
-#[derive(Drop)]
+#[derive(Clone, Copy)]
 pub enum Found {
     Nothing,
     Line(HistoryLine),

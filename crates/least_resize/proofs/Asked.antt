@@ -1,9 +1,9 @@
 -- An axis is answered its least resize where it can be asked, and is refused elsewhere; its count is CSS's at every size. Assumes nothing.
 use Prim.Native.Nat.{ℕ, ◌≤◌, ◌<◌}
 use mathlib.Core.Path.{◌≡◌, refl, sym, ap, ◌∙◌, subst}
-use mathlib.Core.Logic.{◌⊎◌, ⊎_elim}
+use mathlib.Core.Logic.{⊎_elim}
 use mathlib.Core.Bool.{Bool, true, false, cond, ◌&&◌, true≢false}
-use mathlib.Core.List.{List, Memᴰ}
+use mathlib.Core.List.{List}
 use native.Mathlib.Omega.{arith}
 use borrow.Author.Tests.{le-leb, leb-true, eq-eqb, eqb-true, eqb-false, ne_eqb}
 use lib.Dec.{eqb, leb}
@@ -18,7 +18,7 @@ use Rattle.template_rules.specs.Space.{whole32}
 use Rattle.template_rules.specs.Summary.{meaning_of, no_components}
 use Rattle.template_rules.specs.Repetitions.{repetitions_of}
 use Rattle.template_rules.specs.Explicit.{valid_of, template_size_of}
-use Rattle.template_rules.specs.Css.{Valid, Automatic, Repetitions}
+use Rattle.template_rules.specs.Css.{Valid, Repetitions}
 use Rattle.template_rules.specs.declared.InnerSize.TheVariants.{Definite}
 use Rattle.template_rules.specs.declared.AutoRepeatStrategy.{AutoRepeatStrategy}
 use Rattle.template_rules.specs.declared.TemplateSize.{TemplateSize}

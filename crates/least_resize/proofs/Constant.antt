@@ -1,6 +1,6 @@
 -- Without a percentage a template gathers the same at every inner size. Assumes nothing.
 use Prim.Native.Nat.{ℕ, zero, suc}
-use mathlib.Core.Path.{◌≡◌, refl, ap, ◌∙◌}
+use mathlib.Core.Path.{◌≡◌, refl, ap}
 use mathlib.Core.Bool.{Bool, true, false, cond, true≢false}
 use mathlib.Core.List.{List, [], ◌∷◌, map}
 use lib.Dec.{eqb, leb}
@@ -8,11 +8,11 @@ use lib.ListN.{length, get_or}
 use lib.Ieee.{Float}
 use Rattle.sizing.specs.Words.{zero32, sizing_of, sizing_of_kind, kind_of}
 use Rattle.sizing.specs.Sums.{sum_from}
-use Rattle.sizing.specs.Definite.{definite_of, or_zero, raised_or}
+use Rattle.sizing.specs.Definite.{definite_of}
 use Rattle.sizing.specs.declared.Sizing.{Sizing}
 use Rattle.sizing.specs.declared.Sizing.TheVariants.{Length, Percent, Fraction, Auto, MinContent, MaxContent, FitContentLength, FitContentPercent}
 use Rattle.sizing.specs.declared.MinMax.{MinMax}
-use Rattle.template_rules.specs.Template.{Component, component_of, track_at, tracks_from, with_tracks, template_of}
+use Rattle.template_rules.specs.Template.{Component, component_of, track_at, tracks_from, template_of}
 use Rattle.template_rules.specs.Counts.{is_automatic, automatic_tracks}
 use Rattle.template_rules.specs.Space.{track_space, repeated_space, repeated_track_space, single_space, counted_space, space_of, outside_space, repetition_space}
 use Rattle.template_rules.specs.Summary.{meaning_of, no_components}

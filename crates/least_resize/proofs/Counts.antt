@@ -1,9 +1,8 @@
 -- The steps of the search count as layer 3 does at each size, so they find what trying finds. Assumes nothing.
 use Prim.Native.Nat.{ℕ, zero, suc, ◌+◌, ◌-◌}
 use mathlib.Core.Path.{◌≡◌, refl, sym, ap, ◌∙◌, subst}
-use mathlib.Core.Bool.{Bool, true, false, cond, not, ◌&&◌, ◌||◌}
+use mathlib.Core.Bool.{Bool, true, false, cond, ◌||◌}
 use mathlib.Core.List.{List}
-use lib.Dec.{eqb, leb}
 use lib.Ieee.{Float}
 use Rattle.sizing.specs.Words.{zero32}
 use Rattle.sizing.specs.declared.Sizing.TheVariants.{Length}
@@ -16,10 +15,8 @@ use Rattle.template_rules.proofs.Tests.{or_parts}
 use Rattle.explicit_size.specs.Repeat.{gathered_of, repetitions_in}
 use Rattle.explicit_size.specs.Steps.{spaces_by, count_by}
 use Rattle.explicit_size.proofs.Counted.{counted-at}
-use Rattle.least_resize.specs.declared.Resize.{Resize}
 use Rattle.least_resize.specs.declared.search.SizedRepeat.{SizedRepeat}
-use Rattle.least_resize.specs.Resize.{largest_size}
-use Rattle.least_resize.specs.Search.{repetitions_at, differs_from, at_distance, or_else, search_from, least_resize}
+use Rattle.least_resize.specs.Search.{repetitions_at, differs_from, at_distance, search_from, least_resize}
 use Rattle.least_resize.specs.Percentages.{has_percentage}
 use Rattle.least_resize.specs.Steps.{repeat_of, count_in, differs_in}
 use Rattle.least_resize.proofs.Constant.{gathered-constant}

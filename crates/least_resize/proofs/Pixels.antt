@@ -1,5 +1,5 @@
 -- A whole size is found exactly where there is one. Assumes nothing.
-use Prim.Native.Nat.{ℕ, zero, suc, ◌+◌, ◌*◌, ◌/◌, ◌≤◌, ◌<◌, min}
+use Prim.Native.Nat.{ℕ, ◌*◌, ◌/◌, ◌≤◌, ◌<◌, min}
 use mathlib.Core.Path.{◌≡◌, refl, sym, ap, ◌∙◌, subst}
 use mathlib.Core.Logic.{◌↔◌}
 use mathlib.Core.Bool.{Bool, true, false, cond, ◌&&◌, true≢false}
@@ -7,11 +7,10 @@ use native.Mathlib.Nat.{div-lt_iff_lt-mul, mul-one, mul-div_cancel, mul_right_co
 use native.Mathlib.Omega.{arith}
 use borrow.Author.Tests.{le-leb, eqb-true, eq-eqb}
 use lib.IntN.{pos}
-use lib.Dec.{T, leb, eqb, leb→le, eqb_refl}
-use lib.Ieee.{Float, nan, inf, fin, up, down, binary32, eq, of_int, fits, of_bits}
+use lib.Dec.{T, leb, eqb, leb→le}
+use lib.Ieee.{Float, nan, inf, fin, up, down, binary32, eq, fits, of_bits}
 use lib.Ieee.Bits.{of_bits-fits}
-use lib.Ieee.Exact.{HasValue}
-use lib.Ieee.Fits.{down_pos, of_int-fits, and_l}
+use lib.Ieee.Fits.{down_pos, of_int-fits}
 use Rattle.sizing.specs.Ranges.{up_to, largest_length}
 use Rattle.sizing.specs.Words.{zero32, float_up_to, largest_bits}
 use Rattle.sizing.proofs.Rounding.{value_unique}
@@ -19,7 +18,6 @@ use Rattle.sizing.proofs.Ranges.{length_bits}
 use Rattle.template_rules.specs.Whole.{floor_of, largest_count}
 use Rattle.template_rules.specs.Space.{whole32}
 use Rattle.template_rules.proofs.WholeNumbers.{Is, count-is}
-use Rattle.least_resize.specs.declared.WholeSize.{WholeSize}
 use Rattle.least_resize.specs.declared.WholeSize.TheVariants.{Pixels, Broken}
 use Rattle.least_resize.specs.Whole.{IsPixels, whole_size_of}
 

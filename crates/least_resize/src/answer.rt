@@ -88,6 +88,7 @@ fn resize_by(
 
 // The least resize of an axis: from the words of its template, whether it has an inner size, the bits of that, the rule and the gap. 3: the
 // template counts as none or has no automatic repeat, there is no inner size, it is not whole, or the gap is no length.
+#[tactic(auto, unfolding(crate::specs::Answer::resize_answer))]
 pub fn resize_answer(
     components: &[u64],
     minimums: &[u64],

@@ -8,6 +8,7 @@ use sizing::word::{kind_of, sizing_of};
 const PERCENT: u32 = 1;
 
 // Whether one of these sizes, minimums or maximums, is a percentage.
+#[tactic(auto, unfolding(crate::specs::Percentages::has_percentage))]
 pub fn has_percentage(sizes: &[u64]) -> bool
     ensures { result ≡ has_percentage sizes.now }
 {

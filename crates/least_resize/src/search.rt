@@ -18,7 +18,7 @@ const LARGEST_SIZE: u32 = 65535;
 
 // An automatic repeat whose count is asked for at many sizes: which repetitions, the gap, whether its template has percentages, and what
 // decides the count, the same at every size where it has none.
-#[derive(Drop)]
+#[derive(Clone, Copy)]
 pub struct SizedRepeat {
     pub strategy: AutoRepeatStrategy,
     pub gap: f32,
@@ -48,6 +48,7 @@ fn repeat_of(
 }
 
 // The count at a size: the template is walked anew only where percentages stand in it.
+#[tactic(auto, unfolding(crate::specs::Steps::count_in))]
 fn count_at(
     components: &[u64],
     minimums: &[u64],
@@ -75,6 +76,7 @@ fn count_at(
 }
 
 // Whether the count at a size is another than the one now; past the largest size none is.
+#[tactic(auto, unfolding(crate::specs::Steps::differs_in))]
 fn differs_at(
     components: &[u64],
     minimums: &[u64],
@@ -92,6 +94,7 @@ fn differs_at(
 }
 
 // At a distance: the wider size where the count differs there, else the narrower one.
+#[tactic(auto, unfolding(crate::specs::Search::at_distance, crate::specs::Steps::differs_in))]
 fn nearest_at(
     components: &[u64],
     minimums: &[u64],

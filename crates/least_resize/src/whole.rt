@@ -8,6 +8,7 @@ use sizing::word::length_of;
 use template_rules::whole::floor_to_u32;
 
 // The whole size of the bits of an inner size, where it is one. Bits that are no length's are read as 0, as everywhere.
+#[tactic(auto, unfolding(crate::specs::Whole::whole_size_of))]
 pub fn whole_size(bits: u32) -> WholeSize
     ensures { result ≡ whole_size_of (float_up_to largest_bits bits) }
 {

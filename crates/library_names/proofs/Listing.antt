@@ -12,7 +12,6 @@ use Rattle.name_lists.specs.Lists.{lists, Written}
 use Rattle.name_lists.proofs.Counting.{few-lists}
 use Rattle.coordinates.specs.declared.axis.Axis.{Axis}
 use Rattle.axis_tables.specs.declared.AxisGrid.{AxisGrid}
-use Rattle.axis_tables.specs.Runs.{part_of}
 use Rattle.panel_tables.specs.Regions.{axis_words_in, first_word}
 use Rattle.panel_rules.specs.Calls.{entry_words_in}
 use Rattle.library_numbers.specs.declared.CountAnswer.{CountAnswer}

@@ -2,10 +2,9 @@
 use Prim.Native.Nat.{ℕ, ◌+◌, ◌/◌, ◌%◌, ◌≤◌, ◌<◌}
 use native.Mathlib.Omega.{arith}
 use native.Mathlib.Nat.{mod_self, mod-eq_of_lt, mod-add-mod}
-use mathlib.Core.Path.{◌≡◌, refl, sym, ap, ap₂, subst, ◌∙◌}
+use mathlib.Core.Path.{◌≡◌, sym, ap, ap₂, subst, ◌∙◌}
 use mathlib.Core.Bool.{Bool, true}
 use lib.Dec.{T}
-use lib.ListN.{get_or}
 use borrow.Author.Tests.{le-leb}
 use Rattle.sizing.specs.Words.{largest_bits, float_up_to, sizing_of_kind, sizing_of, size_word_of, kind_of, bits_of}
 use Rattle.sizing.specs.Ranges.{value_in_range}

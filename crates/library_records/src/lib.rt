@@ -1,4 +1,7 @@
 // A run of the records of an axis, written as numbers.
+
+#![tactic(auto)]
+
 ghost use Rattle.std.specs.Prelude.{◌≡◌, ◌+◌, ◌*◌, ◌≤◌, length};
 ghost use Rattle.std.proofs.lemmas.List.Edits.{sets};
 ghost use Rattle.track_rules.specs.Records.{tracks_in, records_in};
@@ -32,14 +35,14 @@ mod template;
 use edge::write_axis;
 
 // What all gutters share: the word of the gap, and one past the last open track.
-#[derive(Drop)]
+#[derive(Clone, Copy)]
 pub(crate) struct Gutters {
     pub gap: u64,
     pub opened: u64,
 }
 
 // A stretch of tracks or records to write: the first, how many, and the place of their words.
-#[derive(Drop)]
+#[derive(Clone, Copy)]
 pub(crate) struct Stretch {
     pub first: usize,
     pub count: usize,
@@ -47,7 +50,7 @@ pub(crate) struct Stretch {
 }
 
 // A track to write: its number, the place of its size in the tables, where it comes from, and whether `fit` writes it.
-#[derive(Drop)]
+#[derive(Clone, Copy)]
 pub(crate) struct PlacedTrack {
     pub number: u64,
     pub size: u64,
@@ -56,7 +59,7 @@ pub(crate) struct PlacedTrack {
 }
 
 // Tracks of the template to write next: those that repeat, how many of them, and where the template goes on.
-#[derive(Drop)]
+#[derive(Clone, Copy)]
 pub(crate) struct TemplatePart {
     pub repeated: Repeated,
     pub count: usize,

@@ -1,19 +1,17 @@
 -- Where a line lies, in the three sentences of document 02, and which axes have no definite size. Assumes nothing.
-use mathlib.Core.Path.{◌≡◌, refl, sym, ap, subst, ◌∙◌}
-use Prim.Native.Nat.{ℕ, zero, suc, ◌+◌, ◌-◌, ◌*◌, ◌/◌, ◌≤◌, ◌<◌, min}
+use mathlib.Core.Path.{◌≡◌, refl, ap, ◌∙◌}
+use Prim.Native.Nat.{ℕ, zero, suc, ◌+◌, ◌-◌, ◌*◌, ◌/◌, ◌<◌, min}
 use native.Mathlib.Omega.{arith}
 use mathlib.Core.Bool.{Bool, true, false, ◌&&◌, true≢false}
 use mathlib.Core.List.{List, [], ◌∷◌}
-use lib.ListN.{length, get_or, take}
-use lib.Ieee.{Float, binary32, add}
+use lib.ListN.{length, get_or}
 use Rattle.sizing.specs.declared.DefiniteSize.{DefiniteSize}
 use Rattle.sizing.specs.declared.DefiniteSize.TheVariants.{Definite, Indefinite}
-use Rattle.sizing.specs.Words.{zero32}
-use Rattle.sizing.specs.Definite.{is_definite, or_zero}
+use Rattle.sizing.specs.Definite.{is_definite}
 use Rattle.sizing.specs.Sums.{sum_from}
 use Rattle.template_rules.specs.declared.InnerSize.{InnerSize}
 use Rattle.track_rules.specs.declared.GridTrack.{GridTrack}
-use Rattle.line_positions.specs.Positions.{record_value_in, all_definite, start_of, tracks_among, position_of, LinesLie, SomeIndefinite}
+use Rattle.line_positions.specs.Positions.{record_value_in, all_definite, start_of, tracks_among, LinesLie, SomeIndefinite}
 use Rattle.line_positions.proofs.Walk.{start-next}
 
 -- the one formula is the three sentences

@@ -1,11 +1,10 @@
 -- Positions of lines are finite, and none is less than the one before. Assumes nothing.
 use mathlib.Core.Path.{◌≡◌, refl, sym, subst, ◌∙◌}
 use mathlib.Core.Logic.{⊎_elim}
-use Prim.Native.Nat.{ℕ, zero, suc, ◌+◌, ◌*◌, ◌/◌, ◌≤◌, ◌<◌, min}
-use native.Mathlib.Nat.{le_trans}
+use Prim.Native.Nat.{ℕ, zero, suc, ◌+◌, ◌*◌, ◌≤◌, ◌<◌, min}
 use native.Mathlib.Omega.{arith}
 use mathlib.Core.Bool.{Bool, true, false, cond}
-use mathlib.Core.List.{List, [], ◌∷◌, ◌++◌}
+use mathlib.Core.List.{List, [], ◌∷◌}
 use lib.Dec.{T, leb, leb→le}
 use lib.ListN.{length, get_or, take, length-take}
 use lib.Ieee.{Float, binary32, of_bits, le, fits}
@@ -13,10 +12,9 @@ use lib.Ieee.Bits.{of_bits-fits}
 use lib.Ieee.Fits.{cond-fits}
 use Rattle.sizing.specs.declared.Sizing.{Sizing}
 use Rattle.sizing.specs.declared.Sizing.TheVariants.{Length, Percent, Fraction, Auto, MinContent, MaxContent, FitContentLength, FitContentPercent}
-use Rattle.sizing.specs.declared.MinMax.{MinMax}
 use Rattle.sizing.specs.Words.{zero32, largest_bits, float_up_to}
 use Rattle.sizing.specs.Ranges.{up_to, largest_length, sizing_in_range}
-use Rattle.sizing.specs.Definite.{definite_of, raised_or, or_zero}
+use Rattle.sizing.specs.Definite.{definite_of, or_zero}
 use Rattle.sizing.specs.Sums.{sum_from}
 use Rattle.sizing.proofs.Operations.{nonneg, nonneg_of}
 use Rattle.sizing.proofs.Patterns.{bits_value}
@@ -28,7 +26,7 @@ use Rattle.template_rules.specs.declared.InnerSize.TheVariants as Inner
 use Rattle.track_rules.specs.declared.GridTrack.{GridTrack}
 use Rattle.track_rules.specs.Tracks.{zero_grid_track}
 use Rattle.track_rules.proofs.Lists.{lt_or_ge}
-use Rattle.line_positions.specs.Positions.{length_alone, definite_in, record_value_in, values_of, start_of, tracks_among, position_of, InnerInRange, SizesInRange, InRange}
+use Rattle.line_positions.specs.Positions.{length_alone, record_value_in, values_of, start_of, tracks_among, position_of, InnerInRange, SizesInRange, InRange}
 use Rattle.line_positions.proofs.Walk.{start-next}
 use Rattle.line_positions.proofs.Differences.{le_self, le_trans_nonneg}
 

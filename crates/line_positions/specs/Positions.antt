@@ -1,5 +1,5 @@
 -- Where the lines of an axis lie, in pixels (document 02, Req 01), over the records of the axis in order (SHEET.md, The cursor).
-use Rattle.std.specs.Prelude.{ℕ, zero, suc, ◌+◌, ◌*◌, ◌-◌, ◌/◌, ◌≤◌, ◌<◌, min, ◌≡◌, Bool, true, false, cond, ◌&&◌, List, [], ◌∷◌, map, T, length, get_or, take, Float}
+use Rattle.std.specs.Prelude.{ℕ, zero, suc, ◌+◌, ◌*◌, ◌-◌, ◌/◌, ◌≤◌, ◌<◌, min, ◌≡◌, Bool, true, cond, ◌&&◌, List, [], ◌∷◌, map, T, length, get_or, take, Float}
 use Rattle.std.specs.Float.{binary32}
 use Rattle.std.specs.Float.Ieee.{add, sub, lt, le}
 use Rattle.sizing.specs.declared.Sizing.{Sizing}

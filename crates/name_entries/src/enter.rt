@@ -5,6 +5,7 @@ ghost use Rattle.name_entries.specs.Enter.{entry_refusal};
 use crate::name::is_name;
 
 // The number of the refusal of an entry, 0 where there is none. `bytes` is the length of the store.
+#[tactic(auto, unfolding(crate::specs::Enter::entry_refusal))]
 pub fn entry_refusal(bytes: usize, count: u32, used: u32, line: u32, name: &[u8]) -> u32
     ensures { result ≡ entry_refusal bytes count used line name.now }
 {

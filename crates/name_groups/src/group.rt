@@ -7,7 +7,7 @@ use crate::key::{FEW_KEYS, Grouping, MANY_KEYS, joined_key};
 use name_lines::suffix::AreaEdge;
 
 // Where the entries of a group lie, and whether they list the lines of one name.
-#[derive(Drop)]
+#[derive(Clone, Copy)]
 pub struct Group {
     pub first: usize,
     pub end: usize,

@@ -1,5 +1,5 @@
 -- Document 01, layer 4: a name that ends in the bytes `-start` or `-end`.
-use Rattle.std.specs.Prelude.{ℕ, ◌-◌, Bool, cond, ◌&&◌, [], leb, length, take, drop}
+use Rattle.std.specs.Prelude.{◌-◌, Bool, cond, ◌&&◌, [], leb, length, take, drop}
 use Rattle.name_rules.specs.Css.{Bytes, Side, start, end, suffix}
 use Rattle.name_rules.specs.Rule.{eq_bytes}
 use Rattle.name_lines.specs.declared.suffix.AreaEdge.{AreaEdge}

@@ -9,7 +9,7 @@ use crate::GridAreaEnd;
 use name_entries::{bytes, entry};
 
 // The edge of an area that a name stands for.
-#[derive(Drop)]
+#[derive(Clone, Copy)]
 pub enum AreaEdge {
     Start,
     End,

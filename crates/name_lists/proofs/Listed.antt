@@ -1,15 +1,15 @@
 -- Of all lists one after the other, the words that are on an explicit line are the list of that line.
-use mathlib.Core.Path.{◌≡◌, refl, sym, ◌∙◌, ap}
+use mathlib.Core.Path.{◌≡◌, refl, ◌∙◌, ap}
 use mathlib.Core.Bool.{Bool, true, false, cond, not}
 use mathlib.Core.List.{List, [], ◌∷◌, ◌++◌, map, append-nil}
 use Prim.Native.Nat.{ℕ, zero, suc, ◌+◌, ◌-◌, ◌≤◌, ◌<◌, min}
 use native.Mathlib.Omega.{arith}
-use borrow.Author.Tests.{eq-eqb, ne_eqb, eqb-true, eqb-false}
+use borrow.Author.Tests.{ne_eqb, eqb-true, eqb-false}
 use lib.Dec.{eqb}
 use lib.ListN.{length}
 use Rattle.name_rules.specs.Rule.{any, written?}
 use Rattle.name_entries.specs.declared.NameEntry.{NameEntry}
-use Rattle.name_entries.specs.Entries.{entry_of, word_of, named_entry, entries_of}
+use Rattle.name_entries.specs.Entries.{entry_of, named_entry, entries_of}
 use Rattle.name_entries.specs.LineNames.{shows}
 use Rattle.name_entries.specs.LineEntries.{entries_after}
 use Rattle.name_entries.proofs.Booleans.{both}

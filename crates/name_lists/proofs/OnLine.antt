@@ -8,7 +8,6 @@ use lib.Dec.{eqb}
 use lib.ListN.{length}
 use Rattle.name_rules.specs.Css.{Bytes}
 use Rattle.name_rules.specs.Rule.{any, written?}
-use Rattle.name_entries.specs.declared.NameEntry.{NameEntry}
 use Rattle.name_entries.specs.Entries.{entry_of, named_entry, entries_of}
 use Rattle.name_entries.specs.LineNames.{shows}
 use Rattle.name_entries.specs.LineEntries.{entries_after, line_entries_of}

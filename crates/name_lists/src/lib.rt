@@ -1,4 +1,7 @@
 // Layer 4, all line names of an axis in one run: one list for each explicit line.
+
+#![tactic(auto)]
+
 ghost use Rattle.std.specs.Prelude.{◌≡◌, ◌≤◌, length};
 ghost use Rattle.name_lists.specs.Lists.{lists, line_names_refusal, line_names_listed, Written};
 
@@ -26,7 +29,7 @@ const MOST_TRACKS: u32 = 10000;
 const STORE_BYTES: usize = 32768;
 
 // How many names were written, or a refusal and 0.
-#[derive(Drop)]
+#[derive(Clone, Copy)]
 pub struct ListedNames {
     pub refusal: Refusal,
     pub count: u64,

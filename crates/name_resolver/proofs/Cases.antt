@@ -1,10 +1,10 @@
 -- Document 01's M8 to M11 on the lent words and bytes themselves: explicit 3, columns. Assumes nothing.
 use mathlib.Core.Path.{◌≡◌, refl}
-use mathlib.Core.List.{List, [], ◌∷◌}
-use Prim.Native.Nat.{ℕ, ◌+◌, ◌*◌}
-use lib.IntN.{ℤ, pos, negsuc}
+use mathlib.Core.List.{[], ◌∷◌}
+use Prim.Native.Nat.{◌+◌, ◌*◌}
+use lib.IntN.{pos, negsuc}
 use Rattle.coordinates.specs.Refusals.{no_refusal}
-use Rattle.coordinates.specs.declared.axis.Axis.TheVariants.{Column, Row}
+use Rattle.coordinates.specs.declared.axis.Axis.TheVariants.{Column}
 use Rattle.name_rules.specs.Css.{AxisNames}
 use Rattle.name_rules.specs.Rule.{named?, seek}
 use Rattle.name_entries.specs.Entries.{entry_of, entries_of, word_of}

@@ -5,7 +5,7 @@ use Prim.Native.Nat.{ℕ, zero, suc, ◌+◌, ◌-◌, ◌≤◌, ◌<◌}
 use native.Mathlib.Omega.{arith}
 use borrow.Author.Tests.{ne_eqb, ltb-true, ltb-false, lt-ltb}
 use lib.Dec.{eqb, ltb}
-use lib.IntN.{ℤ, pos}
+use lib.IntN.{pos}
 use Rattle.coordinates.specs.Signed.{HeldAs}
 use Rattle.coordinates.specs.declared.signed.Signed.TheVariants.{NonNegative}
 use Rattle.name_resolver.specs.Counts.{is_zero, index_count}

@@ -28,8 +28,6 @@ use Rattle.name_resolver.specs.declared.ResolvedEnd.{ResolvedEnd}
 use Rattle.name_resolver.specs.declared.Resolution.{Resolution}
 use Rattle.name_resolver.specs.declared.GridPlacement.{GridPlacement}
 use Rattle.name_resolver.specs.declared.GridPlacement.TheVariants as Written
-use Rattle.name_resolver.specs.declared.NonNamedGridPlacement.{NonNamedGridPlacement}
-use Rattle.name_resolver.specs.declared.NonNamedGridPlacement.TheVariants as Plain
 use Rattle.name_resolver.proofs.Integers.{grid_line_answer_lem, origin_zero_answer_lem, conversion_mark}
 use Rattle.name_resolver.proofs.Finding.{forwards_first, backwards-line}
 

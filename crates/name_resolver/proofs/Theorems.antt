@@ -5,8 +5,8 @@ use mathlib.Core.List.{List}
 use Prim.Native.Nat.{ℕ, ◌≤◌, ◌<◌}
 use borrow.Author.Tests.{le-leb, lt-leb}
 use lib.Dec.{leb}
-use Rattle.coordinates.specs.Refusals.{no_refusal, refusal_of, count}
-use Rattle.name_rules.specs.Css.{Side, start, end, AxisNames, Placement, Resolved, free, at_line, spanning, ResolvedEnds, CssEnds}
+use Rattle.coordinates.specs.Refusals.{no_refusal}
+use Rattle.name_rules.specs.Css.{start, end, AxisNames, Placement, Resolved, free, at_line, spanning, ResolvedEnds, CssEnds}
 use Rattle.name_rules.specs.CssMarks.{HeldEnds, CssMarks}
 use Rattle.name_rules.specs.Conditions.{UsedNamesLie, SameNames, AgreeOn}
 use Rattle.name_rules.specs.Rule.{named?, resolve, held_ends}

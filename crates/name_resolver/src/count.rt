@@ -11,7 +11,7 @@ use coordinates::{OriginZeroLine, signed};
 use name_lines::{Found, GridAreaEnd};
 
 // How the lines of a name are counted: on from a line or back from one, passing over so many.
-#[derive(Drop)]
+#[derive(Clone, Copy)]
 pub enum Count {
     Forwards(Signed, u32),
     Backwards(Signed, u32),

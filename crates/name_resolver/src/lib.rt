@@ -1,5 +1,8 @@
 // Layer 4, the resolver: which line a name stands for, and how an index or a span counts lines: where a count begins, which way it
 // goes, and the line that it comes to.
+
+#![tactic(auto)]
+
 pub mod ask;
 pub mod count;
 pub mod ends;
@@ -10,14 +13,14 @@ use name_lines::suffix::AreaEdge;
 use name_lines::{GridAreaEnd, Way};
 
 // Where a placement's name lies in the lent bytes of the placements' names.
-#[derive(Drop)]
+#[derive(Clone, Copy)]
 pub struct Name {
     pub offset: u32,
     pub length: u32,
 }
 
 // One end of a placement as written: auto, a line, a name with an index, a span, a span of a name.
-#[derive(Drop)]
+#[derive(Clone, Copy)]
 pub enum GridPlacement {
     Auto,
     Line(GridLine),
@@ -27,14 +30,14 @@ pub enum GridPlacement {
 }
 
 // A placement in one axis: start and end each hold their own kind.
-#[derive(Drop)]
+#[derive(Clone, Copy)]
 pub struct Line {
     pub start: GridPlacement,
     pub end: GridPlacement,
 }
 
 // One end of a placement with its names resolved.
-#[derive(Drop)]
+#[derive(Clone, Copy)]
 pub enum NonNamedGridPlacement {
     Auto,
     Line(GridLine),
@@ -42,28 +45,28 @@ pub enum NonNamedGridPlacement {
 }
 
 // A placement with its names resolved.
-#[derive(Drop)]
+#[derive(Clone, Copy)]
 pub struct ResolvedLine {
     pub start: NonNamedGridPlacement,
     pub end: NonNamedGridPlacement,
 }
 
 // The marks of a placement: for each end whether a step on the way to its line held it within -10,000..10,000.
-#[derive(Drop)]
+#[derive(Clone, Copy)]
 pub struct HeldEnds {
     pub start: bool,
     pub end: bool,
 }
 
 // One end with its name resolved, and its mark.
-#[derive(Drop)]
+#[derive(Clone, Copy)]
 pub struct ResolvedEnd {
     pub placement: NonNamedGridPlacement,
     pub held: bool,
 }
 
 // The answer of the resolver: a refusal, or the resolved placement and its marks.
-#[derive(Drop)]
+#[derive(Clone, Copy)]
 pub struct Resolution {
     pub refusal: Refusal,
     pub line: ResolvedLine,
@@ -71,7 +74,7 @@ pub struct Resolution {
 }
 
 // One end of a placement, and the grid line of the other, 0 where it has none, with that line's mark.
-#[derive(Drop)]
+#[derive(Clone, Copy)]
 pub struct End {
     pub placement: GridPlacement,
     pub side: GridAreaEnd,
@@ -81,7 +84,7 @@ pub struct End {
 
 // The line of a name that an end asks for: an edge of its area first, where no number is written; which way its lines are counted, from which line, and past how many; whether a
 // line before it was held.
-#[derive(Drop)]
+#[derive(Clone, Copy)]
 pub struct Question {
     pub name: Name,
     pub edge: AreaEdge,
@@ -92,7 +95,7 @@ pub struct Question {
 }
 
 // What an end says: it is resolved, or asks for a line.
-#[derive(Drop)]
+#[derive(Clone, Copy)]
 pub enum Asked {
     Resolved(ResolvedEnd),
     Line(Question),

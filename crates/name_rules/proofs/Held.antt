@@ -76,6 +76,14 @@ mark_unique x s (beside_line_lem nm n o l a has m p) (beside_line_lem k j u v b 
 mark_unique x s {b} (beside_line_lem nm n o l a has m p) (beside_none k j none) = absurd (no_line_lem x (other s) b none has)
 mark_unique x s {b} (beside_none nm n none) (beside_line_lem k j o l a has m p) = absurd (no_line_lem x (other s) b none has)
 mark_unique x s (beside_none nm n u) (beside_none k m v) = refl
+mark_unique x s {b = b} {k = k} of_auto (of_line _ _ n) = elim n [ ]
+mark_unique x s {b = b} {k = k} (of_span n) (of_line _ _ x9) = elim x9 [ ]
+mark_unique x s {b = b} {h = h} (of_line _ _ m) of_auto = elim m [ ]
+mark_unique x s {b = b} {h = h} (of_line _ _ m') (of_span m) = elim m' [ ]
+mark_unique x s {b = b} {h = h} (of_line _ _ m) (beside_line_lem k j u v a has' q r) = elim m [ ]
+mark_unique x s {b = b} {h = h} (of_line _ _ m) (beside_none k j none) = elim m [ ]
+mark_unique x s {b = b} {k = k} (beside_line_lem nm n o l a has m p) (of_line _ _ x11) = elim x11 [ ]
+mark_unique x s {b = b} {k = k} (beside_none nm n none) (of_line _ _ x12) = elim x12 [ ]
 
 pub marks_unique : (x : AxisNames) (p q : Placement) (h k : HeldEnds) → CssMarks x p q h → CssMarks x p q k → h ≡ k
 marks_unique x p q h k a b =

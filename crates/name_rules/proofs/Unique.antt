@@ -40,6 +40,9 @@ has_line_unique x s (by_name nm i l p) (by_name k j m q) = line_unique x nm s p 
 pub no_line_lem : (x : AxisNames) (s : Side) (p : Placement) {l : ℤ} → NoLine p → HasLine x s p l → ⊥
 no_line_lem x s (line g) n h = n
 no_line_lem x s (named nm i) n h = n
+no_line_lem x s Rattle.name_rules.specs.Css.auto {l = l} n h = elim h [ ]
+no_line_lem x s (Rattle.name_rules.specs.Css.span _) {l = l} n h = elim h [ ]
+no_line_lem x s (Rattle.name_rules.specs.Css.nspan _ _) {l = l} n h = elim h [ ]
 
 pub resolves_unique : (x : AxisNames) (s : Side) {b p : Placement} {r t : Resolved} → ResolvesTo x s b p r → ResolvesTo x s b p t → r ≡ t
 resolves_unique x s left_auto left_auto = refl

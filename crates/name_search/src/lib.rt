@@ -1,4 +1,7 @@
 // Layer 4, the n-th line that bears a name, on from a line or back from one (`nth_line_forwards`, `nth_line_backwards`).
+
+#![tactic(auto)]
+
 ghost use Rattle.name_lines.specs.Marks.{seek_of, start_of};
 ghost use Rattle.name_search.specs.Sought.{line_sought, marks_of};
 ghost use Rattle.std.specs.Prelude.{◌≡◌};
@@ -22,7 +25,7 @@ use name_lines::suffix::AreaEdge;
 use name_lines::{Found, Way};
 
 // What is sought: in an axis the name that is a stem followed by the suffix of an edge, from a line on or before it, after so many lines of it.
-#[derive(Drop)]
+#[derive(Clone, Copy)]
 pub struct Sought {
     pub axis: Axis,
     pub from: u32,

@@ -6,7 +6,7 @@ use crate::distance::{LAST_LINE, lower};
 use name_lines::Way;
 
 // The lines from `low` on before `end`.
-#[derive(Drop)]
+#[derive(Clone, Copy)]
 pub(crate) struct Window {
     pub low: u32,
     pub end: u32,

@@ -1,5 +1,5 @@
 -- Where the written entries lie, on a template within document 01's "Panel ranges".
-use Rattle.std.specs.Prelude.{ℕ, ◌+◌, ◌≤◌, ◌<◌, List, [], ◌∷◌, length}
+use Rattle.std.specs.Prelude.{ℕ, ◌+◌, ◌≤◌, ◌<◌, List, [], ◌∷◌}
 use Rattle.template_rules.specs.Template.{component_of}
 use Rattle.name_template.specs.Records.{record_of}
 use Rattle.name_entries.specs.declared.NameEntry.{NameEntry}

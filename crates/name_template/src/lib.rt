@@ -1,4 +1,7 @@
 // Layer 4, the template's names: the name records of a sheet written out as entries, once the repetitions are known.
+
+#![tactic(auto)]
+
 mod component;
 pub mod count;
 pub mod record;
@@ -9,7 +12,7 @@ use coordinates::Refusal;
 
 // A name record of a sheet: the component that it stands before (place 0), or in, after `place - 1` of its tracks,
 // and where the bytes of its name lie in the store.
-#[derive(Drop)]
+#[derive(Clone, Copy)]
 pub struct NameRecord {
     pub component: u64,
     pub place: u64,
@@ -19,7 +22,7 @@ pub struct NameRecord {
 
 // The names of a component: the records up to `before` stand before it, those from there to `inside` in it; these are written
 // `times` times, `tracks` lines apart. The next component begins on `line`.
-#[derive(Drop)]
+#[derive(Clone, Copy)]
 pub struct ComponentNames {
     pub before: usize,
     pub inside: usize,
@@ -29,7 +32,7 @@ pub struct ComponentNames {
 }
 
 // The answer of the writing out: its refusal, and how many entries were written.
-#[derive(Drop)]
+#[derive(Clone, Copy)]
 pub struct WrittenNames {
     pub refusal: Refusal,
     pub count: u32,

@@ -1,7 +1,6 @@
 -- The two lists with an axis as a number. Assumes nothing.
 use Prim.Native.Nat.{ℕ, ◌≤◌}
-use mathlib.Core.Path.{◌≡◌, ap, sym, ◌∙◌}
-use mathlib.Core.Bool.{cond}
+use mathlib.Core.Path.{◌≡◌, ap, ◌∙◌}
 use mathlib.Core.List.{List}
 use borrow.Author.Tests.{le-leb}
 use lib.IntN.{ℤ}
@@ -10,11 +9,9 @@ use Rattle.panel_tables.specs.declared.Grid.{Grid}
 use Rattle.coordinates.specs.Axes.{axis_of}
 use Rattle.library_numbers.specs.declared.CountAnswer.{CountAnswer}
 use Rattle.panel_hits.specs.declared.HitsAnswer.{HitsAnswer}
-use Rattle.panel_hits.specs.declared.Span.{Span}
-use Rattle.panel_hits.specs.declared.Around.{Around}
 use Rattle.panel_hits.specs.Settled.{Lent}
 use Rattle.panel_hits.specs.Lists.{WrittenHits, placements_within, placements_around}
-use Rattle.palgwern.specs.Hits.{ListedHits, listed_hits, hits_within, hits_around}
+use Rattle.palgwern.specs.Hits.{listed_hits, hits_within, hits_around}
 
 -- an answer as a count
 counted : (a : HitsAnswer) (hits : List ℕ) (r : CountAnswer) (w : WrittenHits) → r ≡ record { number = a.number; count = a.count } → record { answer = a; hits = hits } ≡ w

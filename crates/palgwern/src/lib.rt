@@ -1,4 +1,7 @@
 // The calls on a panel for programs in C and Rust: numbers, lent arrays and slices of numbers, and structs of numbers by value.
+
+#![tactic(auto)]
+
 mod sheets;
 
 ghost use Rattle.std.specs.Prelude.{◌≡◌};

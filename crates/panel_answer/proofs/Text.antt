@@ -1,7 +1,7 @@
 -- The text of an answer is that of its first line and then of the line after it, to the end.
-use Prim.Native.Nat.{ℕ, zero, suc, ◌+◌, ◌-◌, ◌≤◌, ◌<◌}
+use Prim.Native.Nat.{ℕ, suc, ◌+◌, ◌-◌, ◌≤◌}
 use mathlib.Core.Path.{◌≡◌, refl, sym, ap, ◌∙◌}
-use mathlib.Core.List.{List, [], ◌∷◌, ◌++◌}
+use mathlib.Core.List.{[], ◌∷◌, ◌++◌}
 use mathlib.Core.Bool.{Bool, true, false, cond}
 use native.Mathlib.Omega.{arith}
 use lib.Dec.{ltb}
@@ -9,17 +9,16 @@ use lib.ListN.{length, length-append}
 use borrow.Author.Tests.{ltb-true, ltb-false}
 use Rattle.coordinates.specs.declared.axis.Axis.{Axis}
 use Rattle.coordinates.specs.declared.axis.Axis.TheVariants.{Column, Row}
-use Rattle.track_rules.specs.Records.{records_in}
 use Rattle.panel_tables.specs.Axes.{grid_in}
-use Rattle.panel_rules.specs.Calls.{words_in, axis_tracks}
-use Rattle.panel_rules.specs.Runs.{names_of, marks_of}
-use Rattle.panel_calls.specs.Carried.{carried_to, carried_on}
+use Rattle.panel_rules.specs.Calls.{words_in}
+use Rattle.panel_rules.specs.Runs.{names_of}
+use Rattle.panel_calls.specs.Carried.{carried_on}
 use Rattle.panel_text.specs.Lines.{size_line, record_line, place_line, refused_line}
 use Rattle.track_rules.specs.declared.TrackWalk.{TrackWalk}
 use Rattle.panel_answer.specs.declared.AnswerLine.{AnswerLine}
 use Rattle.panel_answer.specs.declared.AnswerLine.TheVariants.{Refused, Size, Record, Place, End}
 use Rattle.panel_answer.specs.Answer.{GridHeld, record_count, answer_lines, text_of}
-use Rattle.panel_answer.specs.Walk.{line_text, line_after, following, place_from, record_from, after_axis}
+use Rattle.panel_answer.specs.Walk.{line_text, line_after, following, place_from, after_axis}
 use Rattle.panel_answer.specs.Text.{lines_from, text_from}
 use Rattle.panel_answer.proofs.Follows.{all_lines}
 

@@ -1,4 +1,7 @@
 // The answer to a sheet as the panel program prints it: columns, rows, then the placements, or why it is refused.
+
+#![tactic(auto)]
+
 mod axis;
 pub mod fill;
 pub mod line;
@@ -10,7 +13,7 @@ use track_rules::TrackWalk;
 
 // A line of an answer: a refusal; the size of an axis; a record of it, by its index and what is carried to it; a placement, by its
 // index; none.
-#[derive(Drop)]
+#[derive(Clone, Copy)]
 pub enum AnswerLine {
     Refused(Refusal),
     Size(Axis),
@@ -20,14 +23,14 @@ pub enum AnswerLine {
 }
 
 // A sheet that was read: what answers, zeros where it is refused, and the first line of its answer.
-#[derive(Drop)]
+#[derive(Clone, Copy)]
 pub struct Begun {
     pub grid: Grid,
     pub first: AnswerLine,
 }
 
 // What was written of an answer: how many bytes, and the line that is next.
-#[derive(Drop)]
+#[derive(Clone, Copy)]
 pub struct Filled {
     pub count: usize,
     pub next: AnswerLine,

@@ -1,4 +1,7 @@
 // The calls on a panel: each takes the panel by value and is lent the tables and stores that it reads or writes.
+
+#![tactic(auto)]
+
 pub mod axis_track;
 pub mod part;
 pub mod run;

@@ -1,5 +1,5 @@
 -- Areas that share a cell: the test, and the first pair. Assumes nothing.
-use Prim.Native.Nat.{ℕ, zero, suc, ◌+◌, ◌-◌, ◌≤◌, ◌<◌, max}
+use Prim.Native.Nat.{ℕ, zero, suc, ◌+◌, ◌-◌, ◌≤◌, ◌<◌}
 use mathlib.Core.Path.{◌≡◌, refl, sym, ap, ◌∙◌, subst}
 use mathlib.Core.List.{List, [], ◌∷◌, ◌++◌}
 use mathlib.Core.Bool.{Bool, true, false, cond, ◌&&◌, false≢true}
@@ -10,7 +10,7 @@ use lib.ListN.{length, get_or, length-append}
 use borrow.Author.Tests.{ltb-true, ltb-false, lt-ltb}
 use Rattle.panel_tables.specs.declared.AreaEdges.{AreaEdges}
 use Rattle.panel_tables.specs.View.{Area, no_area}
-use Rattle.panel_cells.specs.Cells.{Covers, ShareCell, area_number, SharedBy, Pair, NoPair, FirstPair, CellsOnce}
+use Rattle.panel_cells.specs.Cells.{ShareCell, area_number, SharedBy, Pair, NoPair, FirstPair, CellsOnce}
 use Rattle.panel_cells.specs.Steps.{meet, shares, sharing_from, first_sharing}
 
 -- ---- the test says whether a cell lies in both

@@ -2,14 +2,14 @@
 use Prim.Native.Nat.{ℕ, zero, suc, ◌+◌, ◌-◌, ◌≤◌, ◌<◌, min}
 use mathlib.Core.Path.{◌≡◌, refl, sym, ap, ◌∙◌}
 use mathlib.Core.List.{List, [], ◌∷◌}
-use mathlib.Core.Bool.{Bool, true, false, cond}
+use mathlib.Core.Bool.{true, false, cond}
 use native.Mathlib.Omega.{arith}
 use lib.ListN.{length, get_or, drop, drop_of_length-le}
 use Rattle.axis_tables.proofs.Runs.{All}
 use Rattle.panel_tables.specs.declared.AreaEdges.{AreaEdges}
 use Rattle.panel_tables.specs.View.{Area, no_area}
 use Rattle.panel_tables.specs.Areas.{area_at}
-use Rattle.panel_tables.specs.Written.{area_words, area_store}
+use Rattle.panel_tables.specs.Written.{area_words}
 use Rattle.panel_tables.proofs.Fits.{GoodArea}
 use Rattle.panel_tables.proofs.Back.{area-held}
 use Rattle.panel_cells.specs.Steps.{shares, sharing_from, first_sharing, sharing_in, first_sharing_in}

@@ -1,4 +1,7 @@
 // Cells that drawn areas share.
+
+#![tactic(auto)]
+
 ghost use Rattle.std.specs.Prelude.{◌≡◌, min};
 ghost use Rattle.panel_tables.specs.Areas.{edges_in};
 ghost use Rattle.panel_cells.specs.Steps.{meet, shares, first_sharing_in};

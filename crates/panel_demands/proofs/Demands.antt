@@ -1,21 +1,19 @@
 -- The three demands hold. Assumes nothing.
-use Prim.Native.Nat.{ℕ, zero, suc, ◌+◌, ◌*◌, ◌-◌, ◌≤◌, ◌<◌}
+use Prim.Native.Nat.{ℕ, zero, suc, ◌+◌, ◌*◌, ◌-◌, ◌≤◌}
 use mathlib.Core.Path.{◌≡◌, refl, sym, ap, ap₂, ◌∙◌, subst}
-use mathlib.Core.Logic.{◌⊎◌, inl, inr}
-use mathlib.Core.Bool.{Bool, true, false, cond}
+use mathlib.Core.Logic.{inl, inr}
+use mathlib.Core.Bool.{Bool, true, false}
 use mathlib.Core.List.Memᴰ
-use mathlib.Core.List.{List, [], ◌∷◌, ◌++◌, map}
+use mathlib.Core.List.{List, [], ◌++◌, map}
 use native.Mathlib.Omega.{arith}
-use borrow.Author.Tests.{eq-eqb, ne_eqb, eqb-true, eqb-false, leb-true, leb-false, ltb-true, ltb-false, le-leb, lt-leb, le-ltb, lt-ltb}
+use borrow.Author.Tests.{eq-eqb, ne_eqb, eqb-true, eqb-false, leb-true, leb-false, ltb-true, ltb-false}
 use lib.Dec.{eqb, leb, ltb}
 use lib.ListN.{length, get_or, length-append}
 use Rattle.coordinates.specs.declared.axis.Axis.{Axis}
-use Rattle.coordinates.specs.Refusals.{no_refusal, refusal_of, count, short}
-use Rattle.name_rules.specs.Css.{Bytes, Entry, AxisNames, ResolvedEnds, CssEnds}
-use Rattle.name_resolver.specs.Placements.{resolved_ends, resolution_of}
+use Rattle.coordinates.specs.Refusals.{no_refusal, refusal_of}
+use Rattle.name_rules.specs.Css.{Bytes, Entry, AxisNames}
 use Rattle.name_resolver.proofs.Theorems.{resolution-accepted, resolution-refused}
 use Rattle.track_rules.specs.declared.GridTrack.{GridTrack}
-use Rattle.track_rules.specs.declared.RecordAnswer.{RecordAnswer}
 use Rattle.track_rules.specs.Written.{written_out}
 use Rattle.track_rules.specs.Lines.{Stands}
 use Rattle.track_rules.specs.Tracks.{zero_grid_track}
@@ -29,7 +27,6 @@ use Rattle.panel_tables.specs.declared.Grid.{Grid}
 use Rattle.panel_tables.specs.declared.Panel.{Panel}
 use Rattle.panel_tables.specs.declared.PlacementPlace.{PlacementPlace}
 use Rattle.panel_tables.specs.View.{PanelView}
-use Rattle.panel_tables.specs.Axes.{view_in}
 use Rattle.panel_tables.specs.Placements.{placement_at as place_at}
 use Rattle.sheet_rules.specs.Sheet.{Outcome, counted, display_of, overlap_of, sheet_of, entries_of}
 use Rattle.sheet_rules.proofs.Chosen.{former_outcome, overlap-refused}
@@ -43,12 +40,11 @@ use Rattle.sheet_rules.proofs.Contents.{view_says}
 use Rattle.sheet_rules.proofs.Theorem.{Found, nowhere, found, sheet_found, refused_exactly}
 use Rattle.sheet_rules.proofs.Only.{some_number}
 use Rattle.panel_rules.specs.Calls.{NameTables, NamedWords, names_in, axis_tracks, short_names, enter_refusal, enter_name, track_record}
-use Rattle.panel_rules.specs.Placing.{line_placement, placed_by, resolve_placement}
-use Rattle.panel_rules.specs.Runs.{Call, Accepted, run_of, marks_of, size_of, placement_of, record_with, run_with}
+use Rattle.panel_rules.specs.Placing.{line_placement, resolve_placement}
+use Rattle.panel_rules.specs.Runs.{Call, Accepted, run_of, placement_of, record_with, run_with}
 use Rattle.panel_rules.specs.Views.{entry_name, bytes_after, entries_after, placement_at, placement_after, size_after, record_after, tracks_after}
-use Rattle.panel_rules.specs.Added.{sheet_axis, added, refusal_after}
+use Rattle.panel_rules.specs.Added.{sheet_axis, added}
 use Rattle.panel_rules.specs.Book.{CssTemplate, as_written, added_from, sheet_book, sheet_tracks, book, book_bytes, table_refusal, AllValid, AllCounted, RegularTemplate, Regular}
-use Rattle.panel_rules.specs.Ranges.{largest}
 use Rattle.panel_rules.proofs.Sheets.{read_overlap, accepted_sheet}
 use Rattle.panel_demands.proofs.Former.{former_number}
 use Rattle.panel_rules.proofs.Held.{run_refusal_lem}

@@ -16,12 +16,12 @@ use Rattle.sheet_forms.proofs.Firsts.{first_either, first_none}
 use Rattle.sheet_forms.proofs.Bounds.{Bounded}
 use Rattle.sheet_forms.proofs.Theorem.{record_bounded}
 use Rattle.panel_tables.specs.View.{PanelView, empty_view, accepted, refused}
-use Rattle.sheet_rules.specs.Lines.{late_at, record_step, twice_fault, stage_of, late_fault, record_fault, at_stage, record_outcome, line_step}
-use Rattle.sheet_rules.specs.Sheet.{end_fault, Outcome, outcome, ended, run, fold_of, broken_of, display_of}
+use Rattle.sheet_rules.specs.Lines.{late_at, record_step, twice_fault, stage_of, late_fault, record_fault, at_stage, line_step}
+use Rattle.sheet_rules.specs.Sheet.{end_fault, outcome, ended, run, fold_of, broken_of, display_of}
 use Rattle.sheet_rules.specs.Rows.{Row, unread, bad_name, bad_value, bad_count, bad_area, twice, late, crowded, overlap, unequal, broken, number_of, First}
 use Rattle.sheet_rules.proofs.Says.{Says, record_says}
 use Rattle.sheet_rules.proofs.Only.{Only, own_first}
-use Rattle.sheet_rules.proofs.LineRows.{late_yes, IsRecord, TwiceRow, LateRow, StepRow, twice-first, late-first, step-first}
+use Rattle.sheet_rules.proofs.LineRows.{late_yes, IsRecord, twice-first, late-first, step-first}
 use Rattle.sheet_rules.proofs.Theorem.{after_first}
 
 -- only row 12 has that number

@@ -1,6 +1,5 @@
 -- M1 to M12 hold, by computation. Assumes nothing.
 use mathlib.Core.Path.{◌≡◌, refl}
-use Prim.Native.Nat.{ℕ}
 use lib.Dec.{T}
 use lib.Ieee.{of_bits, to_bits, is_nan, add, sub, mul, div, lt, of_int}
 use lib.ListN.{length}

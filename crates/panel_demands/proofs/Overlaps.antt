@@ -2,20 +2,20 @@
 use Prim.Native.Nat.{ℕ}
 use mathlib.Core.Path.{◌≡◌, refl, sym, ap, ◌∙◌, subst}
 use mathlib.Core.List.{List}
-use mathlib.Core.Bool.{Bool, true, false, cond}
+use mathlib.Core.Bool.{Bool, true, false}
 use mathlib.Core.Logic.{◌⊎◌, inl, inr, ⊎_elim, ◌↔◌}
 use native.Mathlib.Omega.{arith}
 use lib.Dec.{eqb}
-use borrow.Author.Tests.{eq-eqb, ne_eqb, eqb-true, eqb-false}
+use borrow.Author.Tests.{eqb-true, eqb-false}
 use Rattle.coordinates.specs.declared.refusal.Refusal.{Refusal}
 use Rattle.coordinates.specs.Refusals.{no_refusal}
-use Rattle.panel_cells.specs.Cells.{NoPair, FirstPair, CellsOnce}
+use Rattle.panel_cells.specs.Cells.{FirstPair, CellsOnce}
 use Rattle.panel_cells.proofs.Pairs.{none_once}
 use Rattle.sheet_rules.specs.declared.Overlap.{Overlap}
 use Rattle.sheet_rules.specs.Sheet.{Outcome, display_of, no_overlap, overlap_of, sheet_of}
 use Rattle.sheet_rules.specs.Panels.{Tables}
 use Rattle.sheet_rules.specs.Overlaps.{PairAt}
-use Rattle.sheet_rules.specs.Read.{SheetRead, short_stores, read_by, refused_overlap, read_sheet, displayed, DisplayRead, read_display}
+use Rattle.sheet_rules.specs.Read.{SheetRead, short_stores, read_by, read_sheet, displayed, read_display}
 use Rattle.sheet_rules.proofs.Chosen.{accepted_former, none-overlap}
 use Rattle.sheet_rules.proofs.Overlaps.{refused_pair, none_noted, display_noted}
 use Rattle.panel_rules.specs.Runs.{Accepted}

@@ -283,11 +283,13 @@ module _ (x : PictureArea) where
   without : (l : List PictureArea) → Among x l → List PictureArea
   without (a ∷ l) (inl e) = l
   without (a ∷ l) (inr i) = a ∷ without l i
+  without [] x'' = elim x'' [ ]
 
   without-length : (l : List PictureArea) (i : Among x l) → length l ≡ suc (length (without l i))
   unfolding without
   without-length (a ∷ l) (inl e) = refl
   without-length (a ∷ l) (inr i) = ap suc (without-length l i)
+  without-length [] i = elim i [ ]
 
   without_other : (y : PictureArea) (l : List PictureArea) (i : Among x l) → Among y l → (y ≡ x) ⊎ Among y (without l i)
   unfolding without
@@ -295,6 +297,7 @@ module _ (x : PictureArea) where
   without_other y (a ∷ l) (inl e) (inr j) = inr j
   without_other y (a ∷ l) (inr i) (inl f) = inr (inl f)
   without_other y (a ∷ l) (inr i) (inr j) = ⊎_elim (λ e. inl e) (λ k. inr (inr k)) (without_other y l i j)
+  without_other y [] i _ = elim i [ ]
 
 -- an area of that name
 abbrev Named : Word → List PictureArea → Type 0

@@ -1,22 +1,22 @@
 -- The picture of every sheet that the display call accepts has rows of equal width and filled rectangles, which are its areas. Assumes nothing.
-use Prim.Native.Nat.{ℕ, zero, suc, ◌-◌, ◌≤◌, max}
-use mathlib.Core.Path.{◌≡◌, refl, sym, ap, ◌∙◌, subst}
+use Prim.Native.Nat.{ℕ, zero, suc, ◌-◌, max}
+use mathlib.Core.Path.{◌≡◌, sym, ap, ◌∙◌, subst}
 use mathlib.Core.List.{List, [], ◌∷◌, ◌++◌, map, append-nil}
-use mathlib.Core.Logic.{◌⊎◌, inl, inr, ⊎_elim}
+use mathlib.Core.Logic.{⊎_elim}
 use native.Mathlib.Nat.{le_of_suc-le-suc}
 use native.Mathlib.Omega.{arith}
 use lib.ListN.{length, get_or}
 use Rattle.coordinates.specs.declared.axis.Axis.{Axis}
-use Rattle.picture_rules.specs.Picture.{ElementAt, EqualWidth}
+use Rattle.picture_rules.specs.Picture.{ElementAt}
 use Rattle.picture_rules.specs.Steps.{taken_of}
 use Rattle.picture_rules.proofs.Theorem.{picture_exactly, picture_areas}
 use Rattle.axis_tables.proofs.Runs.{All}
 use Rattle.sheet_forms.specs.Forms.{area, row}
-use Rattle.panel_tables.specs.View.{Area, PanelView}
+use Rattle.panel_tables.specs.View.{PanelView}
 use Rattle.panel_tables.specs.Axes.{view_in}
 use Rattle.sheet_rules.specs.Contents.{Line, lines_of, lines_with, area_in, words_in, picture_in, drawn_in, PanelSays}
 use Rattle.sheet_rules.specs.Pictures.{areas_of}
-use Rattle.sheet_rules.specs.Sheet.{size_of, explicit_of, display_of, sheet_of}
+use Rattle.sheet_rules.specs.Sheet.{display_of, sheet_of}
 use Rattle.sheet_rules.specs.Panels.{Tables}
 use Rattle.sheet_rules.proofs.Chosen.{accepted_former}
 use Rattle.sheet_rules.proofs.Contents.{display_says, display_either}

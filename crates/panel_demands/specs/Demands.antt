@@ -1,19 +1,17 @@
 -- The three demands, stated on the definitions that the contracts of the calls cite. proofs/Demands.antt proves each of them.
 -- Every call ends on every input: each is a proved function without `requires`, and its contract names its answer for every state, table and store.
-use Rattle.std.specs.Prelude.{ℕ, suc, ◌+◌, ◌*◌, ◌-◌, ◌≤◌, ◌<◌, ◌≡◌, ◌⊎◌, Bool, true, false, length, get_or, take}
+use Rattle.std.specs.Prelude.{ℕ, suc, ◌+◌, ◌*◌, ◌-◌, ◌≤◌, ◌<◌, ◌≡◌, ◌⊎◌, true, false, length, get_or, take}
 use mathlib.Core.List.{List, [], map, Memᴰ}
 use Rattle.coordinates.specs.declared.axis.Axis.{Axis}
-use Rattle.coordinates.specs.declared.refusal.Refusal.{Refusal}
 use Rattle.coordinates.specs.Refusals.{no_refusal, refusal_of, count, short}
 use Rattle.sizing.specs.Words.{sizing_of}
 use Rattle.template_rules.specs.Template.{Component}
 use Rattle.template_rules.specs.Css.{Automatic, Valid, Repetitions}
-use Rattle.name_rules.specs.Css.{Bytes, start, end, Entry, AxisNames, ResolvedEnds, CssEnds}
+use Rattle.name_rules.specs.Css.{Bytes, start, end, ResolvedEnds, CssEnds}
 use Rattle.name_rules.specs.CssMarks.{HeldEnds, CssMarks}
 use Rattle.name_rules.specs.Conditions.{UsedNamesLie}
 use Rattle.name_resolver.specs.Placements.{held_marks}
 use Rattle.track_rules.specs.declared.GridTrack.{GridTrack}
-use Rattle.track_rules.specs.declared.WrittenTrack.{WrittenTrack}
 use Rattle.track_rules.specs.Tracks.{zero_grid_track, refused_record}
 use Rattle.track_rules.specs.Written.{written_out}
 use Rattle.track_rules.specs.Records.{tracks_in, records_in, no_track}
@@ -22,11 +20,10 @@ use Rattle.track_rules.specs.Lines.{Stands}
 use Rattle.track_run.specs.Run.{refused_fill, fill_answer_of, run_after}
 use Rattle.axis_tables.specs.declared.AxisGrid.{AxisGrid}
 use Rattle.axis_tables.specs.Runs.{bytes_of}
-use Rattle.axis_tables.specs.View.{AxisView, sizes_of, components_of, axis_bytes}
+use Rattle.axis_tables.specs.View.{sizes_of, components_of, axis_bytes}
 use Rattle.panel_tables.specs.declared.Grid.{Grid}
 use Rattle.panel_tables.specs.declared.Panel.{Panel}
-use Rattle.panel_tables.specs.View.{PanelView}
-use Rattle.panel_tables.specs.Axes.{grid_in, room_in, view_in}
+use Rattle.panel_tables.specs.Axes.{grid_in, room_in}
 use Rattle.panel_tables.specs.Placements.{placement_at as place_at}
 use Rattle.sheet_rules.specs.Sheet.{inner_of, strategy_of, counted, sheet_of}
 use Rattle.sheet_rules.specs.Valid.{ValidTemplate, CssCounted}
@@ -35,9 +32,9 @@ use Rattle.sheet_rules.specs.Overlaps.{PairAt}
 use Rattle.sheet_rules.specs.Contents.{lines_of, PanelSays}
 use Rattle.sheet_rules.specs.Panels.{Tables}
 use Rattle.sheet_rules.specs.Read.{short_stores, refused_sheet, refused_overlap, read_sheet}
-use Rattle.panel_rules.specs.Calls.{NameTables, NamedWords, book_in, names_in, words_in, store_in, template_in, spares_in, axis_tracks, short_names, enter_refusal, EnteredName, enter_name, track_record}
+use Rattle.panel_rules.specs.Calls.{NameTables, NamedWords, book_in, words_in, store_in, template_in, spares_in, axis_tracks, short_names, enter_refusal, enter_name, track_record}
 use Rattle.panel_rules.specs.Placing.{refused_placement, resolve_placement}
-use Rattle.panel_rules.specs.Runs.{Held, names_of, areas_of, Call, refusal_in, Accepted, sheet_held, run_of, size_of, placement_of, lists_of, name_of, record_with, run_with, fill_with, marks_of}
+use Rattle.panel_rules.specs.Runs.{names_of, Call, refusal_in, Accepted, run_of, size_of, placement_of, lists_of, name_of, record_with, run_with, fill_with, marks_of}
 use Rattle.panel_rules.specs.Views.{entry_name, entries_after, names_after, css_end, placement_at, answer_at, PlacedByCss, UncutUnmarked, placement_after, size_after, lists_after, name_after, record_after, tracks_after}
 use Rattle.panel_rules.specs.Added.{sheet_axis, added, refusal_after}
 use Rattle.panel_rules.specs.Book.{CssTemplate, as_written, book, book_names, book_bytes, table_refusal, sheet_tracks, AllValid, AllCounted, RegularTemplate, Regular}

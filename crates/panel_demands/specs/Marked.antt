@@ -1,5 +1,5 @@
 -- Document 01's edges, marked M1 to M12: one list, gathered from the layers, on the definitions that the contracts cite.
-use Rattle.std.specs.Prelude.{ℕ, Bool, true, false, ◌&&◌, List, [], ◌∷◌, ◌++◌, map, eqb, Float, take}
+use Rattle.std.specs.Prelude.{ℕ, Bool, true, false, ◌&&◌, List, [], ◌∷◌, ◌++◌, map, eqb, take}
 use Rattle.std.specs.Float.{binary32}
 use Rattle.std.specs.Float.Ieee.{of_bits}
 use Rattle.sizing.specs.Words.{kind_of, bits_of}
@@ -15,7 +15,6 @@ use Rattle.template_rules.specs.declared.AutoRepeatStrategy.TheVariants.{MaxRepe
 use Rattle.track_rules.specs.declared.GridTrack.{GridTrack}
 use Rattle.track_rules.specs.declared.GridTrackKind.{GridTrackKind}
 use Rattle.track_rules.specs.Numbers.{kind_number}
-use Rattle.track_rules.specs.declared.GridTrackKind.TheVariants.{Track, Gutter}
 use Rattle.track_rules.specs.declared.WrittenTrack.{WrittenTrack}
 use Rattle.track_rules.specs.Tracks.{gutter_of, track_of}
 use Rattle.track_rules.specs.Written.{written}

@@ -5,10 +5,10 @@ use Rattle.std.specs.Prelude.{ℕ, ◌≤◌, ◌≡◌, List, []}
 use Rattle.coordinates.specs.declared.axis.Axis.{Axis}
 use Rattle.picture_rules.specs.Picture.{EqualWidth, AllFilled, PictureArea, AreasOf}
 use Rattle.picture_areas.specs.Runs.{table_of}
-use Rattle.panel_tables.specs.View.{PanelView, Area}
+use Rattle.panel_tables.specs.View.{PanelView}
 use Rattle.panel_tables.specs.Axes.{view_in}
 use Rattle.sheet_rules.specs.Contents.{lines_of, picture_in, drawn_in}
-use Rattle.sheet_rules.specs.Sheet.{explicit_of, display_of}
+use Rattle.sheet_rules.specs.Sheet.{explicit_of}
 
 -- the areas of a view are those of its picture: "each name once", with its filled rectangle, "in order of first cell reading along rows"
 abbrev pub DrawnAreas : PanelView → Type 0

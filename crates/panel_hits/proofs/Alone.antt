@@ -1,27 +1,23 @@
 -- Lists of column placements don't turn on the rows. Assumes nothing.
 use Prim.Native.Nat.{ℕ, zero, suc, ◌+◌, ◌≤◌, ◌<◌, min}
 use mathlib.Core.Path.{◌≡◌, refl, sym, ap, ◌∙◌}
-use mathlib.Core.Bool.{Bool, true, false, cond, ◌&&◌}
-use mathlib.Core.List.{List, []}
+use mathlib.Core.Bool.{Bool, true, false, ◌&&◌}
 use native.Mathlib.Omega.{arith}
 use borrow.Author.Tests.{le-ltb}
-use lib.Dec.{eqb, ltb}
-use lib.IntN.{ℤ}
+use lib.Dec.{eqb}
 use Rattle.coordinates.specs.Refusals.{count}
 use Rattle.coordinates.specs.declared.axis.Axis.{Axis}
 use Rattle.coordinates.specs.declared.axis.Axis.TheVariants.{Column, Row}
 use Rattle.track_counts.specs.declared.counts.TrackCounts.{TrackCounts}
-use Rattle.name_resolver.specs.Placements.{resolved_ends}
 use Rattle.axis_tables.specs.declared.AxisState.{AxisState}
 use Rattle.panel_tables.specs.declared.Grid.{Grid}
 use Rattle.coordinates.specs.Axes.{axis_number}
 use Rattle.panel_rules.specs.declared.PlacementAnswer.{PlacementAnswer}
 use Rattle.panel_rules.specs.Calls.{axis_tracks}
 use Rattle.panel_rules.specs.Placing.{refused_placement, resolve_placement}
-use Rattle.panel_rules.specs.Alone.{Run, held_by, DifferInRows, SameColumns}
+use Rattle.panel_rules.specs.Alone.{Run, held_by, DifferInRows}
 use Rattle.panel_rules.proofs.ColumnsAlone.{columns_alone}
 use Rattle.panel_positions.specs.declared.LinesWithin.{LinesWithin}
-use Rattle.panel_positions.specs.Theorem.{SameCursor}
 use Rattle.panel_positions.proofs.Theorem.{columns-cursor}
 use Rattle.placement_hits.specs.Steps.{answers, occupied_of, place_of, passing}
 use Rattle.placement_hits.specs.declared.LinePlace.TheVariants.{Off, At}

@@ -1,6 +1,6 @@
 -- What the two calls answer, from what they find on the way. Assumes nothing.
-use Prim.Native.Nat.{ℕ, zero, suc, ◌≤◌, ◌<◌}
-use mathlib.Core.Path.{◌≡◌, refl, sym, ap, ◌∙◌}
+use Prim.Native.Nat.{ℕ, zero, suc, ◌≤◌}
+use mathlib.Core.Path.{◌≡◌, refl, ap}
 use mathlib.Core.Bool.{Bool, true, false, cond}
 use mathlib.Core.List.{List}
 use native.Mathlib.Omega.{arith}
@@ -9,7 +9,6 @@ use lib.Dec.{eqb, ltb}
 use lib.IntN.{ℤ, pos, negsuc}
 use Rattle.coordinates.specs.Refusals.{count, zero_line, short}
 use Rattle.panel_tables.specs.declared.Grid.{Grid}
-use Rattle.panel_rules.specs.Calls.{shorter_store}
 use Rattle.panel_positions.specs.Cursor.{lines_within}
 use Rattle.panel_positions.specs.declared.LinesWithin.{LinesWithin}
 use Rattle.placement_hits.specs.Steps.{Listed, listed_of, place_of}
@@ -19,7 +18,7 @@ use Rattle.panel_hits.specs.declared.Span.{Span}
 use Rattle.panel_hits.specs.declared.Around.{Around}
 use Rattle.panel_hits.specs.declared.HitsAnswer.{HitsAnswer}
 use Rattle.panel_hits.specs.Settled.{Lent, counts_in, settled_hits}
-use Rattle.panel_hits.specs.Lists.{lower, store_refusal, line_refusal, WrittenHits, hits_for, older_of, placements_within, placements_around}
+use Rattle.panel_hits.specs.Lists.{lower, store_refusal, line_refusal, hits_for, older_of, placements_within, placements_around}
 
 -- ---- refusals
 

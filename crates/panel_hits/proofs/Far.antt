@@ -1,15 +1,13 @@
 -- A panel holds 256 placements; what stands past them, which no sheet gives, has no lines. Assumes nothing.
-use Prim.Native.Nat.{ℕ, ◌≤◌, ◌<◌}
-use mathlib.Core.Path.{◌≡◌, refl, sym, ap, ◌∙◌}
+use Prim.Native.Nat.{ℕ, ◌≤◌}
+use mathlib.Core.Path.{◌≡◌, refl}
 use mathlib.Core.Bool.{Bool, true, false, cond}
 use mathlib.Core.List.{List}
-use native.Mathlib.Omega.{arith}
 use borrow.Author.Tests.{le-ltb}
 use lib.Dec.{eqb, leb, ltb}
-use lib.IntN.{ℤ}
 use Rattle.coordinates.specs.Refusals.{count, short}
 use Rattle.coordinates.specs.declared.axis.Axis.{Axis}
-use Rattle.name_rules.specs.Css.{AxisNames, free, at_line}
+use Rattle.name_rules.specs.Css.{AxisNames, free}
 use Rattle.name_resolver.specs.declared.GridPlacement.TheVariants.{Auto}
 use Rattle.name_resolver.specs.declared.Line.{Line}
 use Rattle.name_resolver.specs.declared.Resolution.{Resolution}

@@ -1,13 +1,12 @@
 -- A run of placements as numbers, read back: eight of them are what the placement is settled to. Assumes nothing.
 use Prim.Native.Nat.{ℕ, zero, suc, ◌+◌, ◌*◌, ◌-◌, ◌≤◌, ◌<◌, min}
-use mathlib.Core.Path.{◌≡◌, refl, sym, ap, ◌∙◌}
-use mathlib.Core.Bool.{Bool, true, false, cond, ◌&&◌}
-use mathlib.Core.List.{List, [], ◌∷◌, ◌++◌}
+use mathlib.Core.Path.{◌≡◌, refl, ap, ◌∙◌}
+use mathlib.Core.Bool.{Bool}
+use mathlib.Core.List.{List, ◌++◌}
 use native.Mathlib.Omega.{arith}
-use borrow.Author.Tests.{eq-eqb, lt-leb, le-ltb}
-use lib.Dec.{eqb}
+use borrow.Author.Tests.{lt-leb, le-ltb}
 use lib.IntN.{ℤ, pos}
-use lib.ListN.{length, get_or, take, drop, replicate, length-append, length-replicate, get_or-append}
+use lib.ListN.{length, get_or, drop, get_or-append}
 use lib.Seq.{sets, sets-eq, get_or-append-add}
 use mir.Syntax.{w32}
 use mir.Val.{to_z, of_z}
@@ -16,15 +15,14 @@ use Rattle.coordinates.specs.declared.axis.Axis.TheVariants.{Column, Row}
 use Rattle.track_counts.specs.declared.counts.TrackCounts.{TrackCounts}
 use Rattle.name_resolver.specs.declared.NonNamedGridPlacement.{NonNamedGridPlacement}
 use Rattle.name_resolver.specs.declared.NonNamedGridPlacement.TheVariants as Plain
-use Rattle.name_resolver.specs.Placements.{resolved_kind_of, resolved_number_of, resolved_of, resolved_ends}
+use Rattle.name_resolver.specs.Placements.{resolved_kind_of, resolved_number_of, resolved_of}
 use Rattle.panel_tables.specs.declared.Grid.{Grid}
 use Rattle.coordinates.specs.Axes.{axis_number}
 use Rattle.panel_rules.specs.declared.PlacementAnswer.{PlacementAnswer}
 use Rattle.panel_rules.specs.Calls.{shorter_store}
 use Rattle.library_numbers.specs.Answers.{placement_numbers}
 use Rattle.panel_resolving.specs.Placements.{WrittenNumbers, numbers_of, run_numbers, numbers_refusal, numbers_count, placements_written}
-use Rattle.placement_hits.specs.Steps.{number_at, end_by, ends_by, ends_at, same_number, answers, occupied_of, is_hit, passing, Listed, listed_of}
-use Rattle.placement_hits.specs.declared.Asked.{Asked}
+use Rattle.placement_hits.specs.Steps.{number_at, end_by, ends_at, is_hit, passing, Listed, listed_of}
 use Rattle.placement_hits.specs.declared.Question.{Question}
 use Rattle.panel_hits.specs.Settled.{Lent, settled, counts_in, settled_hit, settled_hits}
 

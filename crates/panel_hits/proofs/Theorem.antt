@@ -1,5 +1,5 @@
 -- What the two calls list is what document 02 words, in placement order and complete. Assumes nothing.
-use Prim.Native.Nat.{ℕ, zero, suc, ◌+◌, ◌≤◌, ◌<◌, min}
+use Prim.Native.Nat.{ℕ, zero, suc, ◌≤◌, ◌<◌, min}
 use mathlib.Core.Path.{◌≡◌, refl, sym, ap, ◌∙◌}
 use mathlib.Core.Bool.{Bool, true, false, cond, ◌&&◌}
 use mathlib.Core.List.{List}
@@ -14,7 +14,7 @@ use Rattle.coordinates.specs.declared.axis.Axis.{Axis}
 use Rattle.coordinates.specs.declared.axis.Axis.TheVariants.{Column, Row}
 use Rattle.coordinates.proofs.Lines.{lt_or_ge}
 use Rattle.track_counts.specs.Counts.{tracks_of}
-use Rattle.name_rules.specs.Css.{ResolvedEnds, Resolved, free, at_line}
+use Rattle.name_rules.specs.Css.{free, at_line}
 use Rattle.name_resolver.specs.Placements.{resolved_ends}
 use Rattle.panel_tables.specs.declared.Grid.{Grid}
 use Rattle.panel_tables.specs.Axes.{grid_in}
@@ -27,8 +27,8 @@ use Rattle.panel_positions.specs.Cursor.{records_on, pixels, cursor_refusal, lin
 use Rattle.panel_positions.specs.declared.LinesWithin.{LinesWithin}
 use Rattle.panel_positions.proofs.Carrying.{tracks-among}
 use Rattle.panel_positions.proofs.Theorem.{cursor-theorem}
-use Rattle.placement_hits.specs.Hits.{OnGrid, LinesInside, LineBetween, InOrder}
-use Rattle.placement_hits.specs.Steps.{answers, occupied_of, place_of, passing}
+use Rattle.placement_hits.specs.Hits.{OnGrid, InOrder}
+use Rattle.placement_hits.specs.Steps.{answers, occupied_of, place_of}
 use Rattle.placement_hits.specs.declared.Question.{Question}
 use Rattle.placement_hits.specs.declared.Question.TheVariants.{Within as WithinPlaces, Around as AroundPlace}
 use Rattle.placement_hits.proofs.Listing.{passing-in-order}

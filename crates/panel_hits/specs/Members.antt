@@ -1,7 +1,6 @@
 -- Which placements the two lists hold, in the words of document 02, Req 01.
 use Rattle.std.specs.Prelude.{◌≡◌, List, ℕ, length}
 use Rattle.std.proofs.lemmas.List.Edits.{sets}
-use Rattle.coordinates.specs.declared.axis.Axis.{Axis}
 use Rattle.name_resolver.specs.Placements.{resolved_ends}
 use Rattle.panel_tables.specs.declared.Grid.{Grid}
 use Rattle.panel_tables.specs.Axes.{grid_in}
@@ -13,7 +12,7 @@ use Rattle.placement_hits.specs.Hits.{LinesInside, LineBetween, InOrder}
 use Rattle.panel_hits.specs.declared.Span.{Span}
 use Rattle.panel_hits.specs.declared.Around.{Around}
 use Rattle.panel_hits.specs.Settled.{Lent, settled, counts_in}
-use Rattle.panel_hits.specs.Lists.{WrittenHits, placements_within, placements_around}
+use Rattle.panel_hits.specs.Lists.{placements_within, placements_around}
 
 -- the line at place k of an axis lies within the span, "ends included": at the f32 running sum of the records before it
 abbrev pub InsideSpan : Grid → List ℕ → List ℕ → Span → ℕ → Type 0

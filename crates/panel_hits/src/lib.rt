@@ -1,4 +1,7 @@
 // The placements of a panel under the cursor (document 02, Req 01): those within a span of pixels, and those around a line.
+
+#![tactic(auto)]
+
 ghost use Rattle.std.specs.Prelude.{◌≡◌};
 ghost use Rattle.panel_hits.specs.Settled.{lent_in};
 ghost use Rattle.panel_hits.specs.Lists.{WrittenHits, placements_within, placements_around};
@@ -16,7 +19,7 @@ use placement_hits::list::MOST_HITS;
 use placement_hits::place::line_place;
 
 // A span of pixels on an axis, by the bits of its ends.
-#[derive(Drop)]
+#[derive(Clone, Copy)]
 pub struct Span {
     pub axis: Axis,
     pub low: u32,
@@ -24,14 +27,14 @@ pub struct Span {
 }
 
 // A grid line of an axis.
-#[derive(Drop)]
+#[derive(Clone, Copy)]
 pub struct Around {
     pub axis: Axis,
     pub line: i32,
 }
 
 // How many placements are listed, or a refusal and 0.
-#[derive(Drop)]
+#[derive(Clone, Copy)]
 pub struct HitsAnswer {
     pub number: u32,
     pub count: u32,

@@ -1,7 +1,7 @@
 -- What an entry call answers and leaves, from what it computes. Assumes nothing.
-use Prim.Native.Nat.{ℕ, ◌+◌, ◌-◌, ◌≤◌, ◌<◌, min}
+use Prim.Native.Nat.{ℕ, ◌+◌, ◌-◌, ◌≤◌, ◌<◌}
 use native.Mathlib.Omega.{arith}
-use mathlib.Core.Path.{◌≡◌, refl, sym, ap, ap₂, ◌∙◌}
+use mathlib.Core.Path.{◌≡◌, ap, ap₂, ◌∙◌}
 use mathlib.Core.List.{List}
 use lib.ListN.{length, set}
 use lib.Seq.{sets}
@@ -20,7 +20,7 @@ use Rattle.axis_tables.proofs.Regions.{set-inside, set_before, set_after}
 use Rattle.panel_tables.specs.declared.Panel.{Panel}
 use Rattle.panel_tables.specs.Axes.{state_in, with_state}
 use Rattle.panel_tables.specs.Regions.{first_word, axis_words_in, area_words_in, placement_words_in}
-use Rattle.panel_rules.specs.Calls.{name_tables_in, entered_in, NameTables, EnteredName, shorter_store, store_in, words_in, enter_refusal, enter_name}
+use Rattle.panel_rules.specs.Calls.{name_tables_in, entered_in, NameTables, shorter_store, store_in, enter_refusal, enter_name}
 use Rattle.panel_names.specs.Entered.{Roomy, EnteredAxis, entered_on, entered_name}
 
 -- bytes that have room are written

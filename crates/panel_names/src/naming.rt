@@ -27,6 +27,7 @@ fn entry_on(grid: AxisGrid, words: &[u64], store: &[u8], line: u32, place: u32) 
 
 // The entry that shows a name of a line of an axis, by its place from 0. It is of no name where that line and place hold none, or a
 // store is below 32,768 bytes.
+#[tactic(auto, unfolding(crate::specs::LineEntries::line_entry_in))]
 pub fn line_entry(
     grid: Grid,
     words: &[u64; PANEL_WORDS],

@@ -1,5 +1,5 @@
 -- The records of an axis are in range, whatever its words hold. Assumes nothing.
-use Prim.Native.Nat.{ℕ, zero, suc, ◌+◌, ◌*◌, ◌-◌, ◌/◌, ◌%◌, ◌≤◌, ◌<◌}
+use Prim.Native.Nat.{ℕ, zero, suc, ◌+◌, ◌-◌, ◌/◌, ◌%◌, ◌<◌}
 use native.Mathlib.Omega.{arith}
 use mathlib.Core.Path.{◌≡◌, refl, sym, subst, ◌∙◌}
 use mathlib.Core.Bool.{Bool, true, false, cond, ◌||◌}
@@ -7,13 +7,12 @@ use mathlib.Core.List.{List, [], ◌∷◌, map}
 use lib.Dec.{T, eqb, leb, ltb}
 use lib.Ieee.{binary32, of_bits}
 use lib.ListN.{length, get_or}
-use Rattle.sizing.specs.declared.Sizing.{Sizing}
 use Rattle.sizing.specs.declared.MinMax.{MinMax}
-use Rattle.sizing.specs.Words.{zero32, sizing_of, float_up_to, largest_bits}
+use Rattle.sizing.specs.Words.{zero32, float_up_to, largest_bits}
 use Rattle.sizing.specs.Ranges.{up_to, largest_length, sizing_in_range}
 use Rattle.sizing.proofs.Words.{sizing_in_range_lem}
 use Rattle.sizing.proofs.Ranges.{length_bits}
-use Rattle.template_rules.specs.Template.{Component, component_of, tracks_from, template_of}
+use Rattle.template_rules.specs.Template.{component_of, tracks_from, template_of}
 use Rattle.template_rules.specs.declared.RepetitionCount.{RepetitionCount}
 use Rattle.template_rules.specs.declared.InnerSize.TheVariants as Inner
 use Rattle.track_rules.specs.declared.GridTrack.{GridTrack}
@@ -26,7 +25,7 @@ use Rattle.track_rules.specs.Tracks.{auto_size, gutter_of, track_of, zero_grid_t
 use Rattle.track_rules.specs.Written.{written, spares_of}
 use Rattle.track_rules.specs.Records.{item_at, records_in, negative_of, explicit_of, spare_at, negative_at, implicit, no_track, closed_by}
 use Rattle.track_rules.specs.Steps.{no_component, written_in, written_at, totals_of, track_with, cursor_at, plan_of, pair_with, record_with, record_of}
-use Rattle.track_rules.proofs.RecordList.{records-at, records-length}
+use Rattle.track_rules.proofs.RecordList.{records-at}
 use Rattle.axis_tables.specs.declared.AxisGrid.{AxisGrid}
 use Rattle.axis_tables.specs.declared.AxisSpace.{AxisSpace}
 use Rattle.axis_tables.specs.Runs.{part_of}

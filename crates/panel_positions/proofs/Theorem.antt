@@ -1,12 +1,12 @@
 -- What the answers of the cursor mean, and that those on the columns don't turn on the rows. Assumes nothing.
-use Prim.Native.Nat.{ℕ, zero, suc, ◌*◌, ◌+◌, ◌≤◌, ◌<◌}
+use Prim.Native.Nat.{ℕ, zero, suc, ◌≤◌, ◌<◌}
 use native.Mathlib.Omega.{arith}
 use mathlib.Core.Path.{◌≡◌, refl, sym, ap, ap₂, subst, ◌∙◌}
 use mathlib.Core.Logic.{⊎_elim}
-use mathlib.Core.Bool.{Bool, true, false, cond, not, ◌&&◌, true≢false}
-use mathlib.Core.List.{List, [], ◌++◌, append-nil}
+use mathlib.Core.Bool.{Bool, true, false, cond, not, ◌&&◌}
+use mathlib.Core.List.{List, ◌++◌, append-nil}
 use lib.Dec.{eqb, ltb}
-use lib.ListN.{length, drop, replicate, drop_of_length-le, length-replicate}
+use lib.ListN.{length, replicate, drop_of_length-le, length-replicate}
 use borrow.Author.Tests.{ne_eqb, lt-ltb}
 use Rattle.coordinates.specs.declared.axis.Axis.TheVariants.{Column}
 use Rattle.sizing.specs.Ranges.{length_in_range}
@@ -21,11 +21,11 @@ use Rattle.axis_tables.specs.declared.AxisGrid.{AxisGrid}
 use Rattle.axis_tables.specs.declared.AxisState.{AxisState}
 use Rattle.panel_tables.specs.Axes.{grid_in}
 use Rattle.panel_rules.specs.Calls.{axis_tracks, template_in, spares_in, words_in}
-use Rattle.panel_rules.specs.Runs.{Held, names_of, run_with}
-use Rattle.panel_rules.specs.Alone.{Run, held_by, DifferInRows, SameColumns}
+use Rattle.panel_rules.specs.Runs.{names_of}
+use Rattle.panel_rules.specs.Alone.{Run, held_by, DifferInRows}
 use Rattle.panel_rules.proofs.AxisBack.{state-unrefused}
 use Rattle.panel_rules.proofs.ColumnsAlone.{columns_alone}
-use Rattle.line_positions.specs.Positions.{all_definite, tracks_among, nearest_of, lines_before, lines_up_to, Nearest, Within, SomeIndefinite}
+use Rattle.line_positions.specs.Positions.{all_definite, nearest_of, lines_before, lines_up_to, SomeIndefinite}
 use Rattle.line_positions.proofs.Nearest.{nearest-least, nearest_unique}
 use Rattle.line_positions.proofs.Within.{within-interval}
 use Rattle.line_positions.proofs.Lines.{lines_lie, indefinite-exactly}
@@ -33,7 +33,7 @@ use Rattle.panel_positions.specs.declared.LineAnswer.{LineAnswer}
 use Rattle.panel_positions.specs.declared.LinesWithin.{LinesWithin}
 use Rattle.panel_positions.specs.Cursor.{records_on, pixels, forged, cursor_refusal, grid_line_at, line_for, lines_for, nearest_on, lines_on}
 use Rattle.panel_positions.specs.Steps.{older_refusal}
-use Rattle.panel_positions.specs.Theorem.{CursorTheorem, nearest_in, lines_in, SameCursor}
+use Rattle.panel_positions.specs.Theorem.{CursorTheorem, SameCursor}
 use Rattle.panel_positions.proofs.Answers.{older-first}
 use Rattle.panel_positions.proofs.Ranges.{axis_in_range}
 

@@ -1,11 +1,10 @@
 -- The cursor on the lines of a panel (document 02, Req 01; SHEET.md, The cursor), whatever the state, the tables and the item bytes hold.
-use Rattle.std.specs.Prelude.{ℕ, ◌≤◌, Bool, cond, not, ◌&&◌, ◌||◌, List, eqb, ltb, length, ℤ, pos, ◌-ℤ◌, Float}
+use Rattle.std.specs.Prelude.{ℕ, Bool, cond, not, ◌&&◌, ◌||◌, List, eqb, ltb, length, ℤ, pos, ◌-ℤ◌, Float}
 use Rattle.coordinates.specs.declared.axis.Axis.{Axis}
 use Rattle.coordinates.specs.Refusals.{value, count, short, indefinite}
 use Rattle.coordinates.specs.Lines.{to_grid_line}
 use Rattle.sizing.specs.Words.{largest_bits, float_up_to}
 use Rattle.sizing.specs.Ranges.{length_in_range}
-use Rattle.template_rules.specs.declared.InnerSize.{InnerSize}
 use Rattle.track_rules.specs.declared.GridTrack.{GridTrack}
 use Rattle.track_rules.specs.Records.{tracks_in, records_of}
 use Rattle.axis_tables.specs.declared.AxisGrid.{AxisGrid}

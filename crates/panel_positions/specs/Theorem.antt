@@ -1,11 +1,9 @@
 -- What the answers of the cursor mean (document 02, Req 01); proofs/Theorem.antt proves it of every axis.
-use Rattle.std.specs.Prelude.{ℕ, suc, ◌≤◌, ◌<◌, ◌≡◌, List, length}
+use Rattle.std.specs.Prelude.{ℕ, ◌≤◌, ◌<◌, ◌≡◌, List, length}
 use Rattle.coordinates.specs.Refusals.{indefinite}
 use Rattle.coordinates.specs.declared.axis.Axis.{Axis}
 use Rattle.coordinates.specs.declared.axis.Axis.TheVariants.{Column}
 use Rattle.sheet_end.specs.End.{inner_in}
-use Rattle.template_rules.specs.declared.InnerSize.{InnerSize}
-use Rattle.track_rules.specs.declared.GridTrack.{GridTrack}
 use Rattle.track_rules.specs.Tracks.{zero_grid_track}
 use Rattle.axis_tables.specs.declared.AxisGrid.{AxisGrid}
 use Rattle.panel_tables.specs.Axes.{grid_in}

@@ -1,4 +1,7 @@
 // The cursor on the lines of a panel: the nearest line, and the lines within a span of pixels.
+
+#![tactic(auto)]
+
 ghost use Rattle.std.specs.Prelude.{◌≡◌};
 ghost use Rattle.panel_positions.specs.Cursor.{nearest_line, lines_within, no_axis_positions};
 
@@ -12,14 +15,14 @@ use panel_tables::region::{PANEL_WORDS, axis_words};
 
 // A grid line, or a refusal and 0.
 #[repr(C)]
-#[derive(Drop)]
+#[derive(Clone, Copy)]
 pub struct LineAnswer {
     pub number: u32,
     pub line: i32,
 }
 
 // How many lines of an axis lie before a span, and how many up to its end; or a refusal and zeros.
-#[derive(Drop)]
+#[derive(Clone, Copy)]
 pub struct LinesWithin {
     pub number: u32,
     pub below: u32,
@@ -28,7 +31,7 @@ pub struct LinesWithin {
 
 // What is sought of the lines of an axis: the place of the nearest, from 0 on, how many lie before a span and how many up to its end;
 // or a refusal and zeros.
-#[derive(Drop)]
+#[derive(Clone, Copy)]
 pub(crate) struct Sought {
     pub number: u32,
     pub nearest: u32,

@@ -1,20 +1,39 @@
 // The panel program: reads a panel sheet from standard input and prints what it says, or why it is refused.
-ghost use Rattle.std.specs.Prelude.{◌≡◌, true};
+
+#![tactic(auto)]
+
+ghost use Rattle.std.specs.Prelude.{◌≡◌, ◌≤◌, length, true};
 ghost use Rattle.panel_answer.specs.Walk.{is_end};
 
 use axis_tables::layout::AXIS_BYTES;
-use libc::{STDIN_FILENO, STDOUT_FILENO};
 use panel_answer::AnswerLine;
 use panel_answer::fill::{begin_answer, fill};
 use panel_answer::line::is_end;
 use panel_tables::region::{PANEL_BYTES, PANEL_WORDS};
+use std::io;
+use std::io::{Read, Write};
 
 // One byte more than a sheet may have is enough to refuse it.
 const SHEET_ROOM: usize = 32769;
 
-// Prints the answer to a sheet, part after part of its text: the line that is left then, which is none.
-fn print_answer(sheet: &[u8]) -> AnswerLine
-    ensures { is_end result ≡ true }
+// Reads until the buffer is full, the input ends or a read fails: how many bytes stand at its start then, and whether no read failed.
+pub fn read_full<R: Read>(input: &mut R, buffer: &mut [u8]) -> (usize, io::Result<()>)
+    ensures { result.0 ≤ length buffer.new }
+{
+    let mut done: usize = 0;
+    while done < buffer.len() {
+        match input.read(&mut buffer[done..]) {
+            Ok(0) => return (done, Ok(())),
+            Ok(count) => done += count,
+            Err(failure) => return (done, Err(failure)),
+        }
+    }
+    (done, Ok(()))
+}
+
+// Prints the answer to a sheet, part after part of its text: the line that is left then, which is none, and whether no write failed.
+fn print_answer<W: Write>(output: &mut W, sheet: &[u8]) -> (AnswerLine, io::Result<()>)
+    ensures { is_end result.0 ≡ true }
 {
     let mut words = [0u64; PANEL_WORDS];
     let mut bytes = [0u8; PANEL_BYTES];
@@ -29,7 +48,8 @@ fn print_answer(sheet: &[u8]) -> AnswerLine
     );
     let grid = begun.grid;
     let mut next = begun.first;
-    let mut out = io::large_buffer();
+    let mut out = [0u8; 65536];
+    let mut written = Ok(());
     while !is_end(next) {
         let filled = fill(
             &mut out,
@@ -40,17 +60,19 @@ fn print_answer(sheet: &[u8]) -> AnswerLine
             &rowstore,
             next,
         );
-        io::write_all(STDOUT_FILENO, &out[..filled.count]);
+        written = written.and(output.write_all(&out[..filled.count]));
         next = filled.next;
     }
-    next
+    (next, written)
 }
 
-// Reads the sheet and prints its answer: whether no line of it is left. What C's `read` and `write` move is promised by no contract.
-pub fn answer_input() -> bool
-    ensures { result ≡ true }
+// Reads the sheet and prints its answer: whether no line of it is left, and the first failure of a read or a write where there is one.
+// What a reader gives and a writer takes is promised by no contract.
+pub fn answer_input<R: Read, W: Write>(input: &mut R, output: &mut W) -> (bool, io::Result<()>)
+    ensures { result.0 ≡ true }
 {
     let mut sheet = [0u8; SHEET_ROOM];
-    let length = io::read_full(STDIN_FILENO, &mut sheet);
-    is_end(print_answer(&sheet[..length]))
+    let (length, taken) = read_full(input, &mut sheet);
+    let (left, written) = print_answer(output, &sheet[..length]);
+    (is_end(left), taken.and(written))
 }

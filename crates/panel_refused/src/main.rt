@@ -1,4 +1,10 @@
 // The panel program on a sheet that is refused.
-fn main() {
-    panel_program::answer_input();
+
+#![tactic(auto)]
+
+use std::io;
+
+fn main(rt: HostRuntime) -> io::Result<()> {
+    let (_, done) = panel_program::answer_input(&mut rt.stdin(), &mut rt.stdout());
+    done
 }

@@ -1,5 +1,5 @@
 -- The least resize after an accepted sheet and any entry calls. Assumes nothing.
-use Prim.Native.Nat.{ℕ, ◌≤◌}
+use Prim.Native.Nat.{ℕ}
 use mathlib.Core.Path.{◌≡◌, refl, sym, ap, ◌∙◌, subst}
 use mathlib.Core.Bool.{Bool, cond}
 use mathlib.Core.List.Memᴰ
@@ -23,10 +23,9 @@ use Rattle.template_rules.specs.declared.TemplateSize.{TemplateSize}
 use Rattle.explicit_size.specs.Repeat.{gathered_of, repetitions_in}
 use Rattle.axis_tables.specs.declared.AxisSpace.{AxisSpace}
 use Rattle.axis_tables.specs.declared.AxisSize.{AxisSize}
-use Rattle.axis_tables.specs.View.{Item, AxisLine, AxisView, components_of}
+use Rattle.axis_tables.specs.View.{Item, AxisLine, components_of}
 use Rattle.panel_tables.specs.Axes.{grid_in}
-use Rattle.sheet_rules.specs.Sheet.{inner_of, strategy_of, counted, size_of as size_in}
-use Rattle.sheet_rules.specs.Valid.{ValidTemplate}
+use Rattle.sheet_rules.specs.Sheet.{inner_of, strategy_of, counted}
 use Rattle.sheet_rules.specs.Panels.{Tables, sized_state}
 use Rattle.sheet_rules.proofs.Counted.{counted_css}
 use Rattle.sheet_end.specs.End.{strategy_in}

@@ -1,4 +1,7 @@
 // The least resize of an axis of a panel: the call on what read_sheet gave.
+
+#![tactic(auto)]
+
 ghost use Rattle.std.specs.Prelude.{◌≡◌};
 ghost use Rattle.panel_resize.specs.Resize.{least_resize_in};
 

@@ -4,8 +4,8 @@ use mathlib.Core.Path.{◌≡◌, refl, sym, ap, ◌∙◌}
 use mathlib.Core.Bool.{Bool, true, false, cond, not}
 use mathlib.Core.List.{List, [], ◌∷◌, ◌++◌}
 use native.Mathlib.Omega.{arith}
-use borrow.Author.Tests.{eqb-true, lt-ltb, le-ltb}
-use lib.Dec.{eqb, ltb}
+use borrow.Author.Tests.{lt-ltb, le-ltb}
+use lib.Dec.{eqb}
 use lib.IntN.{ℤ}
 use lib.ListN.{length, set}
 use lib.Seq.{sets, set_comm}
@@ -19,8 +19,8 @@ use Rattle.panel_tables.specs.declared.Grid.{Grid}
 use Rattle.panel_tables.specs.declared.PlacementPlace.{PlacementPlace}
 use Rattle.coordinates.specs.Axes.{axis_number}
 use Rattle.panel_tables.specs.Placements.{placement_at}
-use Rattle.panel_rules.specs.Calls.{NameTables, NamedWords, entry_words_in, names_in, shorter_store, short_names}
-use Rattle.panel_rules.specs.Placing.{line_placement, placed_by, resolve_placement}
+use Rattle.panel_rules.specs.Calls.{NameTables, NamedWords, entry_words_in, names_in, shorter_store}
+use Rattle.panel_rules.specs.Placing.{resolve_placement}
 use Rattle.library_numbers.specs.declared.PlacementNumbers.{PlacementNumbers}
 use Rattle.library_numbers.specs.Answers.{placement_numbers}
 use Rattle.panel_resolving.specs.declared.write.Run.{Run}

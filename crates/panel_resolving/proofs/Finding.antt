@@ -5,9 +5,8 @@ use mathlib.Core.List.{List, ◌++◌}
 use Prim.Native.Nat.{ℕ, suc}
 use Rattle.name_rules.specs.Css.{Bytes, Side, start, end, suffix}
 use Rattle.name_rules.specs.Rule.{Seek, at, left}
-use Rattle.name_lines.specs.Areas.{sought_in, bears_in}
+use Rattle.name_lines.specs.Areas.{bears_in}
 use Rattle.name_lines.specs.Suffixes.{edge_of, stem_of, side_edge}
-use Rattle.name_lines.specs.declared.Way.TheVariants.{Up}
 use Rattle.name_lines.specs.declared.suffix.AreaEdge.{AreaEdge}
 use Rattle.name_lines.specs.declared.suffix.AreaEdge.TheVariants.{Start, End, Neither}
 use Rattle.name_lines.proofs.Suffixes.{never}

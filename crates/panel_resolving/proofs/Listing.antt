@@ -17,7 +17,7 @@ use Rattle.name_lines.specs.Marks.{walk, start_of}
 use Rattle.name_lines.specs.declared.Way.TheVariants.{Up, Down}
 use Rattle.name_lines.proofs.Suffixes.{never, both, eq_bytes_lem, and_no, and_yes}
 use Rattle.name_groups.specs.Listed.{listed_from, listed}
-use Rattle.panel_resolving.specs.Listing.{line_at, Ascends, LinesAscend, up_to, on_line, first_named}
+use Rattle.panel_resolving.specs.Listing.{line_at, LinesAscend, up_to, on_line, first_named}
 use Rattle.panel_resolving.proofs.Counting.{Marking, all-below}
 use Rattle.panel_resolving.proofs.Ascending.{forwards, backwards}
 use Rattle.panel_resolving.proofs.Places.{Ascending, count-parted}

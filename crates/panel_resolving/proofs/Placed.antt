@@ -1,6 +1,6 @@
 -- The answer for a placement. Assumes nothing.
 use Prim.Native.Nat.{ℕ, ◌<◌}
-use mathlib.Core.Path.{◌≡◌, sym, ap, ◌∙◌}
+use mathlib.Core.Path.{◌≡◌, ap, ◌∙◌}
 use mathlib.Core.Bool.{Bool}
 use borrow.Author.Tests.{lt-ltb}
 use Rattle.name_resolver.specs.declared.Line.{Line}

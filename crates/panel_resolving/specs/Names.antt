@@ -1,5 +1,5 @@
 -- The names of an axis as the index of a run keeps them (document 01, layer 4): a name's lines are those of its group's entries and of the drawn areas.
-use Rattle.std.specs.Prelude.{◌≡◌, Bool, cond, List, ℕ, leb}
+use Rattle.std.specs.Prelude.{Bool, cond, List, ℕ, leb}
 use Rattle.name_rules.specs.Css.{Bytes, Area}
 use Rattle.name_entries.specs.Entries.{entries_of}
 use Rattle.name_lines.specs.Areas.{areas_of, bears}

@@ -1,4 +1,7 @@
 // The placements of a panel with their names resolved: one, or a run of them.
+
+#![tactic(auto)]
+
 mod drawn;
 pub mod ends;
 mod find;
@@ -14,7 +17,7 @@ use coordinates::Axis;
 use name_groups::key::Grouping;
 
 // What a placement is resolved beside: the axis and its explicit count, how many areas are drawn, and how the name entries are kept.
-#[derive(Drop)]
+#[derive(Clone, Copy)]
 pub(crate) struct Around {
     pub axis: Axis,
     pub explicit: u32,

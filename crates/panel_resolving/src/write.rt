@@ -23,7 +23,7 @@ use panel_tables::placement::placement_at;
 use panel_tables::region::{PANEL_BYTES, PANEL_WORDS, placement_words};
 
 // The placements of an axis among `count` from `first` on, and what they are resolved beside.
-#[derive(Drop)]
+#[derive(Clone, Copy)]
 pub(crate) struct Run {
     pub around: Around,
     pub first: u32,

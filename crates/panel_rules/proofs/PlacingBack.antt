@@ -1,6 +1,6 @@
 -- A placement that the tables hold says what the sheet's line says. Assumes nothing.
 use Prim.Native.Nat.{ℕ, zero, suc, ◌≤◌, ◌<◌}
-use mathlib.Core.Path.{◌≡◌, refl, ap, ◌∙◌}
+use mathlib.Core.Path.{◌≡◌, refl, ap, ◌∙◌, sym, subst}
 use mathlib.Core.List.{List, [], ◌∷◌}
 use native.Mathlib.Omega.{arith}
 use lib.ListN.{length, get_or}
@@ -33,7 +33,7 @@ end_says bytes e = go e.end.kind
 
 -- the same, read as the end x
 end_reads : (bytes : List ℕ) (e : EndPlace) (x : End) → end_in bytes e ≡ x → EndRange x → placement_of bytes (end_placement e) ≡ css_end x
-end_reads bytes e x q r = end_says bytes e (rw q r) ∙ ap css_end q
+end_reads bytes e x q r = end_says bytes e (subst (λ (y : End). EndRange y) (sym q) r) ∙ ap css_end q
 
 -- ---- a placement of the table
 -- each placement's numbers are in their ranges

@@ -1,32 +1,30 @@
 -- What is written reads back: the areas, whether a name is an area's, and the placements. Assumes nothing.
 use Prim.Native.Nat.{ℕ, zero, suc, ◌+◌, ◌-◌, ◌*◌, ◌/◌, ◌%◌, ◌≤◌, ◌<◌, min}
 use mathlib.Core.Path.{◌≡◌, refl, sym, ap, ◌∙◌}
-use mathlib.Core.List.{List, [], ◌∷◌, ◌++◌, map}
+use mathlib.Core.List.{List, [], ◌∷◌, ◌++◌}
 use mathlib.Core.Bool.{Bool, true, false, cond}
 use native.Mathlib.Omega.{arith}
-use lib.Dec.{eqb, leb, ltb}
+use lib.Dec.{leb, ltb}
 use lib.IntN.{ℤ, pos, negsuc}
-use lib.ListN.{length, get_or, take, drop, length-map, get_or-map, get_or-eq_default}
+use lib.ListN.{length, get_or, take, get_or-map}
 use lib.Seq.{take-suc, take-length}
-use borrow.Author.Tests.{ltb-true, ltb-false, leb-true, lt-ltb, le-ltb, le-leb, lt-leb}
+use borrow.Author.Tests.{ltb-false, lt-ltb, le-leb, lt-leb}
 use Rattle.coordinates.specs.declared.axis.Axis.{Axis}
 use Rattle.coordinates.specs.declared.axis.Axis.TheVariants.{Column, Row}
 use Rattle.text.specs.Split.{same}
-use Rattle.axis_tables.specs.Lay.{pad, Region, lay}
 use Rattle.axis_tables.specs.Runs.{bytes_of, words_from, part_of}
 use Rattle.axis_tables.specs.Store.{name_word}
 use Rattle.axis_tables.specs.Reads.{name_place}
 use Rattle.axis_tables.proofs.Lays.{lay-get, pad-get, pad-is}
-use Rattle.axis_tables.proofs.Runs.{All, length-words, word_at, name-part, name-room}
+use Rattle.axis_tables.proofs.Runs.{All, word_at, name-part, name-room}
 use Rattle.axis_tables.proofs.Back.{place-back}
 use Rattle.panel_tables.specs.declared.AreaEdges.{AreaEdges}
 use Rattle.panel_tables.specs.declared.PlacementEnd.{PlacementEnd}
-use Rattle.panel_tables.specs.declared.EndPlace.{EndPlace}
-use Rattle.panel_tables.specs.View.{Area, End, Placement, has_area, edge_outside, edges_outside, number_outside, end_outside, no_area, no_end, no_placement}
+use Rattle.panel_tables.specs.View.{Area, Placement, has_area, edge_outside, edges_outside, number_outside, end_outside, no_area, no_end, no_placement}
 use Rattle.panel_tables.specs.Numbers.{count_of, number_of}
-use Rattle.panel_tables.specs.Areas.{edges_word, edges_of, word_of, area_at, area_name, area_in, named_in, has_area_in}
+use Rattle.panel_tables.specs.Areas.{edges_word, edges_of, word_of, area_at, area_in, named_in, has_area_in}
 use Rattle.coordinates.specs.Axes.{axis_number, axis_of}
-use Rattle.panel_tables.specs.Placements.{word_axis, end_word, end_of, start_word, finish_word, placement_at, end_in, placement_in}
+use Rattle.panel_tables.specs.Placements.{end_word, end_of, placement_at, end_in, placement_in}
 use Rattle.panel_tables.specs.Written.{area_name_of, area_edges_word, area_name_word, area_bytes_of, area_regions, area_words, area_store, AxisEnd, ends_of, end_name_of, axis_end_word, placement_bytes_of, placement_words, placement_store}
 use Rattle.panel_tables.proofs.Fits.{GoodArea, GoodEnd, GoodPlacement, area-bytes, placement_bytes_lem}
 use Rattle.panel_tables.proofs.Same.{length_ends}

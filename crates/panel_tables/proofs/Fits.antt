@@ -1,23 +1,20 @@
 -- What the lines of a panel leave fits the rooms of its tables, and every record keeps it so. Assumes nothing.
-use Prim.Native.Nat.{ℕ, zero, suc, ◌+◌, ◌-◌, ◌*◌, ◌≤◌, ◌<◌, max}
-use mathlib.Core.Path.{◌≡◌, refl, sym, ap, ◌∙◌}
+use Prim.Native.Nat.{ℕ, ◌*◌, ◌≤◌}
+use mathlib.Core.Path.{◌≡◌, refl}
 use mathlib.Core.List.{List, [], ◌∷◌, ◌++◌}
 use mathlib.Core.Bool.{Bool, true, false, cond}
 use native.Mathlib.Omega.{arith}
 use lib.Dec.{leb, ltb}
-use lib.IntN.{ℤ, pos, negsuc}
 use lib.ListN.{length, length-append}
-use borrow.Author.Tests.{ltb-false, leb-false, leb-true}
+use borrow.Author.Tests.{ltb-false, leb-false}
 use Rattle.coordinates.specs.declared.axis.Axis.{Axis}
-use Rattle.axis_tables.specs.Runs.{bytes_of}
 use Rattle.axis_tables.specs.View.{AxisView, named_fault}
 use Rattle.axis_tables.proofs.Runs.{All, all_append}
 use Rattle.axis_tables.proofs.Fits.{Fits}
 use Rattle.axis_tables.proofs.Kept.{empty_fits}
 use Rattle.panel_tables.specs.declared.AreaEdges.{AreaEdges}
-use Rattle.panel_tables.specs.declared.PlacementEnd.{PlacementEnd}
-use Rattle.panel_tables.specs.View.{Area, End, Placement, PanelView, PanelOutcome, empty_view, refused, accepted, raised, edge_outside, edges_outside, area_step, number_outside, end_outside, place_step}
-use Rattle.panel_tables.specs.Written.{area_name_of, area_bytes_of, ends_of, end_name_of, placement_bytes_of}
+use Rattle.panel_tables.specs.View.{Area, End, Placement, PanelView, PanelOutcome, empty_view, refused, accepted, raised, edges_outside, area_step, end_outside, place_step}
+use Rattle.panel_tables.specs.Written.{area_bytes_of, placement_bytes_of}
 
 pub record GoodArea (a : Area) : Type 0 where
   pub short : length a.name ≤ 32

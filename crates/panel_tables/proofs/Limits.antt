@@ -1,14 +1,14 @@
 -- The limits of a panel: with one place free a record is accepted, with none it is refused by 8. Assumes nothing.
-use Prim.Native.Nat.{ℕ, ◌≤◌, ◌<◌}
-use mathlib.Core.Path.{◌≡◌, refl}
+use Prim.Native.Nat.{ℕ, ◌≤◌}
+use mathlib.Core.Path.{◌≡◌}
 use mathlib.Core.List.{List}
-use mathlib.Core.Bool.{true, false}
+use mathlib.Core.Bool.{false}
 use native.Mathlib.Omega.{arith}
 use lib.ListN.{length}
-use borrow.Author.Tests.{lt-ltb, le-ltb, le-leb, lt-leb}
+use borrow.Author.Tests.{le-ltb, le-leb, lt-leb}
 use Rattle.coordinates.specs.declared.axis.Axis.{Axis}
 use Rattle.panel_tables.specs.declared.AreaEdges.{AreaEdges}
-use Rattle.panel_tables.specs.View.{End, PanelView, edges_outside, area_step, end_outside, place_step}
+use Rattle.panel_tables.specs.View.{End, PanelView, edges_outside, area_step, place_step}
 use Rattle.panel_tables.proofs.Fits.{GoodEnd}
 
 -- 64 drawn areas

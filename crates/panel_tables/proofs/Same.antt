@@ -1,18 +1,17 @@
 -- State and tables of a panel follow the view: `area` and `place` on those of a view leave those of the view after the record.
-use Prim.Native.Nat.{ℕ, zero, suc, ◌+◌, ◌-◌, ◌*◌, ◌≤◌, ◌<◌}
+use Prim.Native.Nat.{ℕ, ◌+◌, ◌-◌, ◌≤◌, ◌<◌}
 use mathlib.Core.Path.{◌≡◌, refl, sym, ap, ◌∙◌}
-use mathlib.Core.List.{List, [], ◌∷◌, ◌++◌, map, map-append, append_assoc}
-use mathlib.Core.Bool.{Bool, true, false, cond}
+use mathlib.Core.List.{List, [], ◌∷◌, ◌++◌, map-append}
+use mathlib.Core.Bool.{Bool, true, false}
 use native.Mathlib.Omega.{arith}
-use lib.Dec.{eqb, leb, ltb}
+use lib.Dec.{leb, ltb}
 use lib.ListN.{length, set, replicate, length-append, length-map}
-use lib.Seq.{sets}
-use borrow.Author.Tests.{ltb-true, ltb-false, le-ltb, lt-ltb, leb-true, leb-false}
+use borrow.Author.Tests.{ltb-false, le-ltb, leb-false}
 use Rattle.coordinates.specs.declared.axis.Axis.{Axis}
 use Rattle.coordinates.specs.declared.axis.Axis.TheVariants.{Column, Row}
-use Rattle.axis_tables.specs.Lay.{pad, Region, lay, joined}
+use Rattle.axis_tables.specs.Lay.{pad, Region, joined}
 use Rattle.axis_tables.specs.Runs.{bytes_of, words_from, put_bytes}
-use Rattle.axis_tables.specs.View.{AxisView, empty_axis, no_room}
+use Rattle.axis_tables.specs.View.{empty_axis}
 use Rattle.axis_tables.specs.declared.AxisState.{AxisState}
 use Rattle.axis_tables.specs.declared.AxisReading.{AxisReading}
 use Rattle.axis_tables.specs.Store.{name_word, zero_state, zero_reading}

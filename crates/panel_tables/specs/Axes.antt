@@ -1,5 +1,4 @@
 -- One axis of a panel: taken out, and put back.
-use Rattle.std.specs.Prelude.{ℕ, List}
 use Rattle.coordinates.specs.declared.axis.Axis.{Axis}
 use Rattle.coordinates.specs.declared.axis.Axis.TheVariants.{Column, Row}
 use Rattle.axis_tables.specs.declared.AxisGrid.{AxisGrid}

@@ -5,7 +5,6 @@ use Rattle.coordinates.specs.Axes.{axis_number, axis_of}
 use Rattle.axis_tables.specs.Runs.{part_of, put_bytes}
 use Rattle.axis_tables.specs.View.{no_room, named_fault}
 use Rattle.panel_tables.specs.declared.Panel.{Panel}
-use Rattle.panel_tables.specs.declared.PanelPut.{PanelPut}
 use Rattle.panel_tables.specs.declared.PlacementEnd.{PlacementEnd}
 use Rattle.panel_tables.specs.declared.EndPlace.{EndPlace}
 use Rattle.panel_tables.specs.declared.PlacementPlace.{PlacementPlace}

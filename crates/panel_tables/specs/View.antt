@@ -1,5 +1,5 @@
 -- A panel as lists, in the words of document 01's panel sheet, and what `area` and `place` do to it.
-use Rattle.std.specs.Prelude.{ℕ, ◌+◌, ◌-◌, max, List, [], ◌∷◌, ◌++◌, Bool, true, false, cond, leb, ltb, ℤ, pos, negsuc, length}
+use Rattle.std.specs.Prelude.{ℕ, ◌-◌, max, List, [], ◌∷◌, ◌++◌, Bool, true, false, cond, leb, ltb, ℤ, pos, negsuc, length}
 use Rattle.coordinates.specs.declared.axis.Axis.{Axis}
 use Rattle.coordinates.specs.declared.axis.Axis.TheVariants.{Column}
 use Rattle.text.specs.Split.{same}

@@ -1,10 +1,8 @@
 -- What the state and the tables of a panel hold for a view.
-use Rattle.std.specs.Prelude.{ℕ, ◌+◌, List, [], ◌∷◌, ◌++◌, map, false, length}
-use Rattle.coordinates.specs.declared.axis.Axis.{Axis}
+use Rattle.std.specs.Prelude.{ℕ, List, [], ◌∷◌, map, false, length}
 use Rattle.coordinates.specs.declared.axis.Axis.TheVariants.{Column, Row}
 use Rattle.axis_tables.specs.Lay.{pad, Region, region, lay}
 use Rattle.axis_tables.specs.Runs.{bytes_of, words_from}
-use Rattle.axis_tables.specs.View.{AxisView, AxisOutcome}
 use Rattle.axis_tables.specs.Store.{name_word, zero_axis_grid, zero_axis_room, zero_reading}
 use Rattle.axis_tables.specs.Written.{grid_of, room_of, reading_of, axis_words, names_store}
 use Rattle.picture_rules.specs.Picture.{Picture, width_of}
@@ -13,7 +11,7 @@ use Rattle.panel_tables.specs.declared.Panel.{Panel}
 use Rattle.panel_tables.specs.declared.PictureReading.{PictureReading}
 use Rattle.panel_tables.specs.declared.Reading.{Reading}
 use Rattle.panel_tables.specs.View.{Area, End, Placement, PanelView, PanelOutcome}
-use Rattle.panel_tables.specs.Areas.{edges_word, InAreas, put}
+use Rattle.panel_tables.specs.Areas.{edges_word, InAreas}
 use Rattle.coordinates.specs.Axes.{axis_number}
 use Rattle.panel_tables.specs.Placements.{end_word}
 use Rattle.panel_tables.specs.Regions.{axis_words_in, area_words_in, placement_words_in, marks_in, area_bytes_in, placement_bytes_in}

@@ -1,4 +1,7 @@
 // The lines that the panel program prints, each written at the start of lent bytes.
+
+#![tactic(auto)]
+
 ghost use Rattle.panel_text.specs.Lines.{size_line, record_line, place_line, refused_line};
 ghost use Rattle.panel_text.specs.Written.{WritesLine};
 

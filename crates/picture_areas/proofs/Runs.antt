@@ -1,18 +1,17 @@
 -- What the steps of a run add up to. Assumes nothing.
 use Prim.Native.Nat.{ℕ, ◌≤◌, ◌<◌, min}
-use mathlib.Core.Path.{◌≡◌, refl, sym, ap, ◌∙◌}
+use mathlib.Core.Path.{◌≡◌, sym, ap, ◌∙◌}
 use mathlib.Core.List.{List}
-use mathlib.Core.Bool.{Bool, true, false, cond}
+use mathlib.Core.Bool.{Bool, true, false}
 use lib.ListN.{set}
 use lib.Dec.{eqb}
 use borrow.Author.Tests.{lt-ltb, le-ltb, eq-eqb, ne_eqb}
 use Rattle.panel_tables.specs.declared.Panel.{Panel}
-use Rattle.panel_tables.specs.declared.PanelPut.{PanelPut}
 use Rattle.panel_tables.specs.declared.AreaEdges.{AreaEdges}
 use Rattle.panel_tables.specs.declared.AreaPlace.{AreaPlace}
 use Rattle.panel_tables.specs.Areas.{edges_word, area_at, InAreas, put_area}
 use Rattle.picture_areas.specs.Places.{area_index_in}
-use Rattle.picture_areas.specs.Runs.{run_continues, longer_edges, InEdges, grow_in, InPicture, of_grown, of_put, draw_in}
+use Rattle.picture_areas.specs.Runs.{run_continues, longer_edges, InEdges, grow_in, of_grown, of_put, draw_in}
 
 -- ---- whether a run continues an area
 

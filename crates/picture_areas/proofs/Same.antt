@@ -1,18 +1,18 @@
 -- On the table of a picture's areas a run does what picture_rules' step does to the areas. Assumes nothing.
-use Prim.Native.Nat.{ℕ, zero, suc, ◌+◌, ◌-◌, ◌*◌, ◌≤◌, ◌<◌, min}
+use Prim.Native.Nat.{ℕ, zero, suc, ◌+◌, ◌≤◌, ◌<◌, min}
 use mathlib.Core.Path.{◌≡◌, refl, sym, ap, ap₂, subst, ◌∙◌}
 use mathlib.Core.List.{List, [], ◌∷◌, ◌++◌, map, map-append}
 use mathlib.Core.Bool.{Bool, true, false, cond, not, true≢false}
 use mathlib.Core.Logic.{inl, inr}
 use native.Mathlib.Omega.{arith}
-use lib.Dec.{leb, ltb}
+use lib.Dec.{leb}
 use lib.ListN.{length, get_or, take, drop, set, replicate, length-append, length-map, drop_of_length-le}
 use lib.Seq.{drop-cons, get_or-append_seam, set-append_left, set_at, take-set-lt}
 use borrow.Author.Tests.{leb-true, leb-false, le-leb, lt-leb, lt-ltb, le-ltb}
 use Rattle.text.specs.Split.{same, index}
 use Rattle.text.proofs.Which.{same_equal, same_self}
 use Rattle.axis_tables.specs.Lay.{pad, lay}
-use Rattle.axis_tables.specs.Runs.{bytes_of, words_from, put_bytes}
+use Rattle.axis_tables.specs.Runs.{words_from, put_bytes}
 use Rattle.axis_tables.specs.Store.{name_word}
 use Rattle.axis_tables.proofs.Lays.{length-pad}
 use Rattle.axis_tables.proofs.Runs.{All, all_append, all_left, all_right, bytes-more}
@@ -20,7 +20,7 @@ use Rattle.panel_tables.specs.declared.Panel.{Panel}
 use Rattle.panel_tables.specs.declared.AreaEdges.{AreaEdges}
 use Rattle.panel_tables.specs.View.{no_area, edge_outside, edges_outside}
 use Rattle.panel_tables.specs.View.{Area as TableArea}
-use Rattle.panel_tables.specs.Areas.{edges_word, area_at, area_name, area_in, with_area, put, put_area}
+use Rattle.panel_tables.specs.Areas.{edges_word, area_at, with_area, put, put_area}
 use Rattle.panel_tables.specs.Written.{area_name_of, area_edges_word, area_name_word, area_bytes_of, area_regions, area_words, area_store}
 use Rattle.panel_tables.proofs.Fits.{GoodArea, area-bytes}
 use Rattle.panel_tables.proofs.Same.{area_words_lem, area_store_lem}

@@ -1,5 +1,5 @@
 -- The place of a name among the areas of the table, whatever it holds.
-use Rattle.std.specs.Prelude.{ℕ, zero, suc, ◌+◌, min, List, cond}
+use Rattle.std.specs.Prelude.{ℕ, zero, suc, min, List, cond}
 use Rattle.text.specs.Split.{same}
 use Rattle.panel_tables.specs.Areas.{area_name}
 

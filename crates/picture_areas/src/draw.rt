@@ -8,7 +8,7 @@ use panel_tables::{AreaEdges, Panel};
 use panel_writes::area_record::put_area;
 
 // The answer to a run: its refusal's number, 0 where there is none; whether it breaks the picture; and the panel after it, on a refusal as it came.
-#[derive(Drop)]
+#[derive(Clone, Copy)]
 pub struct Drawn {
     pub fault: u32,
     pub broken: bool,

@@ -1,7 +1,7 @@
 -- What a line is to a picture, by the number of its first field's kind. Assumes nothing.
-use Prim.Native.Nat.{ℕ, zero, suc, ◌+◌, ◌≤◌, ◌<◌}
+use Prim.Native.Nat.{ℕ, zero, suc, ◌+◌, ◌≤◌}
 use mathlib.Core.Path.{◌≡◌, refl, sym, ap, ◌∙◌}
-use mathlib.Core.List.{List, [], ◌∷◌}
+use mathlib.Core.List.{List, []}
 use mathlib.Core.Bool.{Bool, true, false, cond, ◌&&◌, ◌||◌}
 use native.Mathlib.Omega.{arith}
 use lib.Dec.{eqb, leb}
@@ -11,9 +11,9 @@ use Rattle.text.specs.Split.{before, split, same, index}
 use Rattle.text.proofs.Places.{parts_whole, parts_next}
 use Rattle.text.proofs.Which.{same_equal, unequal, index_word}
 use Rattle.sheet_forms.specs.Words.{at, kind_words}
-use Rattle.sheet_forms.specs.Forms.{Kind, axis, area, name, track, repeat, end, spare, extra, item, place, row, kind_number}
+use Rattle.sheet_forms.specs.Forms.{Kind, area, name, track, repeat, end, spare, extra, item, place, row, kind_number}
 use Rattle.sheet_forms.proofs.LineRows.{word-index, kind_below}
-use Rattle.sheet_rules.specs.Kinds.{is_kind, is_one, later_kinds}
+use Rattle.sheet_rules.specs.Kinds.{is_kind}
 use Rattle.picture_end.specs.Steps.{class_of, later_fields, row_by, class_by}
 
 -- ---- by the kind's number

@@ -21,6 +21,7 @@ pub const ROW: u32 = 1;
 pub const LATER: u32 = 2;
 
 // The fields of a line of a kind after which a row is late; 0 for any other kind.
+#[tactic(auto, unfolding(crate::specs::Steps::later_fields))]
 fn later_fields(kind: usize) -> usize
     ensures { result ≡ later_fields kind }
 {
@@ -49,6 +50,7 @@ fn row_by(fields: usize) -> u32
 }
 
 // A line of that kind with so many fields.
+#[tactic(auto, unfolding(crate::specs::Steps::class_by))]
 fn class_by(kind: usize, fields: usize) -> u32
     ensures { result ≡ class_by kind fields }
 {

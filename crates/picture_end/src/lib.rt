@@ -1,4 +1,7 @@
 // Where a picture ends: what a line is to it, whether a row of it still follows in a sheet, and whether a line is the last row of a broken one.
+
+#![tactic(auto)]
+
 pub mod class;
 pub mod follow;
 pub mod last;

@@ -1,20 +1,19 @@
 -- A row on the table of a whole picture's areas: it leaves the table of the picture with that row. Assumes nothing.
-use Prim.Native.Nat.{ℕ, suc, ◌+◌, ◌≤◌, ◌<◌}
-use mathlib.Core.Path.{◌≡◌, refl, sym, ap, subst, ◌∙◌}
+use Prim.Native.Nat.{ℕ, ◌+◌, ◌≤◌, ◌<◌}
+use mathlib.Core.Path.{◌≡◌, refl, ap, ◌∙◌}
 use mathlib.Core.List.{List, [], ◌∷◌, ◌++◌}
-use mathlib.Core.Bool.{true, cond}
 use native.Mathlib.Omega.{arith}
 use lib.ListN.{length}
 use Rattle.sheet_forms.specs.Fields.{row_fault}
 use Rattle.panel_tables.specs.declared.Panel.{Panel}
 use Rattle.panel_tables.specs.Written.{area_words, area_store}
-use Rattle.picture_rules.specs.Picture.{Word, Picture, PictureArea}
+use Rattle.picture_rules.specs.Picture.{Word, Picture}
 use Rattle.picture_rules.specs.Steps.{PictureState, no_rows, row_step, rows_from, taken_of}
 use Rattle.picture_rules.proofs.Taken.{row_counts}
 use Rattle.picture_areas.specs.Runs.{InPicture, table_of}
 use Rattle.picture_areas.proofs.Same.{TableFits}
 use Rattle.picture_rows.specs.Steps.{refused_row, row_in}
-use Rattle.picture_rows.specs.Rows.{pictured, PictureTaken}
+use Rattle.picture_rows.specs.Rows.{PictureTaken}
 use Rattle.picture_rows.proofs.Same.{row_same}
 
 rows_more : (q : Picture) (s : PictureState) (ws : List Word) → rows_from s (q ++ (ws ∷ [])) ≡ row_step (rows_from s q) ws

@@ -1,15 +1,14 @@
 -- What the steps of a row add up to. Assumes nothing.
 use Prim.Native.Nat.{ℕ, ◌+◌, ◌≤◌, ◌<◌}
-use mathlib.Core.Path.{◌≡◌, refl, sym, ap, ◌∙◌}
-use mathlib.Core.List.{List, [], ◌∷◌}
-use mathlib.Core.Bool.{Bool, true, false, cond}
-use lib.Dec.{eqb}
+use mathlib.Core.Path.{◌≡◌, sym, ap, ◌∙◌}
+use mathlib.Core.List.{List}
+use mathlib.Core.Bool.{Bool, true, false}
 use lib.ListN.{length}
 use native.Mathlib.Omega.{arith}
 use borrow.Author.Tests.{eq-eqb, ne_eqb}
 use Rattle.panel_tables.specs.declared.AreaEdges.{AreaEdges}
 use Rattle.picture_rules.specs.Picture.{Word, is_dots}
-use Rattle.picture_rules.specs.Steps.{EqualRun, runs_of, run_box}
+use Rattle.picture_rules.specs.Steps.{runs_of, run_box}
 use Rattle.picture_words.specs.declared.run.WordRun.{WordRun}
 use Rattle.picture_words.specs.Words.{words_left, word_at}
 use Rattle.picture_words.specs.Runs.{run_at}

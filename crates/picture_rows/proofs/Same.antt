@@ -4,27 +4,27 @@ use mathlib.Core.Path.{◌≡◌, refl, sym, ap, ap₂, subst, ◌∙◌}
 use mathlib.Core.List.{List, [], ◌∷◌}
 use mathlib.Core.Bool.{Bool, true, false, cond, not}
 use native.Mathlib.Omega.{arith}
-use lib.Dec.{eqb, leb, ltb}
+use lib.Dec.{eqb, ltb}
 use lib.ListN.{length, length-map}
-use borrow.Author.Tests.{eq-eqb, ne_eqb, le-leb, le-ltb, lt-ltb, ltb-true, ltb-false, eqb-true, eqb-false}
+use borrow.Author.Tests.{le-leb, le-ltb, lt-ltb, ltb-true, ltb-false, eqb-true, eqb-false}
 use Rattle.text.specs.Split.{same}
-use Rattle.sheet_forms.specs.Faults.{rank_of, first_of}
+use Rattle.sheet_forms.specs.Faults.{first_of}
 use Rattle.sheet_forms.specs.Fields.{word_fault, words_fault, many_fault, row_fault}
 use Rattle.sheet_forms.proofs.Firsts.{first_zero}
 use Rattle.sheet_forms.proofs.WordRows.{word-named}
 use Rattle.axis_tables.specs.Store.{with_areas}
 use Rattle.panel_tables.specs.declared.Panel.{Panel}
 use Rattle.panel_tables.specs.declared.AreaEdges.{AreaEdges}
-use Rattle.panel_tables.specs.View.{edge_outside, edges_outside}
+use Rattle.panel_tables.specs.View.{edge_outside}
 use Rattle.panel_tables.specs.Areas.{with_area}
 use Rattle.panel_tables.specs.Written.{area_bytes_of, area_words, area_store}
 use Rattle.panel_tables.proofs.Fits.{GoodArea}
 use Rattle.picture_rules.specs.Picture.{Word, PictureArea, is_dots}
 use Rattle.picture_rules.specs.Steps.{EqualRun, with_word, runs_of, run_box, grown, drawn, fits, PictureState, name_run_step, run_step, runs_from, row_step}
 use Rattle.picture_areas.specs.declared.draw.Drawn.{Drawn}
-use Rattle.picture_areas.specs.Runs.{edges_of_box, InPicture, draw_in, table_area, table_of, drawn_table}
+use Rattle.picture_areas.specs.Runs.{edges_of_box, InPicture, table_area, table_of, drawn_table}
 use Rattle.picture_areas.proofs.Same.{TableFits, draw_same, drawn-fits}
-use Rattle.picture_rows.specs.Steps.{joined, run_in, runs_in, started, refused_row, picture_edges, spanned, counted_row, counted, row_in}
+use Rattle.picture_rows.specs.Steps.{joined, run_in, runs_in, refused_row, picture_edges, spanned, counted, row_in}
 use Rattle.picture_rows.specs.Rows.{pictured, RowTaken}
 use Rattle.picture_rows.proofs.Counts.{counted-refused, counted-so}
 

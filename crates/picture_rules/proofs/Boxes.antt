@@ -1,12 +1,11 @@
 -- A name has at most one filled box, and two names share no cell. Assumes nothing.
-use Prim.Native.Nat.{ℕ, suc, ◌+◌, ◌-◌, ◌≤◌, ◌<◌}
-use mathlib.Core.Path.{◌≡◌, refl, sym, ap, ◌∙◌}
+use Prim.Native.Nat.{ℕ, ◌+◌, ◌-◌, ◌≤◌, ◌<◌}
+use mathlib.Core.Path.{◌≡◌, refl}
 use mathlib.Core.List.{List, [], ◌∷◌}
-use mathlib.Core.Bool.{true, false}
 use mathlib.Core.Logic.{inl, inr}
 use native.Mathlib.Omega.{arith}
 use lib.ListN.{length}
-use Rattle.picture_rules.specs.Picture.{Word, Picture, ElementAt, CellIn, EqualWidth, width_of, Box, InBox, Filled, PictureArea, Among, Pairs, OtherName, NoCell, AreasOf, PictureCounts}
+use Rattle.picture_rules.specs.Picture.{Word, Picture, CellIn, EqualWidth, width_of, Box, InBox, Filled, PictureArea, Among, Pairs, OtherName, NoCell}
 use Rattle.picture_rules.proofs.Cells.{element-same}
 
 -- the first and the last cell of a box that is not empty

@@ -1,13 +1,12 @@
 -- Where a name has a filled box in the whole picture, a run of it continues the box of its cells before that run. Assumes nothing.
 -- Sets of cells of the name: `Seen` before the run, `All` in the whole picture. The run stands in the row after `above` rows,
 -- after `left` words of that row, and is `count` words long.
-use Prim.Native.Nat.{ℕ, suc, ◌+◌, ◌-◌, ◌≤◌, ◌<◌}
-use mathlib.Core.Path.{◌≡◌, refl}
-use mathlib.Core.Logic.{◌↔◌, ◌⊎◌, inl, inr, ⊎_elim}
+use Prim.Native.Nat.{ℕ, ◌+◌, ◌-◌, ◌≤◌, ◌<◌}
+use mathlib.Core.Path.{◌≡◌}
+use mathlib.Core.Logic.{◌↔◌, ◌⊎◌, ⊎_elim}
 use native.Mathlib.Omega.{arith}
 use Rattle.picture_rules.specs.Picture.{Box, InBox}
 use Rattle.picture_rules.proofs.Boxes.{first_cell, last_cell}
-use Rattle.picture_rules.proofs.Cells.{le_or_lt}
 
 module _ (Seen All : ℕ → ℕ → Type 0) (above left count : ℕ) (b e : Box)
     (some : 1 ≤ count) (rows : b.rowstart < b.rowend) (columns : b.columnstart < b.columnend)

@@ -1,12 +1,12 @@
 -- One run more: the cells that it adds, and the areas with it. Assumes nothing.
-use Prim.Native.Nat.{ℕ, suc, ◌+◌, ◌-◌, ◌≤◌, ◌<◌}
+use Prim.Native.Nat.{ℕ, ◌+◌, ◌-◌, ◌≤◌, ◌<◌}
 use mathlib.Core.Path.{◌≡◌, refl, sym, ap, ◌∙◌}
 use mathlib.Core.List.{List, [], ◌∷◌, ◌++◌}
-use mathlib.Core.Bool.{true, false, cond, false≢true}
+use mathlib.Core.Bool.{true, false, false≢true}
 use mathlib.Core.Logic.{◌⊎◌, inl, inr, ⊎_elim}
 use native.Mathlib.Omega.{arith}
 use lib.ListN.{length, replicate, length-append, length-replicate}
-use Rattle.picture_rules.specs.Picture.{Word, Picture, ElementAt, CellIn, NameIn, is_dots, Box, InBox, Filled, AllFilled, PictureArea, Among, OtherName, FirstBefore, NamesOf, AreasOf}
+use Rattle.picture_rules.specs.Picture.{Word, Picture, ElementAt, CellIn, NameIn, is_dots, Box, Filled, AllFilled, PictureArea, Among, OtherName, FirstBefore, NamesOf, AreasOf}
 use Rattle.picture_rules.specs.Steps.{run_box, continues, longer, grown}
 use Rattle.picture_rules.proofs.Cells.{le_or_lt, element-left, element-right, element-cases, element-repeated, element-repeats, cell-before, cell-here, cell-cases}
 use Rattle.picture_rules.proofs.Boxes.{first_cell}

@@ -1,5 +1,5 @@
 -- Areas in a list that is cut: before, at and after one of them. Assumes nothing.
-use mathlib.Core.Path.{◌≡◌, refl, ap}
+use mathlib.Core.Path.{refl}
 use mathlib.Core.List.{List, [], ◌∷◌, ◌++◌}
 use mathlib.Core.Logic.{◌⊎◌, inl, inr, ⊎_elim}
 use Rattle.picture_rules.specs.Picture.{PictureArea, Among, Pairs}

@@ -1,12 +1,12 @@
 -- The runs of a row: written out they are the row, and each is as long as it can be. Assumes nothing.
-use Prim.Native.Nat.{ℕ, zero, suc, ◌≤◌}
+use Prim.Native.Nat.{suc, ◌≤◌}
 use mathlib.Core.Path.{◌≡◌, refl, sym, ap, ◌∙◌}
 use mathlib.Core.List.{List, [], ◌∷◌, ◌++◌}
 use mathlib.Core.Bool.{Bool, true, false, cond}
 use native.Mathlib.Omega.{arith}
 use lib.ListN.{drop, replicate}
 use Rattle.text.specs.Split.{same}
-use Rattle.text.proofs.Which.{same_equal, same_self, unequal}
+use Rattle.text.proofs.Which.{same_equal, unequal}
 use Rattle.picture_rules.specs.Picture.{Word}
 use Rattle.picture_rules.specs.Steps.{EqualRun, with_word, runs_of, again_of, first_run}
 

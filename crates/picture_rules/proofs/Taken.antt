@@ -1,5 +1,5 @@
 -- Rows taken one after the other: not broken, they have the areas of the picture so far; and they don't break where it is filled. Assumes nothing.
-use Prim.Native.Nat.{ℕ, suc, ◌+◌, ◌≤◌}
+use Prim.Native.Nat.{ℕ, ◌+◌, ◌≤◌}
 use mathlib.Core.Path.{◌≡◌, refl, sym, ap, subst, ◌∙◌}
 use mathlib.Core.List.{List, [], ◌∷◌, ◌++◌, append_assoc, append-nil}
 use mathlib.Core.Bool.{Bool, true, false, cond, false≢true, true≢false}
@@ -8,7 +8,7 @@ use native.Mathlib.Omega.{arith}
 use lib.ListN.{length, replicate, length-append, length-replicate}
 use Rattle.picture_rules.specs.Picture.{Word, Picture, ElementAt, is_dots, AllFilled, PictureArea, NamesOf, AreasOf}
 use Rattle.picture_rules.specs.Steps.{EqualRun, run_box, continues, drawn, fits, PictureState, name_run_step, run_step, runs_from, runs_of, row_counted, row_step, rows_from}
-use Rattle.picture_rules.proofs.Cells.{element-right, element-first, element-repeated, element-repeats, element-same, element-left}
+use Rattle.picture_rules.proofs.Cells.{element-right, element-repeated, element-same, element-left}
 use Rattle.picture_rules.proofs.Lists.{among-right}
 use Rattle.picture_rules.proofs.Runs.{written, Apart, Longest, runs_written, runs_longest}
 use Rattle.picture_rules.proofs.Drawn.{Found, new, known, found}

@@ -1,12 +1,12 @@
 -- A picture taken row by row is not broken exactly if each of its names has a filled box, and then has these areas. Assumes nothing.
-use Prim.Native.Nat.{ℕ, ◌+◌, ◌≤◌}
-use mathlib.Core.Path.{◌≡◌, refl, sym, ap, ◌∙◌}
+use Prim.Native.Nat.{ℕ, ◌+◌}
+use mathlib.Core.Path.{◌≡◌, refl, sym, ◌∙◌}
 use mathlib.Core.List.{List, [], ◌∷◌, ◌++◌}
-use mathlib.Core.Bool.{Bool, true, false, false≢true}
+use mathlib.Core.Bool.{true, false, false≢true}
 use mathlib.Core.Logic.{◌↔◌}
 use native.Mathlib.Omega.{arith}
 use lib.ListN.{length}
-use Rattle.picture_rules.specs.Picture.{Word, Picture, ElementAt, NameIn, EqualWidth, width_of, Box, Filled, AllFilled, PictureArea, Among, Pairs, NoCell, NamesOf, AreasOf, PictureCounts}
+use Rattle.picture_rules.specs.Picture.{Word, Picture, ElementAt, EqualWidth, width_of, AllFilled, PictureArea, Pairs, NoCell, NamesOf, AreasOf, PictureCounts}
 use Rattle.picture_rules.specs.Steps.{PictureState, no_rows, row_step, rows_from, taken_of}
 use Rattle.picture_rules.proofs.Cells.{element-first, element-right}
 use Rattle.picture_rules.proofs.Boxes.{disjoint, starts-in, ends-in}

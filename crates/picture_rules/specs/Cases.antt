@@ -1,5 +1,5 @@
 -- Worked pictures, one list under one test.
-use Rattle.std.specs.Prelude.{ℕ, List, [], ◌∷◌, Bool, true, false, cond, not, ◌&&◌, eqb}
+use Rattle.std.specs.Prelude.{ℕ, List, [], ◌∷◌, Bool, true, false, not, ◌&&◌, eqb}
 use Rattle.text.specs.Split.{same}
 use Rattle.picture_rules.specs.Picture.{Word, Picture, Box, PictureArea}
 use Rattle.picture_rules.specs.Steps.{PictureState, taken_of}

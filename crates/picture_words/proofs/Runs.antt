@@ -12,12 +12,11 @@ use Rattle.text.specs.Split.{same}
 use Rattle.text.specs.Places.{starts_from}
 use Rattle.text.proofs.Which.{same_self}
 use Rattle.picture_rules.specs.Picture.{Word}
-use Rattle.picture_rules.specs.Steps.{EqualRun, runs_of, again_of, first_run}
+use Rattle.picture_rules.specs.Steps.{runs_of, again_of, first_run}
 use Rattle.picture_rules.proofs.Runs.{runs_first}
 use Rattle.picture_rules.proofs.Cells.{le_or_lt}
 use Rattle.picture_words.specs.Words.{words_left, word_end, word_at}
 use Rattle.picture_words.specs.Runs.{start_at, run_at}
-use Rattle.picture_words.specs.declared.run.WordRun.{WordRun}
 use Rattle.picture_words.proofs.Words.{words_past, words-next, starts-here}
 
 -- the words equal to the first, it included

@@ -1,21 +1,14 @@
 -- The words of a line from a place on: the one that starts there, and those from the next place on. Assumes nothing.
-use Prim.Native.Nat.{ℕ, zero, suc, ◌+◌, ◌-◌, ◌≤◌, ◌<◌}
+use Prim.Native.Nat.{ℕ, ◌+◌, ◌-◌, ◌≤◌, ◌<◌}
 use mathlib.Core.Path.{◌≡◌, refl, sym, ap, ◌∙◌}
 use mathlib.Core.List.{List, [], ◌∷◌}
-use mathlib.Core.Bool.{Bool, true, false, cond}
 use native.Mathlib.Omega.{arith}
-use lib.Dec.{eqb}
-use lib.ListN.{length, get_or, take, drop, drop_of_length-le}
-use lib.Seq.{drop-cons}
-use native.Mathlib.Numerals.{add-one}
-use borrow.Author.Tests.{eq-eqb, ne_eqb}
-use Rattle.text.specs.Split.{before, split, same}
+use lib.ListN.{length, take, drop}
+use Rattle.text.specs.Split.{before, split}
 use Rattle.text.specs.Places.{starts_from}
 use Rattle.text.proofs.Laws.{find-le}
 use Rattle.text.proofs.Places.{parts_from, parts_whole, parts-past, parts_next, starts-next}
-use Rattle.text.proofs.Which.{same_self, same_equal}
-use Rattle.picture_rules.specs.Picture.{Word, all_dots, is_dots}
-use Rattle.picture_rules.specs.Steps.{again_of, first_run}
+use Rattle.picture_rules.specs.Picture.{Word}
 use Rattle.picture_words.specs.Words.{words_of, words_left, first_start, word_end, word_at}
 
 words_parts : (line : List ℕ) (at : ℕ) → words_left line at ≡ parts_from 9 line at

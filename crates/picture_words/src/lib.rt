@@ -1,4 +1,7 @@
 // The words of a `row` line, which are its fields after the first: where they lie, runs of equal ones, how many there are, and the faults of such a line by itself.
+
+#![tactic(auto)]
+
 pub mod row;
 pub mod run;
 pub mod word;

@@ -6,7 +6,7 @@ use crate::word::{word_at, word_end};
 use text::equal;
 
 // How many words a run has, and where the word after it starts: past the end where there is none.
-#[derive(Drop)]
+#[derive(Clone, Copy)]
 pub struct WordRun {
     pub count: usize,
     pub next: usize,

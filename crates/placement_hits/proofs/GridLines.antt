@@ -15,7 +15,6 @@ use Rattle.track_counts.specs.Counts.{tracks_of}
 use Rattle.track_counts.specs.declared.counts.TrackCounts.{TrackCounts}
 use Rattle.placement_hits.specs.Hits.{AtPlace}
 use Rattle.placement_hits.specs.Steps.{place_in, place_of}
-use Rattle.placement_hits.specs.declared.LinePlace.{LinePlace}
 use Rattle.placement_hits.specs.declared.LinePlace.TheVariants.{Off, At}
 
 module _ (c : TrackCounts) where

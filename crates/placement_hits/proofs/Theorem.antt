@@ -1,19 +1,18 @@
 -- The tests of the code are document 02's: a placement is in a list exactly as Req 01 words it. Assumes nothing.
 use mathlib.Core.Path.{◌≡◌, refl, sym, ap, ◌∙◌}
-use mathlib.Core.Bool.{Bool, true, false, cond, ◌&&◌}
-use Prim.Native.Nat.{ℕ, suc, ◌+◌, ◌≤◌, ◌<◌}
+use mathlib.Core.Bool.{Bool, true, false, cond}
+use Prim.Native.Nat.{ℕ, ◌+◌, ◌≤◌, ◌<◌}
 use native.Mathlib.Omega.{arith}
 use borrow.Author.Tests.{le-leb, lt-ltb, le-ltb, leb-true, ltb-true, ltb-false}
 use lib.Dec.{leb, ltb}
 use lib.IntN.{ℤ, pos, ◌+ℤ◌}
-use lib.Signed.{◌<ℤ◌}
 use Rattle.coordinates.specs.Lines.{uncut}
 use Rattle.track_counts.specs.Counts.{tracks_of}
 use Rattle.track_counts.specs.declared.counts.TrackCounts.{TrackCounts}
 use Rattle.name_rules.specs.Css.{Resolved, free, at_line, spanning, ResolvedEnds}
 use Rattle.name_rules.specs.CssOrder.{OrderedLines, in_order, swapped, one_track}
 use Rattle.name_rules.proofs.CssOrder.{ordered_below}
-use Rattle.placement_hits.specs.Hits.{OwnLines, AtPlace, OnGrid, LinesInside, LineBetween}
+use Rattle.placement_hits.specs.Hits.{AtPlace, OnGrid, LinesInside, LineBetween}
 use Rattle.placement_hits.specs.Steps.{nowhere, places_at, place_in, place_of, ordered_places, both_places, end_place, occupied_of, within_places, around_place}
 use Rattle.placement_hits.specs.declared.LinePlace.{LinePlace}
 use Rattle.placement_hits.specs.declared.LinePlace.TheVariants.{Off, At}

@@ -1,4 +1,7 @@
 // Document 02, Req 01: which of a run of settled placements lie within a span of lines, or around a line; by places of lines alone.
+
+#![tactic(auto)]
+
 pub mod list;
 pub mod member;
 pub mod occupied;
@@ -7,14 +10,14 @@ pub mod place;
 use track_counts::counts::TrackCounts;
 
 // The place of a line among those of the grid, from 0 at its first; off the grid it has none.
-#[derive(Drop)]
+#[derive(Clone, Copy)]
 pub enum LinePlace {
     Off,
     At(u32),
 }
 
 // The places of the two lines that a placement lies between; zeros where it has no two lines on the grid.
-#[derive(Drop)]
+#[derive(Clone, Copy)]
 pub struct Places {
     pub on: bool,
     pub first: u32,
@@ -22,7 +25,7 @@ pub struct Places {
 }
 
 // Both ends of a settled placement: the kind of each (0 `auto`, 1 `line`, 3 `span`) and its number.
-#[derive(Drop)]
+#[derive(Clone, Copy)]
 pub struct Ends {
     pub startkind: i32,
     pub startnumber: i32,
@@ -31,14 +34,14 @@ pub struct Ends {
 }
 
 // What is asked of a placement: both of its places from the first number on and before the second; or a place strictly between them.
-#[derive(Drop)]
+#[derive(Clone, Copy)]
 pub enum Question {
     Within(u32, u32),
     Around(LinePlace),
 }
 
 // What is asked of a run of placements: of those of the axis, 0 the columns and 1 the rows, whose tracks are counted.
-#[derive(Drop)]
+#[derive(Clone, Copy)]
 pub struct Asked {
     pub axis: i32,
     pub counts: TrackCounts,

@@ -7,7 +7,7 @@ use lib.Dec.{eqb, ltb}
 use native.Mathlib.Omega.{arith}
 use lib.ListN.{length, drop, replicate}
 use lib.Seq.{sets-eq}
-use borrow.Author.Tests.{ltb-false, lt-ltb, le-ltb, eq-eqb, ne_eqb, eqb-true, eqb-false}
+use borrow.Author.Tests.{ltb-false, lt-ltb, le-ltb, eq-eqb, ne_eqb, eqb-true}
 use Rattle.coordinates.specs.Refusals.{no_refusal, refusal_of, short, unread}
 use Rattle.text.specs.Split.{split}
 use Rattle.axis_tables.specs.Runs.{put_bytes, part_of}
@@ -24,7 +24,7 @@ use Rattle.panel_tables.proofs.Fits.{FitsPanel}
 use Rattle.panel_tables.proofs.Same.{zeros_same}
 use Rattle.sheet_rules.specs.declared.Overlap.{Overlap}
 use Rattle.sheet_rules.specs.declared.SheetAnswer.{SheetAnswer}
-use Rattle.sheet_rules.specs.Sheet.{Outcome, run, fold_of, broken_from, broken_of, with_broken as outcome_with, display_of, no_overlap, overlap_from, overlap_of}
+use Rattle.sheet_rules.specs.Sheet.{Outcome, run, fold_of, broken_of, with_broken as outcome_with, display_of, no_overlap, overlap_of}
 use Rattle.sheet_rules.specs.Panels.{sized_state, sized_panel, Tables, tables_in, pasted, tables_of}
 use Rattle.sheet_rules.specs.Read.{SheetRead, short_stores, refused_sheet, read_by, strict_by, read_sheet}
 use Rattle.sheet_rules.proofs.Fits.{empty_fits_sheet, display_fits}

@@ -14,13 +14,13 @@ use Rattle.name_template.specs.Writing.{entry_word}
 use Rattle.sheet_forms.specs.Faults.{first_of, rank_of}
 use Rattle.sheet_forms.proofs.Firsts.{first_left, first_one, first_zero}
 use Rattle.axis_tables.specs.View.{Repeat, Unended, none, inside, AxisView, components_of}
-use Rattle.axis_tables.specs.Written.{components_from, regions_of, words_with, axis_words, state_of, repeat_of, reading_of}
+use Rattle.axis_tables.specs.Written.{regions_of, words_with, axis_words, state_of, repeat_of, reading_of}
 use Rattle.axis_tables.proofs.Lays.{lay-put}
 use Rattle.axis_tables.proofs.Same.{positive}
 use Rattle.axis_tables.proofs.Fits.{Fits, SmallUnended}
 use Rattle.axis_tables.proofs.Back.{template-back, components-back, name-words-back}
 use Rattle.sheet_rules.specs.Sheet.{size_of, explicit_of, entries_of, open_fault, count_fault, entries_fault, axis_fault}
-use Rattle.sheet_rules.specs.Panels.{name_words, name_entries, entry_words, sized_state}
+use Rattle.sheet_rules.specs.Panels.{name_entries, entry_words, sized_state}
 use Rattle.sheet_end.specs.End.{size_in, entries_by, entries_in, end_fault_in, end_in}
 use Rattle.sheet_end.proofs.Faults.{kept}
 use Rattle.sheet_end.proofs.Entries.{few-components, none_open, entries-count}

@@ -1,4 +1,7 @@
 // After the last line of a sheet: the explicit size of an axis and its name entries, written out.
+
+#![tactic(auto)]
+
 ghost use Rattle.std.specs.Prelude.{◌≡◌};
 ghost use Rattle.sheet_end.specs.End.{sized_by, end_in};
 ghost use Rattle.sheet_end.specs.Steps.{fault_by};
@@ -12,13 +15,14 @@ use axis_tables::{AxisReading, AxisState};
 use template_rules::ExplicitSize;
 
 // An axis after the last line: the number of its refusal, 0 where there is none, and its state, on a refusal as it came.
-#[derive(Drop)]
+#[derive(Clone, Copy)]
 pub struct AxisEnd {
     pub fault: u32,
     pub state: AxisState,
 }
 
 // The fault of an axis: an open repeat is 1, then the refusal of its size, then more than 4,096 entries, which is 8.
+#[tactic(auto, unfolding(crate::specs::Steps::fault_by))]
 fn end_fault(kind: u32, refused: u32, entries: u32) -> u32
     ensures { result ≡ fault_by kind refused entries }
 {

@@ -13,6 +13,7 @@ use name_template::write_out::write_names;
 use template_rules::ExplicitSize;
 
 // How many entries an axis of that size has, held at 4,097: none where its template counts as none.
+#[tactic(auto, unfolding(crate::specs::End::entries_by))]
 pub fn count_entries(state: AxisState, size: ExplicitSize, words: &[u64]) -> u32
     ensures { result ≡ min 4097 (length (entries_by state words.now size)) }
 {

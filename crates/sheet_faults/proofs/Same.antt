@@ -3,16 +3,14 @@ use Prim.Native.Nat.{ℕ}
 use mathlib.Core.Path.{◌≡◌, refl, sym, ap, ◌∙◌}
 use mathlib.Core.List.{List}
 use mathlib.Core.Bool.{Bool, true, false, cond}
-use mathlib.Core.Logic.{◌⊎◌, inl, inr}
-use native.Mathlib.Omega.{arith}
-use lib.Dec.{eqb, ltb, leb}
-use borrow.Author.Tests.{eq-eqb, ne_eqb, eqb-true, le-leb, lt-leb, leb-true, leb-false}
+use lib.Dec.{eqb}
+use borrow.Author.Tests.{eq-eqb, eqb-true}
 use Rattle.coordinates.specs.declared.axis.Axis.{Axis}
 use Rattle.coordinates.specs.declared.axis.Axis.TheVariants.{Column, Row}
 use Rattle.sheet_forms.specs.declared.Record.{Record}
 use Rattle.sheet_forms.specs.declared.Record.TheVariants.{Fault, Axis as AxisLine, Area, Name, Track, Repeat, End, Spare, Extra, Item, Place, PictureRow}
 use Rattle.sheet_forms.specs.Words.{at}
-use Rattle.sheet_forms.specs.Faults.{rank_of, first_of}
+use Rattle.sheet_forms.specs.Faults.{first_of}
 use Rattle.sheet_forms.specs.Records.{record_of, fault_of}
 use Rattle.sheet_forms.proofs.Firsts.{first_zero, first_joined}
 use Rattle.sheet_forms.proofs.Bounds.{Bounded}
@@ -21,7 +19,7 @@ use Rattle.axis_tables.specs.View.{Unended, none, inside, AxisView}
 use Rattle.axis_tables.specs.Written.{repeat_of, reading_of}
 use Rattle.panel_tables.specs.View.{PanelView, refused, accepted}
 use Rattle.panel_tables.specs.Axes.{reading_in, view_in}
-use Rattle.panel_tables.specs.Written.{PanelStepped, panel_reading_of, held_panel}
+use Rattle.panel_tables.specs.Written.{panel_reading_of, held_panel}
 use Rattle.panel_tables.proofs.Fits.{FitsPanel}
 use Rattle.panel_tables.proofs.Back.{has_back}
 use Rattle.panel_cells.proofs.Search.{sharing-back}

@@ -1,4 +1,7 @@
 // One line of a panel sheet: the faults that it has before it is written, and the area that it shares a cell with.
+
+#![tactic(auto)]
+
 pub mod fault;
 pub mod overlap;
 
@@ -7,7 +10,7 @@ use panel_tables::{AreaEdges, Panel, Reading};
 use sheet_forms::PlaceEnd;
 
 // What a record is written to; a row of a picture with its number of words.
-#[derive(Drop)]
+#[derive(Clone, Copy)]
 pub enum Part {
     Nothing,
     Columns,
@@ -19,7 +22,7 @@ pub enum Part {
 
 // A line that was read: the number of its fault, 0 where it has none, the number of the first area that it shares a cell with, 0 where an
 // overlap is not the first of all its faults, and the panel and the reading after it.
-#[derive(Drop)]
+#[derive(Clone, Copy)]
 pub struct LineRead {
     pub fault: u32,
     pub shared: u32,

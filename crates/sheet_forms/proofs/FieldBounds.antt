@@ -15,7 +15,7 @@ use Rattle.text.specs.declared.Index.TheVariants.{Outside as Outside-as-Index, V
 use Rattle.text.specs.Whole.{Written, none, whole, whole_of, count_in, index_in}
 use Rattle.sheet_forms.specs.declared.RepeatRecord.{RepeatRecord}
 use Rattle.sheet_forms.specs.declared.PlaceEnd.{PlaceEnd}
-use Rattle.sheet_forms.specs.Words.{at, nought, end_words, repeat_words}
+use Rattle.sheet_forms.specs.Words.{nought, end_words, repeat_words}
 use Rattle.sheet_forms.specs.Faults.{first_of}
 use Rattle.sheet_forms.specs.Fields.{good, faulty, word_of, count_field, count_of, repetition_at, repetition_of, name_fault}
 use Rattle.sheet_forms.specs.Ends.{end_kind, uses_name, end_name, index_field, faulty_number, end_number, end_of}

@@ -1,7 +1,7 @@
 -- The order in which the faults of one line are named: no two numbers have one place, 12 stands after 6 and 7 and before 8, 13 after 8, 14 after
 -- 13, and 10 is last.
 -- Assumes nothing.
-use Prim.Native.Nat.{ℕ, suc, ◌<◌, ◌≤◌}
+use Prim.Native.Nat.{ℕ, suc, ◌<◌}
 use mathlib.Core.Path.{◌≡◌, refl, sym, ◌∙◌}
 use mathlib.Core.List.{List, [], ◌∷◌}
 use mathlib.Core.Bool.{Bool, true, false, cond}

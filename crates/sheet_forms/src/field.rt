@@ -6,13 +6,13 @@ use coordinates::Axis;
 use coordinates::refusal::{COUNT, UNREAD};
 use text::Count;
 
-#[derive(Drop)]
+#[derive(Clone, Copy)]
 pub struct Field {
     pub fault: u32,
     pub value: u32,
 }
 
-#[derive(Drop)]
+#[derive(Clone, Copy)]
 pub struct AxisField {
     pub fault: u32,
     pub axis: Axis,

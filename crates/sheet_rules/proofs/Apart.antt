@@ -1,6 +1,6 @@
 -- A picture and `area` records stand apart: after a row no area is drawn, so no overlap is noted. Assumes nothing.
 use Prim.Native.Nat.{ℕ, ◌+◌, ◌≤◌, ◌<◌}
-use mathlib.Core.Path.{◌≡◌, refl, sym, ap, ◌∙◌, subst}
+use mathlib.Core.Path.{◌≡◌, refl, sym, ap, ◌∙◌}
 use mathlib.Core.List.{List, [], ◌∷◌}
 use mathlib.Core.Bool.{Bool, true, false, cond}
 use mathlib.Core.Logic.{inl}
@@ -17,7 +17,7 @@ use Rattle.panel_tables.specs.View.{PanelView}
 use Rattle.sheet_rules.specs.Lines.{stage_of, shared_with, line_fault, shared_at, line_step}
 use Rattle.sheet_rules.specs.Sheet.{no_overlap, overlap_from}
 use Rattle.sheet_rules.specs.Contents.{Line}
-use Rattle.sheet_rules.specs.Rows.{Row, late, number_of, Holds, First}
+use Rattle.sheet_rules.specs.Rows.{late, Holds, First}
 use Rattle.sheet_rules.proofs.Says.{Says, record_says}
 use Rattle.sheet_rules.proofs.LineRows.{late-no}
 use Rattle.sheet_rules.proofs.LineTheorem.{line_first}

@@ -1,18 +1,18 @@
 -- The choice between an overlap and the outcome where that is no fault: an accepted sheet has no overlap, and the outcome is its own.
 -- Assumes nothing.
 use Prim.Native.Nat.{ℕ, ◌+◌}
-use mathlib.Core.Path.{◌≡◌, refl, sym, ap, ◌∙◌}
+use mathlib.Core.Path.{◌≡◌, refl}
 use mathlib.Core.List.{List, [], ◌∷◌}
 use mathlib.Core.Bool.{Bool, true, false, cond}
 use native.Mathlib.Omega.{arith}
 use lib.Dec.{eqb, ltb}
 use lib.ListN.{length}
-use borrow.Author.Tests.{eq-eqb, ne_eqb, eqb-true, eqb-false}
+use borrow.Author.Tests.{eq-eqb, ne_eqb, eqb-true}
 use Rattle.text.specs.Split.{split}
 use Rattle.panel_tables.specs.View.{PanelView, empty_view}
 use Rattle.sheet_rules.specs.declared.Overlap.{Overlap}
 use Rattle.sheet_rules.specs.Lines.{shared_at, line_step}
-use Rattle.sheet_rules.specs.Sheet.{Outcome, outcome, run, fold_of, broken_of, display_of, no_overlap, overlap_at, overlap_from, overlap_of, chosen, sheet_of}
+use Rattle.sheet_rules.specs.Sheet.{fold_of, broken_of, display_of, no_overlap, overlap_at, overlap_from, overlap_of, sheet_of}
 
 pub accepted_former : (s : List ℕ) → (sheet_of s).fault ≡ 0 → ((overlap_of s).later ≡ 0) × ((display_of s).fault ≡ 0)
 unfolding sheet_of

@@ -1,5 +1,5 @@
 -- The view of every accepted sheet is what its lines say: one induction over the lines. Assumes nothing.
-use Prim.Native.Nat.{ℕ, ◌+◌, ◌-◌, ◌≤◌, ◌<◌, max}
+use Prim.Native.Nat.{ℕ, ◌+◌, ◌-◌, ◌≤◌, max}
 use mathlib.Core.Path.{◌≡◌, refl, sym, ap, ap₂, ◌∙◌, subst}
 use mathlib.Core.List.{List, [], ◌∷◌, ◌++◌, map, map-append, append_assoc, append-nil}
 use mathlib.Core.Bool.{Bool, true, false, cond, not, false≢true}
@@ -7,7 +7,7 @@ use mathlib.Core.Logic.{◌⊎◌, inl, inr}
 use lib.Dec.{eqb, leb, ltb}
 use lib.IntN.{ℤ}
 use native.Mathlib.Omega.{arith}
-use lib.ListN.{length, drop, length-replicate, get_or-replicate, length-append}
+use lib.ListN.{length, length-replicate, get_or-replicate, length-append}
 use borrow.Author.Tests.{eqb-true, eqb-false, leb-true, leb-false}
 use Rattle.coordinates.specs.declared.axis.Axis.{Axis}
 use Rattle.coordinates.specs.declared.axis.Axis.TheVariants.{Column, Row}
@@ -27,7 +27,7 @@ use Rattle.panel_tables.specs.declared.AreaEdges.{AreaEdges}
 use Rattle.panel_tables.specs.View.{Area as AnArea, End as PlacedEnd, Placement, PanelView, PanelOutcome, empty_view, refused as refused_panel, accepted as accepted_panel, raised, edges_outside, end_outside, area_step, place_step}
 use Rattle.panel_tables.specs.Axes.{view_in, with_view}
 use Rattle.panel_tables.proofs.Rooms.{fault_stays}
-use Rattle.sheet_rules.specs.Lines.{bit, edges_of, placed_end, late_at, record_step, twice_fault, stage_of, late_fault, record_fault, at_stage, line_step}
+use Rattle.sheet_rules.specs.Lines.{bit, edges_of, placed_end, late_at, record_step, stage_of, at_stage, line_step}
 use Rattle.picture_rules.specs.Picture.{Word, Picture, width_of}
 use Rattle.picture_rules.specs.Steps.{rows_from}
 use Rattle.sheet_rules.specs.Pictures.{areas_of, with_words, other_width, drawn_row, picture_step}
@@ -39,7 +39,7 @@ use Rattle.sheet_rules.proofs.Says.{Says, record_says}
 use Rattle.sheet_rules.proofs.Chosen.{accepted_former, display_former_lem}
 use Rattle.sheet_rules.proofs.AxisContents.{more, those-more, Chosen, chosen, word, grown, chosen_more, open_lines, AxisAgrees, name-written, track-written, repeat-written, end-written, template-agrees, spare-agrees, extra-agrees, item-agrees, axis-agrees, area-agrees, row-agrees}
 use Rattle.sheet_rules.proofs.LineRows.{late-no}
-use Rattle.sheet_rules.proofs.Pictures.{row_taken, CleanLine, clean_line}
+use Rattle.sheet_rules.proofs.Pictures.{row_taken, clean_line}
 use Rattle.sheet_rules.proofs.TemplateContents.{picked, name_said, track_said, names_from_lem, tracks_of_lem, picked-lines, name-one, track-one}
 
 -- ---- a panel says what its lines say

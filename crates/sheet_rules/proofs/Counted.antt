@@ -20,7 +20,7 @@ use Rattle.name_rules.specs.Template.{rule_from}
 use Rattle.axis_tables.specs.Store.{zero_template}
 use Rattle.axis_tables.specs.View.{Item, AxisView, components_of, axis_bytes}
 use Rattle.axis_tables.specs.Written.{room_of}
-use Rattle.sheet_rules.specs.Sheet.{size_of, counted, explicit_of, entries_of}
+use Rattle.sheet_rules.specs.Sheet.{size_of, counted, entries_of}
 use Rattle.sheet_rules.specs.Valid.{ValidTemplate, CssCounted}
 use Rattle.sheet_rules.specs.Panels.{name_entries, entry_words, sized_state, pasted}
 

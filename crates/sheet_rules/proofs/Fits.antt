@@ -30,8 +30,8 @@ use Rattle.sheet_rules.specs.Pictures.{areas_of, with_words, other_width, drawn_
 use Rattle.sheet_rules.proofs.LineRows.{late-no}
 use Rattle.sheet_rules.proofs.Pictures.{row_taken, clean_line}
 use Rattle.sheet_rules.proofs.RowSame.{bounded_row, row-good}
-use Rattle.sheet_rules.specs.Lines.{bit, edges_of, placed_end, late_at, record_step, stage_of, record_fault, at_stage, record_outcome, line_step}
-use Rattle.sheet_rules.specs.Sheet.{end_fault, Outcome, outcome, ended, run, fold_of, display_of, sheet_of}
+use Rattle.sheet_rules.specs.Lines.{bit, edges_of, placed_end, late_at, record_step, stage_of, record_fault, at_stage, line_step}
+use Rattle.sheet_rules.specs.Sheet.{end_fault, outcome, ended, run, fold_of, display_of, sheet_of}
 
 -- ---- pictures
 

@@ -1,14 +1,14 @@
 -- Twice, late, overlap, misnested and crowded at a line that is a record: the fault of each is 0 exactly where its row does not hold. Assumes nothing.
-use Prim.Native.Nat.{ℕ, zero, suc, ◌+◌, ◌≤◌, ◌<◌, zero-le}
+use Prim.Native.Nat.{ℕ, ◌+◌, ◌≤◌}
 use mathlib.Core.Path.{◌≡◌, refl, sym, ap, ◌∙◌, subst}
 use mathlib.Core.List.{List, [], ◌∷◌}
 use mathlib.Core.Bool.{Bool, true, false, cond, not, ◌&&◌, ◌||◌, false≢true}
-use mathlib.Core.Logic.{◌⊎◌, inl, inr, ⊎_elim}
+use mathlib.Core.Logic.{◌⊎◌, inl, inr}
 use native.Mathlib.Omega.{arith}
 use lib.Dec.{eqb, leb, ltb, leb→le}
 use lib.IntN.{ℤ, pos, negsuc}
 use lib.Signed.{◌≤ℤ◌}
-use lib.ListN.{length, get_or, drop}
+use lib.ListN.{length, drop}
 use borrow.Author.Tests.{le-ltb, le-leb, eqb-true, eqb-false, ltb-true, ltb-false, leb-true, leb-false}
 use Rattle.coordinates.specs.declared.axis.Axis.{Axis}
 use Rattle.text.specs.Split.{same}
@@ -17,25 +17,23 @@ use Rattle.sheet_forms.specs.declared.Record.{Record}
 use Rattle.sheet_forms.specs.declared.Record.TheVariants.{Fault, Axis as AxisLine, Area as AreaLine, Name, Track, Repeat, End, Spare, Extra, Item, Place, PictureRow}
 use Rattle.sheet_forms.specs.declared.PlaceEnd.{PlaceEnd}
 use Rattle.sheet_forms.specs.Words.{at}
-use Rattle.sheet_forms.specs.Faults.{rank_of, first_of, FirstBy, no_row}
+use Rattle.sheet_forms.specs.Faults.{rank_of, first_of}
 use Rattle.sheet_forms.specs.Ends.{uses_name}
-use Rattle.sheet_forms.specs.Forms.{InNameRange, Kind, axis, area, name, track, repeat, end, spare, extra, item, place, row, Of}
+use Rattle.sheet_forms.specs.Forms.{Kind, axis, area, name, track, repeat, end, spare, extra, item, place, row, Of}
 use Rattle.sheet_forms.proofs.Firsts.{firsts-by, first_left, first_one, first_none}
 use Rattle.sheet_forms.proofs.LineRows.{same_kind_lem}
 use Rattle.sheet_forms.proofs.FieldBounds.{EndBounded}
 use Rattle.sheet_forms.proofs.Bounds.{Bounded}
-use Rattle.axis_tables.specs.View.{Unended, none, inside, AxisView, AxisOutcome, refused as refused_axis, accepted as accepted_axis, with_name, track_by, track_step, repeat_by, repeat_step, end_by, end_step, name_step, spare_step, item_step, extra_step, axis_step, tracks_in, components_of, axis_names, axis_bytes, no_room, named_fault}
-use Rattle.panel_tables.specs.declared.AreaEdges.{AreaEdges}
-use Rattle.panel_tables.specs.View.{Area, PanelView, PanelOutcome, has_area, refused, accepted, edge_outside, edges_outside, number_outside, end_outside, area_step, place_step}
+use Rattle.axis_tables.specs.View.{Unended, none, inside, AxisView, refused as refused_axis, accepted as accepted_axis, track_by, track_step, repeat_by, repeat_step, end_by, end_step, name_step, spare_step, item_step, extra_step, axis_step, tracks_in, components_of, axis_names, axis_bytes, no_room, named_fault}
+use Rattle.panel_tables.specs.View.{Area, PanelView, has_area, refused, accepted, edge_outside, number_outside, end_outside, area_step, place_step}
 use Rattle.panel_tables.specs.Axes.{view_in}
-use Rattle.picture_rules.specs.Picture.{Word, Picture, width_of}
+use Rattle.picture_rules.specs.Picture.{Picture, width_of}
 use Rattle.panel_cells.specs.Cells.{SharedBy}
 use Rattle.panel_cells.specs.Steps.{first_sharing}
 use Rattle.panel_cells.proofs.Pairs.{sharing_none, sharing_some}
-use Rattle.sheet_rules.specs.Contents.{area_in}
 use Rattle.sheet_rules.specs.Pictures.{areas_of, with_words, other_width, drawn_row, picture_step}
-use Rattle.sheet_rules.specs.Lines.{edges_of, placed_end, late_at, record_step, twice_fault, stage_of, late_fault, overlap_fault}
-use Rattle.sheet_rules.specs.Rows.{OnAxis, OfAxis, Opened, Open, Seen, Drawn, MisnestedBy, TwiceBy, order_of, LateAt, LateBy, FullFor, NoRoomFor, ManyNames, CrowdedBy, OverlapBy, UnequalBy, AtKind, Row, unread, twice, late, crowded, overlap, unequal, number_of, First}
+use Rattle.sheet_rules.specs.Lines.{edges_of, placed_end, late_at, record_step, twice_fault, late_fault, overlap_fault}
+use Rattle.sheet_rules.specs.Rows.{OnAxis, OfAxis, Opened, Open, Seen, Drawn, MisnestedBy, TwiceBy, order_of, LateAt, LateBy, FullFor, NoRoomFor, ManyNames, CrowdedBy, OverlapBy, UnequalBy, AtKind, Row, unread, twice, late, crowded, overlap, unequal, First}
 use Rattle.sheet_rules.proofs.LineFields.{Reads}
 use Rattle.sheet_rules.proofs.Says.{Says, one_axis}
 use Rattle.sheet_rules.proofs.Only.{Only, only_no, only_yes, only_if, some_number}

@@ -6,22 +6,22 @@ use mathlib.Core.List.{List}
 use mathlib.Core.Bool.{Bool, true, false, cond}
 use mathlib.Core.Logic.{◌⊎◌, inl, inr, ⊎_elim, ◌↔◌}
 use native.Mathlib.Omega.{arith}
-use lib.Dec.{eqb, ltb}
-use borrow.Author.Tests.{le-ltb, eqb-true, eqb-false}
+use lib.Dec.{eqb}
+use borrow.Author.Tests.{eqb-true, eqb-false}
 use Rattle.sheet_forms.specs.declared.Record.{Record}
 use Rattle.sheet_forms.specs.declared.Record.TheVariants.{Fault, Axis as AxisLine, Area, Name, Track, Repeat, End, Spare, Extra, Item, Place, PictureRow}
-use Rattle.sheet_forms.specs.Faults.{rank_of, first_of, FirstBy, no_row, first_row}
+use Rattle.sheet_forms.specs.Faults.{rank_of, first_of, no_row, first_row}
 use Rattle.sheet_forms.specs.Records.{record_of, fault_of}
-use Rattle.sheet_forms.specs.Forms.{Kind, axis, area, name, track, repeat, end, spare, extra, item, place, row, Of}
+use Rattle.sheet_forms.specs.Forms.{axis, area, name, track, repeat, end, spare, extra, item, place, row}
 use Rattle.sheet_forms.proofs.Firsts.{firsts-by, first-same, first-unique, first_none, first_left, first_joined, first_without}
 use Rattle.sheet_forms.proofs.Bounds.{Bounded}
 use Rattle.sheet_forms.proofs.Theorem.{record_bounded}
-use Rattle.panel_tables.specs.View.{PanelView, PanelOutcome, refused, accepted}
-use Rattle.sheet_rules.specs.Lines.{late_at, record_step, twice_fault, stage_of, late_fault, shared_with, overlap_fault, record_fault, strict_fault, line_fault, shared_at, record_outcome, line_step}
-use Rattle.sheet_rules.specs.Rows.{MisnestedBy, TwiceBy, LateBy, CrowdedBy, AtKind, Row, unread, bad_name, bad_value, bad_count, bad_area, twice, late, crowded, overlap, unequal, broken, number_of, Holds, First}
+use Rattle.panel_tables.specs.View.{PanelView, refused, accepted}
+use Rattle.sheet_rules.specs.Lines.{late_at, record_step, twice_fault, late_fault, shared_with, overlap_fault, record_fault, strict_fault, line_fault, shared_at, record_outcome, line_step}
+use Rattle.sheet_rules.specs.Rows.{MisnestedBy, AtKind, Row, unread, bad_name, bad_value, bad_count, bad_area, twice, late, crowded, overlap, unequal, broken, number_of, Holds, First}
 use Rattle.sheet_rules.proofs.LineFields.{record_reads, Reads}
 use Rattle.sheet_rules.proofs.Says.{Says, record_says}
-use Rattle.sheet_rules.proofs.Only.{Only, OwnRows, own_first, some_number}
+use Rattle.sheet_rules.proofs.Only.{OwnRows, own_first, some_number}
 use Rattle.sheet_rules.proofs.LineRows.{late_yes, IsRecord, TwiceRow, LateRow, OverlapRow, StepRow, twice-first, late-first, overlap-first, step-first}
 
 -- a place in the kind order is not late after itself

@@ -1,14 +1,14 @@
 -- The overlap that reading notes is the first pair of areas that share a cell; where it notes none, every cell lies in at most one area.
 -- Assumes nothing.
-use Prim.Native.Nat.{ℕ, zero, suc, ◌+◌, ◌-◌, ◌≤◌, ◌<◌}
+use Prim.Native.Nat.{ℕ, zero, suc, ◌+◌, ◌≤◌}
 use mathlib.Core.Path.{◌≡◌, refl, sym, ap, ◌∙◌, subst}
 use mathlib.Core.List.{List, [], ◌∷◌, ◌++◌, map, map-append, append_assoc, append-nil}
 use mathlib.Core.Bool.{Bool, true, false, cond}
-use mathlib.Core.Logic.{inl, inr, ⊎_elim}
+use mathlib.Core.Logic.{inl, ⊎_elim}
 use native.Mathlib.Omega.{arith}
 use lib.Dec.{eqb, leb, ltb}
 use lib.ListN.{length, take, drop, length-append}
-use borrow.Author.Tests.{eqb-true, eqb-false, eq-eqb, ne_eqb, leb-true, leb-false}
+use borrow.Author.Tests.{eqb-true, eqb-false, leb-true, leb-false}
 use Rattle.text.specs.Split.{split, same}
 use Rattle.sheet_forms.specs.declared.AreaRecord.{AreaRecord}
 use Rattle.sheet_forms.specs.declared.Record.{Record}
@@ -18,16 +18,15 @@ use Rattle.sheet_forms.specs.Forms.{Kind, axis, area, name, track, repeat, end, 
 use Rattle.sheet_forms.specs.Records.{record_of, fault_of}
 use Rattle.sheet_forms.proofs.Firsts.{first_zero}
 use Rattle.panel_tables.specs.declared.AreaEdges.{AreaEdges}
-use Rattle.panel_tables.specs.View.{Area, PanelView, empty_view, accepted, refused}
-use Rattle.panel_cells.specs.Cells.{NoPair, FirstPair, CellsOnce}
+use Rattle.panel_tables.specs.View.{Area, PanelView, empty_view}
+use Rattle.panel_cells.specs.Cells.{NoPair, FirstPair}
 use Rattle.panel_cells.specs.Steps.{first_sharing}
-use Rattle.panel_cells.proofs.Pairs.{none_more, first_more, none_empty, none_once, pair_stays}
+use Rattle.panel_cells.proofs.Pairs.{none_more, first_more, none_empty, pair_stays}
 use Rattle.sheet_rules.specs.declared.Overlap.{Overlap}
-use Rattle.sheet_rules.specs.Lines.{edges_of, late_at, record_step, twice_fault, stage_of, late_fault, shared_with, overlap_fault, record_fault, strict_fault, line_fault, shared_at, at_stage, record_outcome, line_step}
-use Rattle.sheet_rules.specs.Sheet.{Outcome, outcome, end_fault, ended, run, fold_of, display_of, no_overlap, overlap_at, overlap_from, overlap_of, sheet_of}
+use Rattle.sheet_rules.specs.Lines.{edges_of, late_at, record_step, twice_fault, stage_of, late_fault, shared_with, overlap_fault, strict_fault, line_fault, shared_at, line_step}
+use Rattle.sheet_rules.specs.Sheet.{outcome, run, fold_of, display_of, no_overlap, overlap_at, overlap_from, overlap_of}
 use Rattle.sheet_rules.specs.Contents.{Line, lines_from, lines_of, those, is_of, lines_with, area_in, words_in, picture_in}
 use Rattle.picture_rules.specs.Picture.{Picture}
-use Rattle.picture_rules.specs.Steps.{rows_from}
 use Rattle.sheet_rules.specs.Pictures.{areas_of}
 use Rattle.sheet_rules.specs.Overlaps.{areas_to, PairAt}
 use Rattle.sheet_rules.proofs.LineFields.{Reads, record_reads}

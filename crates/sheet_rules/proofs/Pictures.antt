@@ -7,8 +7,8 @@ use mathlib.Core.Logic.{◌⊎◌, inl, inr, ◌↔◌}
 use native.Mathlib.Omega.{arith}
 use lib.Dec.{eqb, leb, ltb}
 use lib.ListN.{length, drop}
-use borrow.Author.Tests.{eq-eqb, ne_eqb, eqb-true, eqb-false, le-ltb, leb-false, ltb-false}
-use Rattle.picture_rules.specs.Picture.{Word, Picture, AllFilled}
+use borrow.Author.Tests.{eqb-true, eqb-false, le-ltb, leb-false, ltb-false}
+use Rattle.picture_rules.specs.Picture.{Word}
 use Rattle.picture_rules.specs.Steps.{taken_of}
 use Rattle.picture_rules.proofs.Theorem.{picture_exactly}
 use Rattle.sheet_forms.specs.declared.Record.{Record}
@@ -31,7 +31,7 @@ use Rattle.sheet_rules.specs.Contents.{Line, words_in}
 use Rattle.sheet_rules.specs.Pictures.{areas_of, with_words, other_width, drawn_row, picture_step}
 use Rattle.sheet_rules.specs.Lines.{edges_of, placed_end, late_at, record_step, twice_fault, stage_of, late_fault, record_fault, at_stage, line_step}
 use Rattle.sheet_rules.specs.Sheet.{broken_at}
-use Rattle.sheet_rules.specs.Rows.{LateBy, PictureKind, RowFollows, here, there, BrokenBy}
+use Rattle.sheet_rules.specs.Rows.{PictureKind, RowFollows, here, there, BrokenBy}
 use Rattle.sheet_rules.proofs.KindTest.{kind_exactly}
 use Rattle.sheet_rules.proofs.Says.{Says, record_says}
 use Rattle.sheet_rules.proofs.LineRows.{late-no}
@@ -114,6 +114,7 @@ follows_from (fs ∷ ls) (there h r) = go (is_kind row fs) (is_one later_kinds f
     go true u q e = refl
     go false true q e = absurd (ends_not fs q h)
     go false false q e = e
+follows_from [] x' = elim x' [ ]
 
 -- the test is right
 pub follows_exactly : (ls : List Line) → (row_follows ls ≡ true) ↔ RowFollows ls

@@ -6,7 +6,7 @@ use mathlib.Core.Bool.{Bool, true, false, cond, not, false≢true}
 use native.Mathlib.Omega.{arith}
 use lib.Dec.{eqb, leb, ltb}
 use lib.ListN.{length, length-append, length-map}
-use borrow.Author.Tests.{eq-eqb, ne_eqb, eqb-true, eqb-false, le-ltb, leb-false, ltb-true, ltb-false}
+use borrow.Author.Tests.{ne_eqb, eqb-true, le-ltb, leb-false, ltb-true, ltb-false}
 use Rattle.axis_tables.proofs.Runs.{All}
 use Rattle.picture_rules.specs.Picture.{Word, Picture, PictureArea, width_of}
 use Rattle.picture_rules.specs.Steps.{PictureState, row_step, rows_from, taken_of, no_rows}
@@ -14,14 +14,13 @@ use Rattle.picture_rules.proofs.Taken.{row_counts}
 use Rattle.picture_areas.specs.declared.draw.Drawn.{Drawn}
 use Rattle.picture_areas.specs.Runs.{InPicture, table_area, table_of}
 use Rattle.picture_areas.proofs.Same.{TableFits}
-use Rattle.picture_rows.specs.Steps.{row_in, refused_row}
+use Rattle.picture_rows.specs.Steps.{row_in}
 use Rattle.picture_rows.specs.Rows.{pictured, RowTaken}
 use Rattle.picture_rows.proofs.Same.{row_same}
 use Rattle.sheet_forms.specs.Faults.{rank_of, first_of}
-use Rattle.sheet_forms.specs.Fields.{words_fault, row_fault}
+use Rattle.sheet_forms.specs.Fields.{row_fault}
 use Rattle.sheet_forms.proofs.WordRows.{RowBounded}
 use Rattle.panel_tables.specs.declared.Panel.{Panel}
-use Rattle.panel_tables.specs.declared.PictureReading.{PictureReading}
 use Rattle.panel_tables.specs.View.{Area, PanelView, PanelOutcome, refused, accepted}
 use Rattle.axis_tables.specs.Written.{reading_of, regions_of, words_with, axis_words, names_store}
 use Rattle.panel_tables.specs.Written.{area_words, area_store, placement_words, placement_store, panel_of, picture_reading_of, PanelStepped, held_panel}

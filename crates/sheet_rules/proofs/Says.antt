@@ -1,13 +1,13 @@
 -- The record of a line says its kind and its axis. Assumes nothing.
-use Prim.Native.Nat.{ℕ, ◌≤◌, ◌<◌}
+use Prim.Native.Nat.{ℕ, ◌<◌}
 use mathlib.Core.Path.{◌≡◌, refl, sym, ap, ◌∙◌, subst}
 use mathlib.Core.List.{List, []}
 use mathlib.Core.Bool.{Bool, true, false, cond}
-use mathlib.Core.Logic.{◌⊎◌, inl, inr, ⊎_elim}
+use mathlib.Core.Logic.{⊎_elim}
 use native.Mathlib.Omega.{arith}
 use lib.Dec.{eqb, leb, ltb}
 use lib.ListN.{length, get_or, drop}
-use borrow.Author.Tests.{eq-eqb, ne_eqb, eqb-true, eqb-false, ltb-false}
+use borrow.Author.Tests.{eq-eqb, ne_eqb, eqb-true, ltb-false}
 use Rattle.coordinates.specs.declared.axis.Axis.{Axis}
 use Rattle.coordinates.specs.declared.axis.Axis.TheVariants.{Column, Row as Rows}
 use Rattle.text.specs.Split.{index}
@@ -15,7 +15,6 @@ use Rattle.text.proofs.Which.{index_word}
 use Rattle.sheet_forms.specs.declared.Record.{Record}
 use Rattle.sheet_forms.specs.declared.Record.TheVariants.{Fault, Axis as AxisLine, Area, Name, Track, Repeat, End, Spare, Extra, Item, Place, PictureRow}
 use Rattle.sheet_forms.specs.declared.RepeatRecord.{RepeatRecord}
-use Rattle.sheet_forms.specs.declared.field.AxisField.{AxisField}
 use Rattle.sheet_forms.specs.Words.{at, axis_words, kind_words}
 use Rattle.sheet_forms.specs.Faults.{first_of}
 use Rattle.sheet_forms.specs.Fields.{axis_at, axis_of, rule_of, count_of, repetition_of, name_fault, row_fault}
@@ -26,7 +25,7 @@ use Rattle.sheet_forms.specs.Records.{unless, edges_of, made_axis, made_area, ma
 use Rattle.sheet_forms.specs.Forms.{Kind, axis, area, name, track, repeat, end, spare, extra, item, place, row, kind_number, Fields, Of}
 use Rattle.sheet_forms.proofs.Firsts.{none_or_some, first_zero}
 use Rattle.sheet_forms.proofs.FieldRows.{below_or}
-use Rattle.sheet_forms.proofs.LineRows.{kind_at, number_back_lem, same_kind_lem, word-index, kind_below}
+use Rattle.sheet_forms.proofs.LineRows.{kind_at, number_back_lem, same_kind_lem}
 use Rattle.sheet_forms.proofs.LineFaults.{line_of, line_record, no_record}
 use Rattle.sheet_rules.specs.Rows.{OnAxis}
 

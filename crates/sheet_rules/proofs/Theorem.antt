@@ -1,6 +1,6 @@
 -- A sheet is refused with the number and line of the row that holds at the earliest line and comes first there; it is accepted exactly if no row
 -- holds at any line. Assumes nothing.
-use Prim.Native.Nat.{ℕ, zero, suc, ◌+◌, ◌≤◌, ◌<◌, zero-le}
+use Prim.Native.Nat.{ℕ, zero, suc, ◌+◌, ◌≤◌, ◌<◌}
 use mathlib.Core.Path.{◌≡◌, refl, sym, ap, ◌∙◌, subst}
 use mathlib.Core.List.{List, [], ◌∷◌}
 use mathlib.Core.Bool.{Bool, true, false, cond}
@@ -11,14 +11,14 @@ use lib.Dec.{eqb, ltb}
 use lib.ListN.{length}
 use borrow.Author.Tests.{ne_eqb, eqb-true, eqb-false, ltb-true, ltb-false}
 use Rattle.text.specs.Split.{split}
-use Rattle.sheet_forms.specs.Faults.{rank_of, first_of, FirstBy, no_row, first_row}
+use Rattle.sheet_forms.specs.Faults.{rank_of, no_row, first_row}
 use Rattle.sheet_forms.proofs.Order.{rank_same}
 use Rattle.sheet_forms.proofs.Firsts.{firsts-by, first-same}
 use Rattle.axis_tables.specs.View.{Unended, none, inside, AxisView}
 use Rattle.panel_tables.specs.View.{PanelView, empty_view}
-use Rattle.sheet_rules.specs.Lines.{line_fault, shared_at, line_step}
-use Rattle.sheet_rules.specs.Sheet.{explicit_of, entries_of, open_fault, count_fault, entries_fault, axis_fault, end_fault, Outcome, outcome, ended, run, fold_of, broken_at, broken_from, broken_of, with_broken, display_of, no_overlap, overlap_at, overlap_from, overlap_of, chosen, sheet_of}
-use Rattle.sheet_rules.specs.Rows.{Opened, Open, Row, unread, bad_name, bad_value, bad_count, bad_area, twice, late, crowded, overlap, unequal, broken, number_of, Holds, HoldsLine, HoldsAfter, HoldsLast, HoldsFrom, HoldsAt, First, FirstAt, Nowhere}
+use Rattle.sheet_rules.specs.Lines.{shared_at, line_step}
+use Rattle.sheet_rules.specs.Sheet.{explicit_of, entries_of, open_fault, axis_fault, end_fault, Outcome, outcome, ended, run, fold_of, broken_at, broken_from, broken_of, with_broken, display_of, no_overlap, overlap_at, overlap_from, overlap_of, chosen, sheet_of}
+use Rattle.sheet_rules.specs.Rows.{Opened, Open, Row, unread, bad_name, bad_value, bad_count, bad_area, twice, late, crowded, overlap, unequal, broken, number_of, Holds, HoldsLine, HoldsAfter, HoldsFrom, HoldsAt, First, FirstAt, Nowhere}
 use Rattle.sheet_rules.proofs.Only.{Only, only_no, only_yes, only_if, some_number}
 use Rattle.sheet_rules.specs.Contents.{Line, lines_from}
 use Rattle.sheet_rules.proofs.LineTheorem.{line_first, line-former, line-overlap}

@@ -1,5 +1,5 @@
 -- The picture of a sheet that is not refused is not broken, and no two of its areas share a cell. Assumes nothing.
-use Prim.Native.Nat.{ℕ, zero, suc, ◌+◌, ◌-◌, ◌≤◌, ◌<◌, suc-le-suc}
+use Prim.Native.Nat.{ℕ, zero, suc, ◌+◌, ◌-◌, ◌≤◌, ◌<◌}
 use mathlib.Core.Path.{◌≡◌, refl, sym, ap, ◌∙◌, subst}
 use mathlib.Core.List.{List, [], ◌∷◌}
 use mathlib.Core.Bool.{Bool, true, false, cond, not, ◌&&◌, false≢true}
@@ -11,12 +11,12 @@ use lib.ListN.{length, get_or, length-map}
 use borrow.Author.Tests.{eqb-true, eqb-false}
 use Rattle.text.specs.Split.{split}
 use Rattle.sheet_forms.specs.Forms.{row}
-use Rattle.picture_rules.specs.Picture.{Picture, Box, PictureArea, Among, Pairs, NoCell}
+use Rattle.picture_rules.specs.Picture.{Picture, PictureArea, Among, Pairs, NoCell}
 use Rattle.picture_rules.specs.Steps.{rows_from, taken_of}
 use Rattle.picture_rules.proofs.Theorem.{picture_disjoint}
 use Rattle.picture_areas.specs.Runs.{table_area, table_of}
 use Rattle.panel_tables.specs.View.{Area, no_area, PanelView, empty_view}
-use Rattle.panel_cells.specs.Cells.{Covers, ShareCell, Pair, NoPair}
+use Rattle.panel_cells.specs.Cells.{Covers, ShareCell, NoPair}
 use Rattle.sheet_rules.specs.Kinds.{is_kind, is_one, later_kinds, row_follows}
 use Rattle.sheet_rules.specs.Contents.{Line, lines_from}
 use Rattle.sheet_rules.specs.Pictures.{areas_of}

@@ -1,7 +1,7 @@
 -- Rows 1 to 8 and 12 to 14 of the table of refusals (document 01; document 02, requests 03 and 07): at a line, over its fields and the panel that the lines before it describe, and after the last line
 -- (SHEET.md, Refusals).
 -- They don't name the reader; proofs/Theorem.antt shows that it follows them.
-use Rattle.std.specs.Prelude.{ℕ, zero, suc, ◌+◌, ◌≤◌, ◌<◌, ◌≡◌, List, [], ◌∷◌, ◌++◌, ◌⊎◌, length, get_or, drop}
+use Rattle.std.specs.Prelude.{ℕ, zero, suc, ◌+◌, ◌≤◌, ◌<◌, ◌≡◌, List, [], ◌∷◌, ◌⊎◌, length, get_or}
 use Rattle.coordinates.specs.declared.axis.Axis.{Axis}
 use Rattle.coordinates.specs.declared.axis.Axis.TheVariants.{Column, Row as Rows}
 use Rattle.sheet_forms.specs.Words.{at, axis_words}

@@ -11,7 +11,7 @@ use Rattle.axis_tables.specs.declared.AxisPut.{AxisPut}
 use Rattle.panel_tables.specs.Areas.{put_area}
 use Rattle.panel_tables.specs.Placements.{put_placement}
 use Rattle.panel_tables.specs.Written.{PanelHeld, PanelStepped, of_areas, of_placements}
-use Rattle.panel_tables.specs.Axes.{state_in, reading_in, held_in}
+use Rattle.panel_tables.specs.Axes.{state_in, held_in}
 use Rattle.picture_rules.specs.Picture.{Word}
 use Rattle.picture_areas.specs.Runs.{InPicture}
 use Rattle.picture_rows.specs.Steps.{row_in}

@@ -1,5 +1,5 @@
 -- A record written into its regions of the lent words and bytes is written into what a panel holds, and into nothing else of it. Assumes nothing.
-use Prim.Native.Nat.{ℕ, ◌+◌, ◌-◌, ◌≤◌}
+use Prim.Native.Nat.{ℕ, ◌+◌, ◌≤◌}
 use mathlib.Core.Path.{◌≡◌, refl, sym, ap, ap₂, ◌∙◌}
 use mathlib.Core.Bool.{Bool, true, false, cond}
 use lib.Dec.{leb}
@@ -21,17 +21,16 @@ use Rattle.panel_tables.specs.declared.Panel.{Panel}
 use Rattle.panel_tables.specs.declared.Reading.{Reading}
 use Rattle.panel_tables.specs.declared.AreaEdges.{AreaEdges}
 use Rattle.panel_tables.specs.Areas.{InAreas, put_area}
-use Rattle.panel_tables.specs.Axes.{state_in, reading_in, with_state, with_reading, held_in}
+use Rattle.panel_tables.specs.Axes.{state_in, reading_in, with_state, with_reading}
 use Rattle.panel_tables.specs.Regions.{first_word, first_mark, axis_words_in, marks_in, area_words_in, area_bytes_in, placement_words_in, placement_bytes_in}
 use Rattle.panel_tables.specs.Written.{PanelHeld, PanelStepped, panel_held_of, of_areas, of_placements}
 use Rattle.picture_rules.specs.Picture.{Word}
 use Rattle.picture_areas.specs.Runs.{InPicture}
 use Rattle.picture_rows.specs.Steps.{row_in}
-use Rattle.sheet_forms.specs.Faults.{first_of}
 use Rattle.sheet_rules.specs.Lines.{late_at}
-use Rattle.sheet_rules.specs.Steps.{axis_record, on_held, stayed, width_fault, of_row, held_row}
+use Rattle.sheet_rules.specs.Steps.{axis_record, on_held, stayed, of_row, held_row}
 use Rattle.sheet_faults.specs.Parts.{named, place_in}
-use Rattle.sheet_step.specs.Regions.{axis_in, axis_back, on_axis, parts_back, on_areas, on_placements, picture_back, on_drawing, drawn_read, InPanel, unchanged, drawn_in, on_picture}
+use Rattle.sheet_step.specs.Regions.{axis_in, on_axis, parts_back, on_areas, on_placements, picture_back, on_drawing, drawn_read, InPanel, unchanged, drawn_in, on_picture}
 
 -- ---- what was written into parts, put back
 

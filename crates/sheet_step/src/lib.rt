@@ -1,4 +1,7 @@
 // One line of a panel sheet: its record is read, checked against the lines before it, and written into the tables.
+
+#![tactic(auto)]
+
 mod axis;
 mod panel;
 mod picture;

@@ -1,8 +1,12 @@
 // Prints the records of three axes: M12 of document 01, its slip about negative spare sizes, and a template that is used after zero repetitions.
+
+#![tactic(auto)]
+
 ghost use Rattle.std.specs.Prelude.{◌≤◌};
 
-use libc::STDOUT_FILENO;
 use sizing::Sizing;
+use std::io;
+use std::io::Write;
 use track_counts::TrackCounts;
 use track_rules::{AxisTracks, GridTrack, GridTrackKind, TrackSource};
 
@@ -21,34 +25,35 @@ fn kind_of(size: Sizing) -> u64 {
 }
 
 // The source of a record, and the end of its line.
-fn print_source(source: TrackSource) {
+fn print_source<W: Write>(out: &mut W, source: TrackSource) -> io::Result<()> {
     match source {
-        TrackSource::Negative => io::write_all(STDOUT_FILENO, b"\tn\n"),
-        TrackSource::Template => io::write_all(STDOUT_FILENO, b"\tt\n"),
-        TrackSource::Automatic => io::write_all(STDOUT_FILENO, b"\ta\n"),
-        TrackSource::Area => io::write_all(STDOUT_FILENO, b"\tg\n"),
-        TrackSource::Positive => io::write_all(STDOUT_FILENO, b"\tp\n"),
-        TrackSource::Gutter => io::write_all(STDOUT_FILENO, b"\t-\n"),
-    };
+        TrackSource::Negative => out.write_all(b"\tn\n"),
+        TrackSource::Template => out.write_all(b"\tt\n"),
+        TrackSource::Automatic => out.write_all(b"\ta\n"),
+        TrackSource::Area => out.write_all(b"\tg\n"),
+        TrackSource::Positive => out.write_all(b"\tp\n"),
+        TrackSource::Gutter => out.write_all(b"\t-\n"),
+    }
 }
 
 // A record on its line: its kind, whether it is collapsed, the kind of its minimum, and its source.
-fn print_record(track: GridTrack) {
+fn print_record<W: Write>(out: &mut W, track: GridTrack) -> io::Result<()> {
     let kind = track.kind;
     match kind {
-        GridTrackKind::Track => io::write_all(STDOUT_FILENO, b"track\t"),
-        GridTrackKind::Gutter => io::write_all(STDOUT_FILENO, b"gutter\t"),
-    };
+        GridTrackKind::Track => out.write_all(b"track\t")?,
+        GridTrackKind::Gutter => out.write_all(b"gutter\t")?,
+    }
     if track.collapsed {
-        io::write_all(STDOUT_FILENO, b"y\t");
+        out.write_all(b"y\t")?;
     } else {
-        io::write_all(STDOUT_FILENO, b"n\t");
+        out.write_all(b"n\t")?;
     }
     let size = track.size;
     let min = size.min;
-    io::print_decimal(STDOUT_FILENO, kind_of(min));
+    let word = kind_of(min);
+    write!(out, "{word}")?;
     let source = track.source;
-    print_source(source);
+    print_source(out, source)
 }
 
 // At most as many as there are.
@@ -62,25 +67,32 @@ fn held(count: u32) -> usize
 }
 
 // The records that the call counts.
-fn print_records(records: [GridTrack; 60001], count: u32) {
+fn print_records<W: Write>(out: &mut W, records: [GridTrack; 60001], count: u32) -> io::Result<()> {
     let end = held(count);
     let mut i = 0;
     while i < end {
-        print_record(records[i]);
+        print_record(out, records[i])?;
         i += 1;
     }
+    Ok(())
 }
 
 // The records of an axis.
-fn show(components: &[u64], sizes: &[u64], spares: &[u64], items: &[u8], axis: AxisTracks) {
+fn show<W: Write>(
+    out: &mut W,
+    components: &[u64],
+    sizes: &[u64],
+    spares: &[u64],
+    items: &[u8],
+    axis: AxisTracks,
+) -> io::Result<()> {
     let answer = track_run::state::fill_answer(60001, items.len(), axis);
     let records = track_run::lender::axis_records(
         components, sizes, sizes, spares, spares, items, axis,
     );
-    io::write_all(STDOUT_FILENO, b"records\t");
-    io::print_decimal(STDOUT_FILENO, answer.count as u64);
-    io::write_all(STDOUT_FILENO, b"\n");
-    print_records(records, answer.count);
+    let count = answer.count;
+    writeln!(out, "records\t{count}")?;
+    print_records(out, records, count)
 }
 
 // An axis without a gap.
@@ -97,14 +109,36 @@ fn axis_of(negative: u16, explicit: u16, positive: u16, repetitions: u32) -> Axi
     }
 }
 
-fn main() {
+fn main(rt: HostRuntime) -> io::Result<()> {
+    let mut out = rt.stdout();
     // auto, min-content, max-content
     let spares = [0x3_0000_0000u64, 0x4_0000_0000, 0x5_0000_0000];
     // a fit of the first track; a single of the third, and a fill of the second
     let fit = [0x1_0000_0003_0000u64];
     let mixed = [0x2_0000_0000u64, 0x1_0001_0002_0000];
     let items = [0u8, 1, 0, 0];
-    show(&fit, &spares, &spares, &items, axis_of(0, 3, 0, 3));
-    show(&fit, &spares, &spares, &items, axis_of(2, 0, 0, 0));
-    show(&mixed, &spares, &spares, &items, axis_of(0, 3, 1, 0));
+    show(
+        &mut out,
+        &fit,
+        &spares,
+        &spares,
+        &items,
+        axis_of(0, 3, 0, 3),
+    )?;
+    show(
+        &mut out,
+        &fit,
+        &spares,
+        &spares,
+        &items,
+        axis_of(2, 0, 0, 0),
+    )?;
+    show(
+        &mut out,
+        &mixed,
+        &spares,
+        &spares,
+        &items,
+        axis_of(0, 3, 1, 0),
+    )
 }

@@ -1,6 +1,6 @@
 -- A size has a definite value exactly where its kind is fixed, and so has a track with a fixed kind: what the Rust unwraps. Assumes nothing.
 use mathlib.Core.Path.{◌≡◌, refl}
-use mathlib.Core.Bool.{Bool, true, false, ◌||◌}
+use mathlib.Core.Bool.{◌||◌}
 use lib.Ieee.{Float}
 use Rattle.sizing.specs.declared.Sizing.{Sizing}
 use Rattle.sizing.specs.declared.Sizing.TheVariants.{Length, Percent, Fraction, Auto, MinContent, MaxContent, FitContentLength, FitContentPercent}

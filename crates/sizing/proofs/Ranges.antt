@@ -1,6 +1,6 @@
 -- A range is one comparison of bits, by one law over its largest number. Assumes nothing.
 use Prim.Native.Nat.{ℕ}
-use mathlib.Core.Path.{◌≡◌, refl, sym, ap, ◌∙◌}
+use mathlib.Core.Path.{◌≡◌, refl, sym, ap, subst, ◌∙◌}
 use mathlib.Core.Bool.{Bool, true, false, cond}
 use lib.Dec.{T, leb, lit<}
 use lib.Ieee.{Float, nan, inf, fin, binary32, of_bits, to_bits, is_nan, fits}
@@ -34,3 +34,10 @@ unfolding up_to bits_up_to is_nan
 value_bits n most law nan h = refl
 value_bits n most law (inf s) h = sym (ap (up_to n) (of_bits-to_bits binary32 (inf s) h)) ∙ law (to_bits binary32 (inf s))
 value_bits n most law (fin s m e) h = sym (ap (up_to n) (of_bits-to_bits binary32 (fin s m e) h)) ∙ law (to_bits binary32 (fin s m e))
+
+-- what the two calls of `bits_up_to` say of a number that is an f32
+pub length_value : (x : Float) → fits binary32 x ≡ true → bits_up_to largest_bits x ≡ up_to largest_length x
+length_value x h = sym (value_bits largest_length largest_bits length_bits x (subst T (sym h) tt))
+
+pub percentage_value : (x : Float) → fits binary32 x ≡ true → bits_up_to largest_percent_bits x ≡ up_to largest_percentage x
+percentage_value x h = sym (value_bits largest_percentage largest_percent_bits percentage_bits x (subst T (sym h) tt))

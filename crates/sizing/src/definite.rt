@@ -26,6 +26,7 @@ pub fn definite_value(size: Sizing, inner: f32) -> DefiniteSize
 }
 
 // What the size of a word measures. A length in range is told by one comparison, since its kind is 0: its word is its bits.
+#[tactic(auto, using(crate::proofs::Words::length_word))]
 pub fn definite_of_word(word: u64, inner: f32) -> DefiniteSize
     ensures { result ≡ definite_of (sizing_of word) inner }
 {

@@ -1,10 +1,13 @@
 // Layer 2: sizes of tracks, the words that hold them, the range of each kind, and what a size measures where that is definite.
+
+#![tactic(auto)]
+
 pub mod definite;
 pub mod range;
 pub mod word;
 
 // The size of a track at one end.
-#[derive(Drop)]
+#[derive(Clone, Copy)]
 pub enum Sizing {
     Length(f32),
     Percent(f32),
@@ -17,14 +20,14 @@ pub enum Sizing {
 }
 
 // The minimum and the maximum of a track.
-#[derive(Drop)]
+#[derive(Clone, Copy)]
 pub struct MinMax {
     pub min: Sizing,
     pub max: Sizing,
 }
 
 // A size that is definite, or none: the Rust's `Option<f32>`.
-#[derive(Drop)]
+#[derive(Clone, Copy)]
 pub enum DefiniteSize {
     Definite(f32),
     Indefinite,

@@ -6,6 +6,7 @@ ghost use Rattle.sizing.specs.Steps.{largest_bits_of, bits_up_to};
 use crate::Sizing;
 
 // Whether a minimum may be of this kind: fr, fitl and fitp are for the maximum only, 8 and above are no kinds.
+#[tactic(auto, unfolding(crate::specs::Ranges::minimum_kind))]
 pub fn is_kind_of_minimum(kind: u32) -> bool
     ensures { result ≡ minimum_kind kind }
 {
@@ -18,6 +19,7 @@ pub fn is_kind_of_minimum(kind: u32) -> bool
 }
 
 // The bits of the largest value of a kind: of 10 for percentages, 0 for keywords, 65,535 for the others.
+#[tactic(auto, unfolding(crate::specs::Steps::largest_bits_of))]
 fn largest_bits(kind: u32) -> u32
     ensures { result ≡ largest_bits_of kind }
 {
@@ -33,6 +35,7 @@ fn largest_bits(kind: u32) -> u32
 
 // Whether bits are those of a size of a kind in its range. Bits are in the order of the numbers from 0 on, and
 // those of negative numbers, minus zero and NaNs are above the largest's.
+#[tactic(auto, using(crate::proofs::Ranges::kind_bits), unfolding(crate::specs::Ranges::value_in_range))]
 pub fn value_in_range(kind: u32, bits: u32) -> bool
     ensures { result ≡ value_in_range kind bits }
 {
@@ -43,6 +46,7 @@ pub fn value_in_range(kind: u32, bits: u32) -> bool
 }
 
 // Whether bits are those of an inner size in range.
+#[tactic(auto, using(crate::proofs::Ranges::length_bits), unfolding(crate::specs::Ranges::length_in_range))]
 pub fn length_in_range(bits: u32) -> bool
     ensures { result ≡ length_in_range bits }
 {
@@ -50,6 +54,7 @@ pub fn length_in_range(bits: u32) -> bool
 }
 
 // Whether the bits of an f32 are at most those of the largest number allowed. A NaN is no number.
+#[tactic(auto, using(crate::proofs::Bits::same_no_nan, crate::proofs::Bits::other_nan), unfolding(crate::specs::Steps::bits_up_to))]
 fn bits_up_to(most: u32, x: f32) -> bool
     ensures { result ≡ bits_up_to most x }
 {
@@ -60,6 +65,7 @@ fn bits_up_to(most: u32, x: f32) -> bool
 }
 
 // Whether an f32 is a length, a fraction or an inner size in range.
+#[tactic(auto, using(crate::proofs::Ranges::length_value))]
 pub fn number_in_range(x: f32) -> bool
     ensures { result ≡ up_to largest_length x }
 {
@@ -67,6 +73,7 @@ pub fn number_in_range(x: f32) -> bool
 }
 
 // Whether an f32 is a percentage in range.
+#[tactic(auto, using(crate::proofs::Ranges::percentage_value))]
 fn percentage_in_range(x: f32) -> bool
     ensures { result ≡ up_to largest_percentage x }
 {

@@ -5,6 +5,7 @@ ghost use Rattle.sizing.specs.Words.{float_up_to, largest_bits, sizing_of_kind, 
 use crate::Sizing;
 
 // The f32 of a bit pattern up to that of the largest number allowed, else 0.
+#[tactic(auto, using(crate::proofs::Bits::no_nan), unfolding(crate::specs::Words::float_up_to))]
 fn float_up_to(most: u32, bits: u32) -> f32
     requires { most ≤ largest_bits }
     ensures { result ≡ float_up_to most bits }
@@ -23,6 +24,7 @@ pub fn length_of(bits: u32) -> f32
 }
 
 // A size from its kind and bits.
+#[tactic(auto, unfolding(crate::specs::Words::sizing_of_kind))]
 fn sizing_of_kind(kind: u32, bits: u32) -> Sizing
     ensures { result ≡ sizing_of_kind kind bits }
 {
@@ -39,6 +41,7 @@ fn sizing_of_kind(kind: u32, bits: u32) -> Sizing
 }
 
 // A size from its word: any word gives one.
+#[tactic(auto, unfolding(crate::specs::Words::sizing_of))]
 pub fn sizing_of(word: u64) -> Sizing
     ensures { result ≡ sizing_of word }
 {
@@ -69,6 +72,7 @@ pub fn kind_of(size: Sizing) -> u32
 }
 
 // The bits of an f32, 0 for a NaN, which is no size.
+#[tactic(auto, using(crate::proofs::Bits::same_no_nan, crate::proofs::Bits::other_nan), unfolding(crate::specs::Words::printed_bits))]
 fn printed_bits(x: f32) -> u32
     ensures { result ≡ printed_bits x }
 {

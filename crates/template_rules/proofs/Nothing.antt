@@ -1,5 +1,5 @@
 -- A template with components gives 0 tracks exactly if it is invalid: no flag is needed to tell what counts as none. Assumes nothing.
-use Rattle.std.proofs.Common.{◌≡◌, ℕ, ◌+◌, ◌*◌, ◌<◌, ◌≤◌, min, max, Bool, true, false, cond, ◌||◌, eqb, leb, ◌⊎◌, ◌↔◌, List, [], ◌∷◌, length, refl, ap, inl, inr, ⊎_elim, true≢false, mul-pos, arith, leb-false, leb-true}
+use Rattle.std.proofs.Common.{◌≡◌, ℕ, ◌+◌, ◌*◌, ◌<◌, ◌≤◌, min, max, Bool, true, false, cond, eqb, leb, ◌⊎◌, ◌↔◌, List, [], ◌∷◌, length, refl, ap, inl, inr, ⊎_elim, true≢false, mul-pos, arith, leb-false, leb-true}
 use Rattle.sizing.specs.declared.Sizing.{Sizing}
 use Rattle.template_rules.specs.Template.{Component}
 use Rattle.template_rules.specs.Counts.{is_automatic, outside_of, is_empty, outside_count, automatic_count, before_count, automatic_tracks, any_empty}

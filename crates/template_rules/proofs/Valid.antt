@@ -11,7 +11,7 @@ use Rattle.template_rules.specs.Template.{Component}
 use Rattle.template_rules.specs.Counts.{is_automatic, is_empty, automatic_count, any_empty, all_fixed, every_fixed}
 use Rattle.template_rules.specs.Summary.{meaning_of}
 use Rattle.template_rules.specs.Explicit.{valid_of}
-use Rattle.template_rules.specs.Css.{Automatic, Repeat, FixedPart, no_component, Valid}
+use Rattle.template_rules.specs.Css.{Automatic, FixedPart, no_component, Valid}
 use Rattle.template_rules.specs.declared.RepetitionCount.{RepetitionCount}
 use Rattle.template_rules.specs.declared.RepetitionCount.TheVariants.{Single, Count, AutoFill, AutoFit}
 use Rattle.template_rules.proofs.Tests.{or_parts, and_parts, above_test, test_above}

@@ -18,6 +18,7 @@ fn count_of(kind: u64, number: u64) -> RepetitionCount
 }
 
 // A component from its word. A single has one track, whatever its length field holds.
+#[tactic(auto, unfolding(crate::specs::Template::component_of))]
 pub fn component_of(word: u64) -> GridTemplateComponent
     ensures { result ≡ component_of word }
 {

@@ -1,9 +1,12 @@
 // Layer 3: the components of a template, and the explicit size of an axis.
+
+#![tactic(auto)]
+
 pub mod component;
 pub mod whole;
 
 // How often a component is written out: a single track, a counted repeat, or an automatic one.
-#[derive(Drop)]
+#[derive(Clone, Copy)]
 pub enum RepetitionCount {
     Single,
     Count(u64),
@@ -12,7 +15,7 @@ pub enum RepetitionCount {
 }
 
 // A component of a template: its tracks are `length` of the axis's, from `first` on.
-#[derive(Drop)]
+#[derive(Clone, Copy)]
 pub struct GridTemplateComponent {
     pub count: RepetitionCount,
     pub first: u64,
@@ -20,21 +23,21 @@ pub struct GridTemplateComponent {
 }
 
 // The inner size of a container in an axis, where it has one: the Rust's `Option<f32>`.
-#[derive(Drop)]
+#[derive(Clone, Copy)]
 pub enum InnerSize {
     Definite(f32),
     Indefinite,
 }
 
 // Which repetitions an inner size asks for: rule max, or rule min.
-#[derive(Drop)]
+#[derive(Clone, Copy)]
 pub enum AutoRepeatStrategy {
     MaxRepetitionsThatDoNotOverflow,
     MinRepetitionsThatDoOverflow,
 }
 
 // The explicit size of an axis: repetitions of the automatic repeat, tracks of the template, and explicit tracks.
-#[derive(Drop)]
+#[derive(Clone, Copy)]
 pub struct ExplicitSize {
     pub refusal: coordinates::Refusal,
     pub repetitions: u32,
@@ -43,7 +46,7 @@ pub struct ExplicitSize {
 }
 
 // The tracks of a component: whether each has a fixed kind, and the sum of what they measure.
-#[derive(Drop)]
+#[derive(Clone, Copy)]
 pub struct TrackTotals {
     pub fixed: bool,
     pub space: f32,
@@ -51,7 +54,7 @@ pub struct TrackTotals {
 
 // A template so far: whether a repeat has no tracks or a count of 0, whether every track has a fixed kind, how many automatic repeats there are,
 // the tracks outside them, those before the first and those in it, the space used outside, and that of one repetition.
-#[derive(Drop)]
+#[derive(Clone, Copy)]
 pub struct TemplateSummary {
     pub empty: bool,
     pub fixed: bool,
@@ -64,7 +67,7 @@ pub struct TemplateSummary {
 }
 
 // A template written out: the repetitions of its automatic repeat, and its tracks, not cut.
-#[derive(Drop)]
+#[derive(Clone, Copy)]
 pub struct TemplateSize {
     pub repetitions: u64,
     pub tracks: u64,

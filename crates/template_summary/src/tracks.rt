@@ -30,6 +30,7 @@ fn track_totals(min: u64, max: u64, inner: f32) -> TrackTotals
 }
 
 // What a track inside the automatic repeat counts as, by what it measures: less than 1 is taken as 1.
+#[tactic(auto, unfolding(template_rules::specs::Space::repeated_space))]
 fn repeated_space(space: f32) -> f32
     ensures { result ≡ repeated_space space }
 {

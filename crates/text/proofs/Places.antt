@@ -1,6 +1,6 @@
 -- Laws of a line that is cut once: its starts from a place on, and what lies between them. Assumes nothing.
 use Prim.Native.Nat.{ℕ, zero, suc, ◌+◌, ◌-◌, ◌≤◌, ◌<◌, zero-le, suc-le-suc}
-use mathlib.Core.Path.{◌≡◌, refl, sym, ap, ap₂, ◌∙◌}
+use mathlib.Core.Path.{◌≡◌, refl, sym, ap, ◌∙◌}
 use mathlib.Core.List.{List, [], ◌∷◌}
 use mathlib.Core.Bool.{Bool, true, false, cond}
 use mathlib.Core.Logic.{⊎_elim}
@@ -9,11 +9,10 @@ use native.Mathlib.Omega.{arith}
 use native.Mathlib.Nat.{zero-add, le_of_suc-le-suc, not-suc-le-zero, eq-or-lt_of_le}
 use lib.Dec.{leb}
 use lib.ListN.{length, get_or, take, drop, set, replicate, length-set, length-drop, length-replicate, get_or-replicate, drop_of_length-le, get_or-eq_default}
-use lib.Seq.{sets, take_all, take-nil, length-take-le, length-sets, get_or-set_same, get_or-set_other, ext_get_or}
+use lib.Seq.{sets, take_all, take-nil, length-take-le, get_or-set_same, get_or-set_other, ext_get_or}
 use borrow.Author.Tests.{le-leb, lt-leb, lt-ltb, leb-true, leb-false}
 use Rattle.text.specs.Split.{before, split}
-use Rattle.text.specs.Places.{starts_from, part_at, place_by, field_by, fields_from, fields_by, no_place_of}
-use Rattle.text.specs.declared.fields.Place.{Place}
+use Rattle.text.specs.Places.{starts_from, place_by, field_by, fields_from, fields_by}
 use Rattle.text.proofs.Laws.{find-le, split-more, split-no-more}
 
 -- ---- a part of a text: `&s[a..e]` is `take (e - a) (drop a s)`

@@ -13,7 +13,7 @@ pub const FIELDS: usize = 14;
 pub const STARTS: usize = 15;
 
 // A part of a text.
-#[derive(Drop)]
+#[derive(Clone, Copy)]
 pub struct Place {
     pub offset: usize,
     pub length: usize,

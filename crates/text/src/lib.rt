@@ -1,5 +1,8 @@
 // A text cut at a separator byte: lines at a line feed (10), fields at a tab (9). Numbers as a sheet writes them: whole numbers
 // in decimal digits, sizes as the hexadecimal digits of their bits.
+
+#![tactic(auto)]
+
 pub mod fields;
 pub mod hexadecimal;
 pub mod split;
@@ -13,7 +16,7 @@ pub use whole::{read_count, read_index};
 pub use words::{equal, find_part};
 
 // A whole number in a range without negative ones: not spelt as one, outside its range, or its value.
-#[derive(Drop)]
+#[derive(Clone, Copy)]
 pub enum Count {
     Unread,
     Outside,
@@ -21,7 +24,7 @@ pub enum Count {
 }
 
 // A whole number in -32,768..32,767.
-#[derive(Drop)]
+#[derive(Clone, Copy)]
 pub enum Index {
     Unread,
     Outside,
@@ -29,7 +32,7 @@ pub enum Index {
 }
 
 // The bits of an f32.
-#[derive(Drop)]
+#[derive(Clone, Copy)]
 pub enum Bits {
     Unread,
     Value(u32),

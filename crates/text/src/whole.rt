@@ -6,14 +6,14 @@ ghost use Rattle.text.specs.Steps.{top, held, held_whole, non_negative_of, negat
 use crate::{Count, Index};
 
 // What digits write.
-#[derive(Drop)]
+#[derive(Clone, Copy)]
 enum Digits {
     Bad,
     Number(u64),
 }
 
 // A whole number by its sign: `Negative(k)` is -(k + 1).
-#[derive(Drop)]
+#[derive(Clone, Copy)]
 enum Whole {
     Unread,
     NonNegative(u64),

@@ -1,5 +1,5 @@
 -- What the calls on track counts answer (grid_track_counts.rs). A count above 10,000 is refused by 4, as is a line outside -10,000..10,000.
-use Rattle.std.specs.Prelude.{ℕ, ◌+◌, ◌*◌, Bool, true, false, cond, ◌||◌, ltb, ℤ, pos, negsuc, ◌+ℤ◌, ◌-ℤ◌}
+use Rattle.std.specs.Prelude.{ℕ, ◌+◌, ◌*◌, Bool, cond, ◌||◌, ltb, ℤ, pos, negsuc, ◌+ℤ◌, ◌-ℤ◌}
 use Rattle.coordinates.specs.Refusals.{no_refusal, refusal_of, count}
 use Rattle.coordinates.specs.Lines.{outside}
 use Rattle.coordinates.specs.Answers.{line_answer, refused_line, count_answer, refused_count}

@@ -1,5 +1,5 @@
 -- The tracks between two lines (coordinates.rs, `span`).
-use Rattle.std.specs.Prelude.{ℕ, Bool, true, false, cond, ℤ, pos, negsuc, ◌-ℤ◌}
+use Rattle.std.specs.Prelude.{ℕ, cond, ℤ, pos, negsuc, ◌-ℤ◌}
 use Rattle.coordinates.specs.Refusals.{count}
 use Rattle.coordinates.specs.Lines.{outside}
 use Rattle.coordinates.specs.Answers.{count_answer, refused_count}

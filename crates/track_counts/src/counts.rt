@@ -11,7 +11,7 @@ use coordinates::signed::Signed;
 use coordinates::{line, refusal, signed};
 
 // How many tracks lie before the explicit grid, in it, and after it.
-#[derive(Drop)]
+#[derive(Clone, Copy)]
 pub struct TrackCounts {
     pub negative_implicit: u16,
     pub explicit: u16,
@@ -19,21 +19,21 @@ pub struct TrackCounts {
 }
 
 // The number of a track, counted from the first of the grid and negative before it, or why there is none.
-#[derive(Drop)]
+#[derive(Clone, Copy)]
 pub struct TrackAnswer {
     pub refusal: Refusal,
     pub track: i16,
 }
 
 // The place of a line among the records of an axis.
-#[derive(Drop)]
+#[derive(Clone, Copy)]
 pub enum TrackVecIndex {
     Outside,
     At(u32),
 }
 
 // The place of a line, or why it was not looked for.
-#[derive(Drop)]
+#[derive(Clone, Copy)]
 pub struct IndexAnswer {
     pub refusal: Refusal,
     pub index: TrackVecIndex,
@@ -122,6 +122,7 @@ impl TrackCounts {
     }
 
     // All tracks of the axis. Refused by 4, as the calls below: a count above 10,000.
+    #[tactic(auto, unfolding(crate::specs::Counts::length_answer))]
     pub fn len(self) -> CountAnswer
         ensures { result ≡ length_answer self }
     {
@@ -134,6 +135,7 @@ impl TrackCounts {
     }
 
     // The line at which the implicit grid starts.
+    #[tactic(auto, unfolding(crate::specs::Counts::start_answer))]
     pub fn implicit_start_line(self) -> OriginZeroAnswer
         ensures { result ≡ start_answer self }
     {
@@ -144,6 +146,7 @@ impl TrackCounts {
     }
 
     // The line at which the implicit grid ends.
+    #[tactic(auto, unfolding(crate::specs::Counts::end_answer))]
     pub fn implicit_end_line(self) -> OriginZeroAnswer
         ensures { result ≡ end_answer self }
     {
@@ -155,6 +158,7 @@ impl TrackCounts {
     }
 
     // The track after a line. Refused by 4 too: a line outside -10,000..10,000.
+    #[tactic(auto, unfolding(crate::specs::Counts::next_track_answer))]
     pub fn oz_line_to_next_track(self, index: OriginZeroLine) -> TrackAnswer
         ensures { result ≡ next_track_answer self index.0 }
     {
@@ -169,6 +173,7 @@ impl TrackCounts {
     }
 
     // The line before a track. Refused by 4 too: an index above 30,000.
+    #[tactic(auto, unfolding(crate::specs::Counts::previous_line_answer))]
     pub fn track_to_prev_oz_line(self, index: u16) -> OriginZeroAnswer
         ensures { result ≡ previous_line_answer self index }
     {
@@ -183,6 +188,7 @@ impl TrackCounts {
 }
 
 // The place of a line's gutter among the records of an axis. Refused by 4: a count above 10,000, a line outside -10,000..10,000.
+#[tactic(auto, unfolding(crate::specs::Counts::vec_index_answer))]
 pub fn try_into_track_vec_index(line: OriginZeroLine, counts: TrackCounts) -> IndexAnswer
     ensures { result ≡ vec_index_answer counts line.0 }
 {

@@ -1,4 +1,7 @@
 // The tracks of an axis as counts, the conversions between lines and tracks that depend on them, and the tracks between two lines.
+
+#![tactic(auto)]
+
 pub mod counts;
 pub mod span;
 

@@ -8,7 +8,7 @@ use coordinates::signed::Signed;
 use coordinates::{line, refusal, signed};
 
 // The lines at which an item starts and ends.
-#[derive(Drop)]
+#[derive(Clone, Copy)]
 pub struct OriginZeroLines {
     pub start: OriginZeroLine,
     pub end: OriginZeroLine,
@@ -40,6 +40,7 @@ fn distance(start: Signed, end: Signed) -> u32
 
 impl OriginZeroLines {
     // The number of tracks between the lines. Refused by 4: a line outside -10,000..10,000.
+    #[tactic(auto, unfolding(crate::specs::Spans::span_answer))]
     pub fn span(self) -> CountAnswer
         ensures { result ≡ span_answer self.start.0 self.end.0 }
     {

@@ -1,5 +1,8 @@
 // The rule for one track record, and what it reads: the tracks that a template writes out, places among them, and what is worked
 // out once for all records of an axis.
+
+#![tactic(auto)]
+
 pub mod collapse;
 pub mod component;
 pub mod count;
@@ -10,7 +13,7 @@ pub mod rule;
 use track_rules::TrackSource;
 
 // Tracks that repeat: the place of the first in the tables of sizes, how many there are, where they come from, and whether `fit` writes them.
-#[derive(Drop)]
+#[derive(Clone, Copy)]
 pub struct Repeated {
     pub first: u64,
     pub length: u64,

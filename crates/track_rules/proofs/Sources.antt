@@ -2,10 +2,10 @@
 use Prim.Native.Nat.{ℕ, ◌+◌, ◌-◌, ◌/◌, ◌%◌, ◌≤◌, ◌<◌, min}
 use native.Mathlib.Omega.{arith}
 use mathlib.Core.Path.{◌≡◌, refl, sym, ap, ap₂, ◌∙◌}
-use mathlib.Core.Logic.{⊎_elim, ◌↔◌}
+use mathlib.Core.Logic.{⊎_elim}
 use mathlib.Core.Bool.{Bool, true, false, cond}
 use mathlib.Core.List.{List, [], ◌∷◌, ◌++◌, map, map-append}
-use lib.Dec.{ltb, eqb}
+use lib.Dec.{ltb}
 use lib.ListN.{length, get_or, length-map}
 use borrow.Author.Tests.{lt-ltb, le-ltb, lt-leb, eq-eqb, ne_eqb}
 use Rattle.sizing.specs.declared.MinMax.{MinMax}
@@ -21,8 +21,8 @@ use Rattle.track_rules.specs.declared.TrackSource.TheVariants.{Negative, Templat
 use Rattle.track_rules.specs.declared.AxisTracks.{AxisTracks}
 use Rattle.track_rules.specs.Tracks.{gutter_of, track_of, zero_grid_track}
 use Rattle.track_rules.specs.Written.{repeats_of, source_of, copies, written, once_of, written_out}
-use Rattle.track_rules.specs.Records.{negative_of, explicit_of, tracks_in, records_in, implicit, spare_at, negative_at, all_tracks, no_track, item_at, closed_in, fit_ends_in, shut_gutter, record_in, records_of, axis_refusal, record_answer_of}
-use Rattle.track_rules.specs.Steps.{totals_of, cursor_of, written_at, track_at}
+use Rattle.track_rules.specs.Records.{negative_of, explicit_of, tracks_in, records_in, all_tracks, no_track, item_at, closed_in, fit_ends_in, shut_gutter, record_in, records_of, axis_refusal, record_answer_of}
+use Rattle.track_rules.specs.Steps.{track_at}
 use Rattle.track_rules.specs.Sources.{writers, template_tracks, writer, CssSource, RecordSource}
 use Rattle.track_rules.proofs.Lists.{lt_or_ge, map-copies, get-map}
 use Rattle.track_rules.proofs.Cursors.{length-written, written_at_lem}

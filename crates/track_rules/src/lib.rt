@@ -1,4 +1,7 @@
 // Layer 5: track records, their collapse, and the rule for one record.
+
+#![tactic(auto)]
+
 pub mod grid_track;
 pub mod implicit;
 
@@ -7,14 +10,14 @@ use sizing::{MinMax, Sizing};
 use track_counts::TrackCounts;
 
 // Whether a record is a track or a gutter between tracks.
-#[derive(Drop)]
+#[derive(Clone, Copy)]
 pub enum GridTrackKind {
     Track,
     Gutter,
 }
 
 // Where a record came from: before the grid, a single or counted repeat, an automatic repeat, an area alone, after the grid; or it is a gutter.
-#[derive(Drop)]
+#[derive(Clone, Copy)]
 pub enum TrackSource {
     Negative,
     Template,
@@ -25,7 +28,7 @@ pub enum TrackSource {
 }
 
 // A track record. A collapsed one has both sizes length 0, and keeps its source.
-#[derive(Drop)]
+#[derive(Clone, Copy)]
 pub struct GridTrack {
     pub kind: GridTrackKind,
     pub collapsed: bool,
@@ -34,7 +37,7 @@ pub struct GridTrack {
 }
 
 // A track as it is written out, before any collapses, and whether `fit` wrote it.
-#[derive(Drop)]
+#[derive(Clone, Copy)]
 pub struct WrittenTrack {
     pub size: MinMax,
     pub source: TrackSource,
@@ -42,7 +45,7 @@ pub struct WrittenTrack {
 }
 
 // What is known of the tracks of an axis before they are written out.
-#[derive(Drop)]
+#[derive(Clone, Copy)]
 pub struct AxisTracks {
     pub counts: TrackCounts,
     pub repetitions: u32,
@@ -50,28 +53,28 @@ pub struct AxisTracks {
 }
 
 // One record, or a refusal and the zero record.
-#[derive(Drop)]
+#[derive(Clone, Copy)]
 pub struct RecordAnswer {
     pub refusal: Refusal,
     pub track: GridTrack,
 }
 
 // A component of a template, and which of the tracks that it writes.
-#[derive(Drop)]
+#[derive(Clone, Copy)]
 pub struct Cursor {
     pub component: usize,
     pub offset: u64,
 }
 
 // The explicit tracks that the template writes, and one past the last open track.
-#[derive(Drop)]
+#[derive(Clone, Copy)]
 pub struct Plan {
     pub written: u32,
     pub opened: u64,
 }
 
 // What is carried from record to record of an axis: its plan, and the cursor that belongs to the next record.
-#[derive(Drop)]
+#[derive(Clone, Copy)]
 pub struct TrackWalk {
     pub axis: AxisTracks,
     pub plan: Plan,

@@ -1,4 +1,7 @@
 // Layer 5, the lent run: the records of an axis, written by one loop.
+
+#![tactic(auto)]
+
 ghost use Rattle.std.specs.Prelude.{◌≡◌, ◌++◌, length};
 ghost use Rattle.template_rules.specs.Template.{template_of};
 ghost use Rattle.track_rules.specs.Written.{spares_of};
@@ -11,7 +14,7 @@ use coordinates::Refusal;
 use track_rules::{AxisTracks, GridTrack};
 
 // How many records were written, or a refusal and 0.
-#[derive(Drop)]
+#[derive(Clone, Copy)]
 pub struct FillAnswer {
     pub refusal: Refusal,
     pub count: u32,

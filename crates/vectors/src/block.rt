@@ -14,7 +14,7 @@ use sheet_rules::{DisplayAnswer, SheetAnswer};
 
 // Where the parts of a block lie: whether the lengths of stores are given, and these; whether the sheet is only displayed; the sheet, the
 // calls, the questions where there are any, and the expected text.
-#[derive(Drop)]
+#[derive(Clone, Copy)]
 pub struct Block {
     pub given: bool,
     pub columnbytes: u32,

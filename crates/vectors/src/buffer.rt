@@ -1,7 +1,9 @@
 // Standard input, of which a buffer holds the part that is replayed.
 ghost use Rattle.std.specs.Prelude.{◌+◌, ◌≤◌, length};
 
-use libc::STDIN_FILENO;
+use panel_program::read_full;
+use std::io;
+use std::io::Read;
 
 // Moves the bytes from a place on to the front.
 fn move_down(buffer: &mut [u8], from: usize, count: usize)
@@ -14,34 +16,53 @@ fn move_down(buffer: &mut [u8], from: usize, count: usize)
     }
 }
 
-// Fills the buffer with what comes next, after the bytes that are left: how many it holds then.
-fn refill(buffer: &mut [u8], from: usize, held: usize) -> usize
+// Fills the buffer with what comes next, after the bytes that are left: how many it holds then, and whether no read failed.
+fn refill<R: Read>(
+    input: &mut R,
+    buffer: &mut [u8],
+    from: usize,
+    held: usize,
+) -> (usize, io::Result<()>)
     requires { (from ≤ held) × (held ≤ length buffer.old) }
-    ensures { result ≤ length buffer.old }
+    ensures { result.0 ≤ length buffer.old }
 {
     let count = held - from;
     move_down(buffer, from, count);
-    count + io::read_full(STDIN_FILENO, &mut buffer[count..])
+    let (more, taken) = read_full(input, &mut buffer[count..]);
+    (count + more, taken)
 }
 
-// What of the buffer is still to be replayed.
+// What of the buffer is still to be replayed, and whether no read failed.
 #[derive(Drop)]
 pub struct Window {
     pub at: usize,
     pub held: usize,
+    pub taken: io::Result<()>,
 }
 
 // A window that holds a whole block, which has at most 65,536 bytes, or all that is left.
-pub fn filled(buffer: &mut [u8], at: usize, held: usize) -> Window
+pub fn filled<R: Read>(input: &mut R, buffer: &mut [u8], at: usize, held: usize) -> Window
     requires { held ≤ length buffer.old }
     ensures { result.held ≤ length buffer.old }
 {
     if held < at {
-        return Window { at: held, held };
+        return Window {
+            at: held,
+            held,
+            taken: Ok(()),
+        };
     }
     if 65536 <= held - at {
-        return Window { at, held };
+        return Window {
+            at,
+            held,
+            taken: Ok(()),
+        };
     }
-    let more = refill(buffer, at, held);
-    Window { at: 0, held: more }
+    let (more, taken) = refill(input, buffer, at, held);
+    Window {
+        at: 0,
+        held: more,
+        taken,
+    }
 }

@@ -1,6 +1,5 @@
 // The entry calls of a block.
-ghost use Rattle.std.specs.Prelude.{◌≤◌};
-ghost use Rattle.io.specs.Counts.{IsPrefixLen};
+ghost use Rattle.std.specs.Prelude.{◌≡◌, ◌≤◌, length, take};
 
 use crate::block::Block;
 use crate::expected::seen_entry;
@@ -12,7 +11,7 @@ use panel_tables::Panel;
 use panel_tables::region::PANEL_WORDS;
 
 // A panel after calls, and the place up to which the expected text is seen.
-#[derive(Drop)]
+#[derive(Clone, Copy)]
 pub struct Called {
     pub panel: Panel,
     pub seen: usize,
@@ -20,7 +19,8 @@ pub struct Called {
 
 // How many bytes of a store are lent: all, or as many as are given.
 pub fn lent(store: &[u8], given: bool, count: u32) -> usize
-    ensures { IsPrefixLen result store.now }
+    ensures in_range { result ≤ length store.now }
+    ensures exact { result ≡ length (take result store.now) }
 {
     if given {
         if (count as usize) < store.len() {

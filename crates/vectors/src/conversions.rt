@@ -8,7 +8,7 @@ use std::num::wrapping_add_u32;
 use text::Index;
 
 // Rows that were compared: how many differ, and where the next line starts.
-#[derive(Drop)]
+#[derive(Clone, Copy)]
 pub struct Rows {
     pub different: u32,
     pub next: usize,

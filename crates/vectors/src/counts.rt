@@ -1,11 +1,12 @@
 // What was replayed.
-use libc::STDOUT_FILENO;
+use std::io;
+use std::io::Write;
 use std::num::wrapping_add_u64;
 
 // How many that differ are named.
 const MOST_NAMED: u64 = 64;
 
-#[derive(Drop)]
+#[derive(Clone, Copy)]
 pub struct Counts {
     pub blocks: u64,
     pub calls: u64,
@@ -35,25 +36,25 @@ pub fn more_rows(counts: Counts, rows: u32, different: u32) -> Counts {
     after
 }
 
-fn print_count(word: &[u8], count: u64) {
-    io::write_all(STDOUT_FILENO, word);
-    io::print_decimal(STDOUT_FILENO, count);
-    io::write_all(STDOUT_FILENO, b"\n");
+fn print_count<W: Write>(out: &mut W, word: &[u8], count: u64) -> io::Result<()> {
+    out.write_all(word)?;
+    writeln!(out, "{count}")
 }
 
-pub fn print_counts(counts: Counts) {
-    print_count(b"blocks\t", counts.blocks);
-    print_count(b"calls\t", counts.calls);
-    print_count(b"questions\t", counts.questions);
-    print_count(b"rows\t", counts.rows);
-    print_count(b"different\t", counts.different);
+pub fn print_counts<W: Write>(out: &mut W, counts: Counts) -> io::Result<()> {
+    print_count(out, b"blocks\t", counts.blocks)?;
+    print_count(out, b"calls\t", counts.calls)?;
+    print_count(out, b"questions\t", counts.questions)?;
+    print_count(out, b"rows\t", counts.rows)?;
+    print_count(out, b"different\t", counts.different)
 }
 
 // The first line of a block or of a list of rows that differs, where few differ before it.
-pub fn print_different(counts: Counts, line: &[u8]) {
+pub fn print_different<W: Write>(out: &mut W, counts: Counts, line: &[u8]) -> io::Result<()> {
     if counts.different < MOST_NAMED {
-        io::write_all(STDOUT_FILENO, b"differs\t");
-        io::write_all(STDOUT_FILENO, line);
-        io::write_all(STDOUT_FILENO, b"\n");
+        out.write_all(b"differs\t")?;
+        out.write_all(line)?;
+        out.write_all(b"\n")?;
     }
+    Ok(())
 }

@@ -53,9 +53,11 @@ pub fn seen_entry(expected: &[u8], seen: usize, refusal: Refusal) -> usize {
     seen_refusal(expected, seen, refusal)
 }
 
-// The same for a number.
+// The same for a number, digit after digit, the highest first.
 pub fn seen_number(expected: &[u8], seen: usize, number: u64) -> usize {
-    let mut digits = [0u8; 20];
-    let count = io::decimal(number, &mut digits);
-    seen_part(expected, seen, &digits[..count])
+    let digit = [48 + (number % 10) as u8];
+    if number < 10 {
+        return seen_part(expected, seen, &digit);
+    }
+    seen_part(expected, seen_number(expected, seen, number / 10), &digit)
 }

@@ -15,7 +15,7 @@ pub const DISPLAY: usize = 7;
 pub const ASK: usize = 8;
 
 // A line that starts with a word and a number: both, and where the next line starts.
-#[derive(Drop)]
+#[derive(Clone, Copy)]
 pub struct Head {
     pub word: usize,
     pub number: u32,

@@ -1,0 +1,10 @@
+use Rattle.cell_sides.proofs.cell.from_line.Goals as goal
+
+pub returns-in-Auto : goal.returns-in-Auto
+returns-in-Auto c = rw c.in-Auto.is c.fixed_side.ensures
+
+pub returns-in-Line : goal.returns-in-Line
+returns-in-Line c = rw c.in-Line.is c.lines_side.ensures
+
+pub returns-in-Span : goal.returns-in-Span
+returns-in-Span c = rw c.in-Span.is c.fixed_side-in-Span.ensures

@@ -1,0 +1,134 @@
+use Prim.Native.Nat.{ℕ, ◌+◌, ◌*◌, ◌-◌, ◌≤◌, ◌<◌}
+use native.Mathlib.Omega.{arith}
+use mathlib.Core.Path.{refl, sym, ap, subst, ◌∙◌}
+use mathlib.Core.List.{List}
+use lib.ListN.{length}
+use lib.Seq.{sets, length-sets}
+use Rattle.template_rules.specs.Template.{template_of}
+use Rattle.track_rules.specs.Steps.{word_totals, sum_of}
+use Rattle.track_record.proofs.Components.{totals, runs_first, component-left}
+use Rattle.library_records.specs.Pairs.{part_pair, template_pair}
+use Rattle.library_records.proofs.Pairs.{written_none, written_all, written-more, joined_same}
+use Rattle.library_records.proofs.Components.{taken, taken-pair, part_few, in_parts}
+use Rattle.library_records.proofs.template.write_template.Goals as goal
+
+pub loop-done-init : goal.loop-done-init
+loop-done-init c =
+    let a = c.args in
+    let p = c.requires in
+    let ws = c.components_of-components.result.now in
+    let r = c.args.grid.size.repetitions in (
+      omega arith,
+      λ h. let g : a.offset + a.tracks.count ≤ sum_of (totals r ws) = subst (λ (x : List ℕ). a.offset + a.tracks.count ≤ sum_of (word_totals r x)) (sym c.components_of-components.ensures) (p.count_bound (omega arith)) in omega arith,
+      runs_first r ws a.offset (a.tracks.count - 0),
+      refl,
+      written_none (template_pair (totals a.grid.size.repetitions ws) (template_of ws c.minimums_of-minimums.result.now c.maximums_of-maximums.result.now) a.items.now a.offset a.tracks.first a.gutters) a.words.now a.tracks.place a.tracks.first a.tracks.count,
+    )
+
+pub overflow_sub-left : goal.overflow_sub-left
+overflow_sub-left c =
+    omega (arith, c.loop-done-test.true)
+
+pub overflow_add-stretch : goal.overflow_add-stretch
+overflow_add-stretch c =
+    omega (arith, c.requires.count_bound_2, c.loop-done-test.true)
+
+pub overflow_mul-stretch : goal.overflow_mul-stretch
+overflow_mul-stretch c =
+    omega (arith, c.requires.count_bound_2, c.well_formed, c.loop-done-test.true)
+
+pub overflow_add-stretch-in-loop-done : goal.overflow_add-stretch-in-loop-done
+overflow_add-stretch-in-loop-done c =
+    omega (arith, c.requires.count_bound_2, c.well_formed, c.loop-done-test.true)
+
+pub overflow_add-done : goal.overflow_add-done
+overflow_add-done c =
+    let a = c.args in
+    let p = c.requires in
+    let ws = c.components_of-components.result.now in
+    let l = c.loop-done in
+    let less = c.loop-done-test.true in
+    let small : l.component < length ws = component-left a.grid.size.repetitions ws l.component l.at (a.tracks.count - l.done) (l.invariant.1 (omega (arith, less))) (omega (arith, less)) in
+    let x = c.part_at-part.result in
+    let mi = c.minimums_of-minimums.result.now in
+    let ma = c.maximums_of-maximums.result.now in
+    let t = taken a.grid.size.repetitions ws mi ma a.offset l.done a.tracks.count l.component l.at small l.invariant.1 l.invariant.2 x c.part_at-part.ensures.value in
+    omega (arith, p.count_bound_2, less, t.fits)
+
+pub loop-done-smaller : goal.loop-done-smaller
+loop-done-smaller c =
+    let a = c.args in
+    let ws = c.components_of-components.result.now in
+    let l = c.loop-done in
+    let less = c.loop-done-test.true in
+    let small : l.component < length ws = component-left a.grid.size.repetitions ws l.component l.at (a.tracks.count - l.done) (l.invariant.1 (omega (arith, less))) (omega (arith, less)) in
+    let x = c.part_at-part.result in
+    let mi = c.minimums_of-minimums.result.now in
+    let ma = c.maximums_of-maximums.result.now in
+    let t = taken a.grid.size.repetitions ws mi ma a.offset l.done a.tracks.count l.component l.at small l.invariant.1 l.invariant.2 x c.part_at-part.ensures.value in
+    omega (arith, small, t.on, t.held)
+
+pub shape_of-words : goal.shape_of-words
+shape_of-words c =
+    c.loop-done.invariant.3
+
+pub returns : goal.returns
+returns c =
+    let a = c.args in
+    let ws = c.components_of-components.result.now in
+    let l = c.loop-done in
+    let mi = c.minimums_of-minimums.result.now in
+    let ma = c.maximums_of-maximums.result.now in
+    let pair = template_pair (totals a.grid.size.repetitions ws) (template_of ws mi ma) a.items.now a.offset a.tracks.first a.gutters in
+    sym (written_all pair l.words a.tracks.place a.tracks.first a.tracks.count l.done c.loop-done-test.false) ∙ l.invariant.4
+    ∙ ap (sets a.words.now a.tracks.place)
+    (in_parts a.grid a.tables.now ws mi ma c.components_of-components.ensures c.minimums_of-minimums.ensures c.maximums_of-maximums.ensures a.items.now a.offset a.tracks.first a.tracks.count a.gutters)
+
+pub part_at-part-requires : goal.part_at-part-requires
+part_at-part-requires c =
+    let a = c.args in
+    let p = c.requires in
+    let ws = c.components_of-components.result.now in
+    let l = c.loop-done in
+    let less = c.loop-done-test.true in
+    let small : l.component < length ws = component-left a.grid.size.repetitions ws l.component l.at (a.tracks.count - l.done) (l.invariant.1 (omega (arith, less))) (omega (arith, less)) in
+    let few : length ws ≤ a.grid.template.components = subst (λ (x : List ℕ). length x ≤ a.grid.template.components) (sym c.components_of-components.ensures) (part_few a.tables.now 0 a.grid.template.components) in
+    record { component_in_bounds = small; components_len_bound = omega (arith, few, c.well_formed); left_bound = omega arith }
+
+pub loop-done-preserved : goal.loop-done-preserved
+loop-done-preserved c =
+    let a = c.args in
+    let ws = c.components_of-components.result.now in
+    let l = c.loop-done in
+    let less = c.loop-done-test.true in
+    let small : l.component < length ws = component-left a.grid.size.repetitions ws l.component l.at (a.tracks.count - l.done) (l.invariant.1 (omega (arith, less))) (omega (arith, less)) in
+    let x = c.part_at-part.result in
+    let mi = c.minimums_of-minimums.result.now in
+    let ma = c.maximums_of-maximums.result.now in
+    let t = taken a.grid.size.repetitions ws mi ma a.offset l.done a.tracks.count l.component l.at small l.invariant.1 l.invariant.2 x c.part_at-part.ensures.value in
+    let pair = template_pair (totals a.grid.size.repetitions ws) (template_of ws mi ma) a.items.now a.offset a.tracks.first a.gutters in
+    let part = part_pair mi ma a.items.now x.repeated l.at (a.tracks.first + l.done) a.gutters in
+    let put = c.write_part.ensures in (
+      omega (arith, less, t.fits),
+      t.sum,
+      t.runs,
+      ap length put ∙ simp length-sets l.invariant.3,
+      written-more pair (λ u. refl) l.words c.write_part.new.words a.tracks.place a.tracks.first a.tracks.count l.done x.count (omega (arith, less, t.fits))
+          (put ∙ ap (sets l.words (a.tracks.place + 6 * l.done))
+          (joined_same part pair (a.tracks.first + l.done) x.count
+          (taken-pair a.grid.size.repetitions ws mi ma a.offset l.done a.tracks.count l.component l.at small l.invariant.1 l.invariant.2 a.items.now a.gutters a.tracks.first x c.part_at-part.ensures.value))) ∙ l.invariant.4,
+    )
+
+pub write_part-requires : goal.write_part-requires
+write_part-requires c =
+    let a = c.args in
+    let p = c.requires in
+    let ws = c.components_of-components.result.now in
+    let l = c.loop-done in
+    let less = c.loop-done-test.true in
+    let small : l.component < length ws = component-left a.grid.size.repetitions ws l.component l.at (a.tracks.count - l.done) (l.invariant.1 (omega (arith, less))) (omega (arith, less)) in
+    let x = c.part_at-part.result in
+    let mi = c.minimums_of-minimums.result.now in
+    let ma = c.maximums_of-maximums.result.now in
+    let t = taken a.grid.size.repetitions ws mi ma a.offset l.done a.tracks.count l.component l.at small l.invariant.1 l.invariant.2 x c.part_at-part.ensures.value in
+    record { length_nonzero = t.some; length_bound = c.part_at-part.ensures.few; count_bound = omega (arith, less, t.fits); count_in_bounds = omega (arith, less, t.fits, l.invariant.3) }

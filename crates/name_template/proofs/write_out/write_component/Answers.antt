@@ -1,0 +1,7 @@
+use Rattle.name_template.proofs.Placing.{component-placed}
+use Rattle.name_template.proofs.write_out.write_component.Goals as goal
+
+pub returns : goal.returns
+returns c = let p = c.requires in let a = c.args in let w = c.write_copies in
+    component-placed a.names.now a.entries.now _ _ a.at a.line a.place w.result a.component p.from p.to p.within
+    c.write_once.ensures w.ensures.0 w.ensures.1

@@ -1,0 +1,12 @@
+use mathlib.Core.Path.{ap, ◌∙◌}
+use borrow.Author.Tests.{le-leb, lt-leb}
+use Rattle.library_numbers.specs.Answers.{counted, line_count_of}
+use Rattle.palgwern.proofs.palgwern_line_count.Goals as goal
+
+pub returns-then-axis-gt-ROWS : goal.returns-then-axis-gt-ROWS
+unfolding line_count_of
+returns-then-axis-gt-ROWS c = rw (lt-leb _ 1 c.if-axis-gt-ROWS.true) c.uncounted.ensures
+
+pub returns : goal.returns
+unfolding line_count_of
+returns c = rw (le-leb _ 1 c.if-axis-gt-ROWS.false, ← c.axis_of.ensures) (c.counted.ensures ∙ ap counted c.line_count.ensures)

@@ -1,0 +1,11 @@
+use borrow.Author.Tests.{le-leb, lt-leb}
+use Rattle.library_numbers.specs.Records.{records_written}
+use Rattle.palgwern.proofs.palgwern_records.Goals as goal
+
+pub returns-then-axis-gt-ROWS : goal.returns-then-axis-gt-ROWS
+unfolding records_written
+returns-then-axis-gt-ROWS c = rw (lt-leb _ 1 c.if-axis-gt-ROWS.true, c.uncounted.ensures)
+
+pub returns : goal.returns
+unfolding records_written
+returns c = rw (le-leb _ 1 c.if-axis-gt-ROWS.false, ← c.axis_of.ensures) c.write_run.ensures

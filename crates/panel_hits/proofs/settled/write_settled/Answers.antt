@@ -1,0 +1,8 @@
+use mathlib.Core.Path.{refl}
+use Rattle.panel_hits.specs.Settled.{lent_in}
+use Rattle.panel_hits.proofs.Numbers.{settled-listed}
+use Rattle.panel_hits.proofs.settled.write_settled.Goals as goal
+
+pub returns : goal.returns
+returns c = let a = c.args in let l = lent_in a.words.now a.bytes.now a.columnstore.now a.rowstore.now in
+    settled-listed a.grid l _ _ a.axis a.question c.axis_number.result c.counts_in.result a.hits.now _ c.axis_number.ensures c.counts_in.ensures c.write_placements.ensures c.requires refl c.write_hits.ensures

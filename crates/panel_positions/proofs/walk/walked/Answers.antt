@@ -1,0 +1,88 @@
+use mathlib.Core.Path.{◌≡◌, ap, ap₂, ◌∙◌}
+use mathlib.Core.Bool.{true}
+use Prim.Native.Nat.{ℕ, ◌+◌, ◌*◌}
+use native.Mathlib.Omega.{arith}
+use Rattle.template_rules.specs.declared.InnerSize.{InnerSize}
+use Rattle.track_rules.specs.declared.AxisTracks.{AxisTracks}
+use Rattle.track_rules.specs.Tracks.{gutter_of}
+use Rattle.track_rules.specs.Records.{tracks_in, records_in}
+use Rattle.panel_rules.specs.Calls.{axis_tracks}
+use Rattle.line_positions.specs.Steps.{walked_to}
+use Rattle.line_positions.proofs.Walk.{walk-begun}
+use Rattle.panel_positions.specs.Cursor.{records_on}
+use Rattle.panel_positions.proofs.Carrying.{few-count, first_on, pair-on}
+use Rattle.panel_positions.proofs.walk.walked.Goals as goal
+
+pub overflow_mul-count : goal.overflow_mul-count
+overflow_mul-count c =
+    let a = c.args in
+    let h = few-count a.grid a.words.now a.items.now _ _ c.track_count-count.ensures c.axis_tracks-tracks.ensures in
+    omega arith
+
+pub loop-done-init : goal.loop-done-init
+loop-done-init c =
+    let a = c.args in
+    let n = c.track_count-count.ensures ∙ ap tracks_in c.axis_tracks-tracks.ensures in
+    let g = c.gutter-first.ensures ∙ ap (λ (t : AxisTracks). gutter_of t.gap true) c.axis_tracks-tracks.ensures in
+    let s =
+    first_on a.grid a.words.now a.items.now a.span c.inner_in-inner.result c.track_count-count.result n c.first_on-at.result c.gutter-first.result
+    c.begin-begun.result c.position_step-walk.result c.first_on-at.ensures g
+    (c.begin-begun.ensures ∙ walk-begun a.span c.inner_in-inner.result (records_on a.grid a.words.now a.items.now)) c.position_step-walk.ensures in
+    (omega arith, few-count a.grid a.words.now a.items.now _ _ c.track_count-count.ensures c.axis_tracks-tracks.ensures, s.0, s.1)
+
+pub overflow_mul-done : goal.overflow_mul-done
+overflow_mul-done c = omega arith
+
+pub overflow_add-done : goal.overflow_add-done
+overflow_add-done c = omega arith
+
+pub overflow_add-done-in-loop-done : goal.overflow_add-done-in-loop-done
+overflow_add-done-in-loop-done c = omega arith
+
+pub overflow_mul-count-in-loop-done : goal.overflow_mul-count-in-loop-done
+overflow_mul-count-in-loop-done c = omega arith
+
+pub overflow_mul-done-in-loop-done : goal.overflow_mul-done-in-loop-done
+overflow_mul-done-in-loop-done c = omega arith
+
+pub overflow_add-done-in-loop-done-2 : goal.overflow_add-done-in-loop-done-2
+overflow_add-done-in-loop-done-2 c = omega arith
+
+pub overflow_mul-count-in-loop-done-2 : goal.overflow_mul-count-in-loop-done-2
+overflow_mul-count-in-loop-done-2 c = omega arith
+
+pub overflow_mul-done-in-loop-done-2 : goal.overflow_mul-done-in-loop-done-2
+overflow_mul-done-in-loop-done-2 c = omega arith
+
+pub overflow_add-done-in-loop-done-3 : goal.overflow_add-done-in-loop-done-3
+overflow_add-done-in-loop-done-3 c = omega arith
+
+pub overflow_mul-done-in-loop-done-3 : goal.overflow_mul-done-in-loop-done-3
+overflow_mul-done-in-loop-done-3 c = omega arith
+
+pub overflow_add-done-in-loop-done-4 : goal.overflow_add-done-in-loop-done-4
+overflow_add-done-in-loop-done-4 c = omega arith
+
+pub overflow_add-done-in-loop-done-5 : goal.overflow_add-done-in-loop-done-5
+overflow_add-done-in-loop-done-5 c = omega arith
+
+pub loop-done-smaller : goal.loop-done-smaller
+loop-done-smaller c = omega arith
+
+pub loop-done-preserved : goal.loop-done-preserved
+loop-done-preserved c =
+    let a = c.args in
+    let n = c.track_count-count.ensures ∙ ap tracks_in c.axis_tracks-tracks.ensures in
+    let s =
+    pair-on a.grid a.words.now a.items.now a.span c.inner_in-inner.result c.track_count-count.result n c.loop-done.done c.loop-done-test.true
+    c.loop-done.at c.next_on-at.result c.carried_on-track.result c.gutter_after-after.result c.loop-done.walk
+    c.position_step-met.result c.position_step-walk-in-loop-done.result c.loop-done.invariant.2 c.loop-done.invariant.3
+    c.carried_on-track.ensures c.gutter_after-after.ensures c.position_step-met.ensures c.position_step-walk-in-loop-done.ensures c.next_on-at.ensures in
+    (omega arith, c.loop-done.invariant.1, s.0, s.1)
+
+pub returns : goal.returns
+returns c =
+    let a = c.args in
+    let n : c.track_count-count.result ≡ tracks_in (axis_tracks a.grid) = c.track_count-count.ensures ∙ ap tracks_in c.axis_tracks-tracks.ensures in
+    let h : 2 * c.loop-done.done + 1 ≡ records_in (axis_tracks a.grid) = omega (arith, c.loop-done.invariant.0, c.loop-done-test.false) in
+    c.loop-done.invariant.3 ∙ ap₂ (λ (i : InnerSize) (j : ℕ). walked_to a.span i (records_on a.grid a.words.now a.items.now) j) c.inner_in-inner.ensures h

@@ -1,0 +1,11 @@
+use Prim.Native.Nat.{◌+◌, ◌-◌}
+use native.Mathlib.Omega.{arith}
+use Rattle.sheet.proofs.Ends.{put_back}
+use Rattle.sheet.proofs.end.end_in.Goals as goal
+
+pub returns : goal.returns
+returns c =
+    let a = c.args in
+    let f = c.first_word-first in
+    let k = c.end_axis in
+    put_back a.axis a.words.now f.result (f.result + 12480 - f.result) f.ensures.value (omega arith) a.state a.reading (record { answer = k.result; words = k.new.words }) k.ensures

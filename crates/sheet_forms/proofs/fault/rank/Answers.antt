@@ -1,0 +1,62 @@
+use native.Mathlib.Omega.{arith}
+use borrow.Author.Tests.{ne_eqb}
+use Rattle.sheet_forms.specs.Faults.{rank_of}
+use Rattle.sheet_forms.proofs.fault.rank.Goals as goal
+
+pub returns-in-1 : goal.returns-in-1
+unfolding rank_of
+returns-in-1 c = simp c.in-1.is
+
+pub returns-in-2 : goal.returns-in-2
+unfolding rank_of
+returns-in-2 c = simp c.in-2.is
+
+pub returns-in-3 : goal.returns-in-3
+unfolding rank_of
+returns-in-3 c = simp c.in-3.is
+
+pub returns-in-4 : goal.returns-in-4
+unfolding rank_of
+returns-in-4 c = simp c.in-4.is
+
+pub returns-in-5 : goal.returns-in-5
+unfolding rank_of
+returns-in-5 c = simp c.in-5.is
+
+pub returns-in-6 : goal.returns-in-6
+unfolding rank_of
+returns-in-6 c = simp c.in-6.is
+
+pub returns-in-7 : goal.returns-in-7
+unfolding rank_of
+returns-in-7 c = simp c.in-7.is
+
+pub returns-in-12 : goal.returns-in-12
+unfolding rank_of
+returns-in-12 c = simp c.in-12.is
+
+pub returns-in-8 : goal.returns-in-8
+unfolding rank_of
+returns-in-8 c = simp c.in-8.is
+
+pub returns-in-9 : goal.returns-in-9
+unfolding rank_of
+returns-in-9 c = simp c.in-9.is
+
+pub returns-in-13 : goal.returns-in-13
+unfolding rank_of
+returns-in-13 c = simp c.in-13.is
+
+pub returns-in-14 : goal.returns-in-14
+unfolding rank_of
+returns-in-14 c = simp c.in-14.is
+
+pub returns-in-10 : goal.returns-in-10
+unfolding rank_of
+returns-in-10 c = simp c.in-10.is
+
+pub returns-in_default : goal.returns-in_default
+unfolding rank_of
+returns-in_default c =
+    let n = c.in_default.in_default-own.rest in
+    simp (ne_eqb _ _ n.1, ne_eqb _ _ n.0.1, ne_eqb _ _ n.0.0.1, ne_eqb _ _ n.0.0.0.1, ne_eqb _ _ n.0.0.0.0.1, ne_eqb _ _ n.0.0.0.0.0.1, ne_eqb _ _ n.0.0.0.0.0.0.1, ne_eqb _ _ n.0.0.0.0.0.0.0.1, ne_eqb _ _ n.0.0.0.0.0.0.0.0.1, ne_eqb _ _ n.0.0.0.0.0.0.0.0.0.1, ne_eqb _ _ n.0.0.0.0.0.0.0.0.0.0.1, ne_eqb _ _ n.0.0.0.0.0.0.0.0.0.0.0.1, ne_eqb _ _ n.0.0.0.0.0.0.0.0.0.0.0.0.1) (omega arith)

@@ -1,0 +1,33 @@
+use mathlib.Core.Path.{sym, ◌∙◌}
+use native.Mathlib.Omega.{arith}
+use borrow.Author.Tests.{eq-eqb, ne_eqb}
+use Rattle.sheet_forms.specs.Records.{axis_line}
+use Rattle.text.proofs.Places.{length_fields, at_field}
+use Rattle.sheet_lines.proofs.templates.axis_line.Goals as goal
+
+pub returns-then-fields-ne6 : goal.returns-then-fields-ne6
+unfolding axis_line
+returns-then-fields-ne6 c =
+    let a = c.args in
+    simp (length_fields a.starts.now a.line.now 0 a.fields, ne_eqb a.fields 6 c.if-fields-ne6.true)
+
+pub returns : goal.returns
+unfolding axis_line
+returns c =
+    let a = c.args in
+    let e = c.if-fields-ne6.false in
+    let at = at_field a.starts.now a.line.now a.fields 6 in
+    simp (
+      length_fields a.starts.now a.line.now 0 a.fields,
+      eq-eqb a.fields 6 e,
+      at 1 e (omega arith) ∙ sym c.field.ensures,
+      ← c.axis-a.ensures,
+      at 2 e (omega arith) ∙ sym c.field-2.ensures,
+      ← c.inner-i.ensures,
+      at 3 e (omega arith) ∙ sym c.field-3.ensures,
+      ← c.rule-r.ensures,
+      at 4 e (omega arith) ∙ sym c.field-4.ensures,
+      at 5 e (omega arith) ∙ sym c.field-5.ensures,
+      ← c.size-g.ensures,
+    )
+    c.make_axis.ensures

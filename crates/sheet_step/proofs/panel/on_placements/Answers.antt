@@ -1,0 +1,21 @@
+use Prim.Native.Nat.{ℕ, ◌+◌, ◌-◌}
+use mathlib.Core.Path.{refl}
+use mathlib.Core.List.{List}
+use native.Mathlib.Omega.{arith}
+use Rattle.panel_tables.specs.Regions.{placement_words_in, placement_bytes_in}
+use Rattle.sheet_faults.specs.Parts.{place_in}
+use Rattle.sheet_step.specs.Regions.{on_placements}
+use Rattle.sheet_step.proofs.Back.{parts-put}
+use Rattle.sheet_step.proofs.panel.on_placements.Goals as goal
+
+pub returns : goal.returns
+unfolding on_placements placement_words_in placement_bytes_in
+returns c =
+    let a = c.args in
+    let g = c.placement_names_start-name in
+    let k = c.put_placement in
+    parts-put 25088 512 62048 16384 g.result 512 (g.result + 16384 - g.result) a.words.now a.bytes.now
+    (λ (w : List ℕ) (b : List ℕ). place_in a.panel w b a.axis a.start a.first.now a.end a.second.now)
+    (record { answer = k.result; words = k.new.words; bytes = k.new.bytes })
+    g.ensures refl (omega arith)
+    (simp (← c.placed.ensures, ← c.used_name.ensures, ← c.placed-2.ensures, ← c.used_name-2.ensures) k.ensures)

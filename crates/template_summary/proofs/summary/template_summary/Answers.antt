@@ -1,0 +1,99 @@
+use mathlib.Core.Path.{◌≡◌, refl, sym, ap, subst, ◌∙◌}
+use mathlib.Core.List.{List, foldl}
+use Prim.Native.Nat.{ℕ, suc, ◌+◌, ◌-◌, ◌^◌, ◌<◌, ◌≤◌}
+use native.Mathlib.Numerals.{add-one}
+use native.Mathlib.Omega.{arith}
+use borrow.Author.Tests.{le-leb}
+use lib.ListN.{length, get_or, drop, drop_of_length-le}
+use lib.Seq.{drop-cons}
+use lib.Ieee.{Float}
+use Rattle.template_rules.specs.Template.{component_of, tracks_from, with_tracks, template_of}
+use Rattle.template_rules.specs.Summary.{steps_inside, first_part}
+use Rattle.template_rules.specs.Steps.{summary_step, summary_of, totals_of, cut_after}
+use Rattle.template_rules.specs.Bounds.{OfWord, Gathered}
+use Rattle.template_rules.specs.declared.GridTemplateComponent.{GridTemplateComponent}
+use Rattle.template_rules.specs.declared.TemplateSummary.{TemplateSummary}
+use Rattle.template_rules.proofs.Bounds.{of_word, length-tracks, none-gathered, step-gathered, more-gathered}
+use Rattle.template_rules.proofs.FirstPart.{part_none, part_step_lem, gathered_first_part, cut-tracks, cut-steps, cut-of-word}
+use Rattle.template_summary.proofs.summary.template_summary.Goals as goal
+
+-- the component that a step takes: of the word w, cut to k steps inside it
+taken : (w k : ℕ) (k' : ℕ) (c d : GridTemplateComponent) → c ≡ component_of w → d ≡ cut_after k' c → k' ≡ k → d ≡ cut_after k (component_of w)
+taken w k k' c d e f g = f ∙ ap (λ (x : GridTemplateComponent). cut_after k' x) e ∙ ap (λ (x : ℕ). cut_after x (component_of w)) g
+
+taken-of-word : (w k : ℕ) (d : GridTemplateComponent) → w < 2 ^ 64 → d ≡ cut_after k (component_of w) → OfWord d
+taken-of-word w k d h e = subst OfWord (sym e) (cut-of-word k (component_of w) (of_word w h))
+
+taken-steps : (w k n : ℕ) (d : GridTemplateComponent) → d ≡ cut_after k (component_of w) → n ≡ steps_inside d.count d.length → n ≤ k
+taken-steps w k n d e f = rw (f, e) (cut-steps k (component_of w)).0
+
+-- over plain lists
+module _ (minimums maximums : List ℕ) (inner : Float) where
+  -- what k steps over these words add to a summary
+  abbrev rest : TemplateSummary → ℕ → List ℕ → TemplateSummary
+  rest s k words = foldl (summary_step inner) s (first_part k (template_of words minimums maximums))
+
+  turn : (words : List ℕ) (i left n : ℕ) (d : GridTemplateComponent) (s s' all : TemplateSummary) → i < length words → (left ≡ 0 → ⊥)
+      → d ≡ cut_after (left - 1) (component_of (get_or words i 0)) → n ≡ steps_inside d.count d.length → s' ≡ summary_step inner s (with_tracks minimums maximums d)
+      → rest s left (drop i words) ≡ all → rest s' (left - 1 - n) (drop (i + 1) words) ≡ all
+  unfolding template_of
+  turn words i left n d s s' all h some e f q g =
+      let w = get_or words i 0 in
+      let one : left ≡ suc (left - 1) = omega arith in
+      let c = with_tracks minimums maximums (component_of w) in
+      let g' = rw (drop-cons words i 0 h, one, part_step_lem (left - 1) c (template_of (drop (suc i) words) minimums maximums), length-tracks minimums maximums (component_of w).first (component_of w).length) at g in
+      rw (q, f, e, cut-tracks (left - 1) (component_of w) minimums maximums, (cut-steps (left - 1) (component_of w)).1, add-one i) g'
+
+  stopped : (words : List ℕ) (i left : ℕ) (s all : TemplateSummary) → left ≡ 0 → rest s left (drop i words) ≡ all → s ≡ all
+  stopped words i left s all e g = rw (e, part_none (template_of (drop i words) minimums maximums)) at g
+
+  done : (words : List ℕ) (i left : ℕ) (s all : TemplateSummary) → length words ≤ i → rest s left (drop i words) ≡ all → s ≡ all
+  unfolding template_of first_part
+  done words i left s all h g = rw (drop_of_length-le words h) at g
+
+  next-gathered : (n : ℕ) (s s' : TemplateSummary) (k : GridTemplateComponent) → OfWord k → Gathered n s → s' ≡ summary_step inner s (with_tracks minimums maximums k) → Gathered (n + 1) s'
+  unfolding summary_step
+  next-gathered n s s' k w g e =
+      rw (e, length-tracks minimums maximums k.first k.length)
+      (step-gathered n s k.count k.length (totals_of inner k.count (tracks_from minimums maximums k.first k.length)) g w.counted w.length)
+
+pub loop-i-init : goal.loop-i-init
+unfolding summary_of
+loop-i-init c = (omega arith, none-gathered, refl)
+
+pub returns-then-left-eq0 : goal.returns-then-left-eq0
+returns-then-left-eq0 c =
+    let a = c.args in
+    let h : length a.components.now ≤ 64 = omega arith in (
+      rw (le-leb (length a.components.now) 64 h)
+          (stopped a.minimums.now a.maximums.now a.inner a.components.now c.loop-i.i c.loop-i.left c.loop-i.summary _ c.if-left-eq0.true c.loop-i.invariant.2
+          ∙ gathered_first_part a.inner a.steps (template_of a.components.now a.minimums.now a.maximums.now)),
+      more-gathered _ 64 _ c.loop-i.invariant.1 (omega arith),
+    )
+
+pub add_component-summary-requires : goal.add_component-summary-requires
+add_component-summary-requires c =
+    let a = c.args in
+    let h : get_or a.components.now c.loop-i.i 0 < 2 ^ 64 = omega (arith, c.type_inv.components c.loop-i.i) in
+    (more-gathered _ 64 _ c.loop-i.invariant.1 (omega arith), taken-of-word _ (c.loop-i.left - 1) _ h (taken _ _ _ _ _ c.component_of.ensures c.first_tracks-component.ensures refl))
+
+pub loop-i-preserved : goal.loop-i-preserved
+loop-i-preserved c =
+    let a = c.args in
+    let h : get_or a.components.now c.loop-i.i 0 < 2 ^ 64 = omega (arith, c.type_inv.components c.loop-i.i) in
+    let d = taken (get_or a.components.now c.loop-i.i 0) (c.loop-i.left - 1) _ _ _ c.component_of.ensures c.first_tracks-component.ensures refl in (
+      omega arith,
+      next-gathered _ _ _ _ _ _ _ (taken-of-word _ _ _ h d) c.loop-i.invariant.1 c.add_component-summary.ensures,
+      turn a.minimums.now a.maximums.now a.inner a.components.now c.loop-i.i c.loop-i.left c.steps_inside.result c.first_tracks-component.result c.loop-i.summary c.add_component-summary.result _
+          c.loop-i-test.true c.if-left-eq0.false d c.steps_inside.ensures c.add_component-summary.ensures c.loop-i.invariant.2,
+    )
+
+pub returns : goal.returns
+returns c =
+    let a = c.args in
+    let h : length a.components.now ≤ 64 = omega arith in (
+      rw (le-leb (length a.components.now) 64 h)
+          (done a.minimums.now a.maximums.now a.inner a.components.now c.loop-i.i c.loop-i.left c.loop-i.summary _ c.loop-i-test.false c.loop-i.invariant.2
+          ∙ gathered_first_part a.inner a.steps (template_of a.components.now a.minimums.now a.maximums.now)),
+      more-gathered _ 64 _ c.loop-i.invariant.1 (omega arith),
+    )

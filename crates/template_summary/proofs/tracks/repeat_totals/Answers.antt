@@ -1,0 +1,43 @@
+use Rattle.std.proofs.Common.{◌≡◌, ℕ, suc, ◌+◌, ◌-◌, ◌<◌, ◌≤◌, List, get_or, refl, add-one, arith}
+use mathlib.Core.List.{foldl}
+use lib.Ieee.{Float}
+use Rattle.sizing.specs.Words.{min_max_of}
+use Rattle.template_rules.specs.Template.{tracks_from}
+use Rattle.template_rules.specs.Steps.{of_track, add_totals, track_step}
+use Rattle.template_rules.specs.declared.RepetitionCount.{RepetitionCount}
+use Rattle.template_rules.specs.declared.TrackTotals.{TrackTotals}
+use Rattle.template_summary.proofs.tracks.repeat_totals.Goals as goal
+
+-- the tracks from a place to an end, over plain lists
+module _ (minimums maximums : List ℕ) (count : RepetitionCount) (inner : Float) where
+  abbrev rest : TrackTotals → ℕ → ℕ → TrackTotals
+  rest s place n = foldl (track_step count inner) s (tracks_from minimums maximums place n)
+
+  turn : (place end : ℕ) (s s' t : TrackTotals) (low high : ℕ) (all : TrackTotals) → place < end → low ≡ get_or minimums place 0 → high ≡ get_or maximums place 0
+      → t ≡ of_track inner (min_max_of low high) → s' ≡ add_totals count s t → rest s place (end - place) ≡ all → rest s' (place + 1) (end - (place + 1)) ≡ all
+  unfolding tracks_from
+  turn place end s s' t low high all h e f p q g =
+      let one : end - place ≡ suc (end - (place + 1)) = omega arith in
+      rw (q, p, e, f, add-one place) (rw (one, add-one place) at g)
+
+  done : (place end : ℕ) (s all : TrackTotals) → end ≤ place → rest s place (end - place) ≡ all → s ≡ all
+  unfolding tracks_from
+  done place end s all h g = let none : end - place ≡ 0 = omega arith in rw none at g
+
+pub loop-place-init : goal.loop-place-init
+loop-place-init c = (omega arith, refl)
+
+pub loop-place-preserved : goal.loop-place-preserved
+loop-place-preserved c =
+    let a = c.args in (
+      omega arith,
+      turn a.minimums.now a.maximums.now a.component.count a.inner c.loop-place.place _ c.loop-place.totals c.add_track-totals.result c.track_totals-track.result
+          c.word_at.result c.word_at-in-loop-place.result _ c.loop-place-test.true c.word_at.ensures c.word_at-in-loop-place.ensures c.track_totals-track.ensures
+          c.add_track-totals.ensures c.loop-place.invariant.1,
+    )
+
+pub returns : goal.returns
+returns c =
+    let a = c.args in
+    let all : a.component.first + a.component.length - a.component.first ≡ a.component.length = omega arith in
+    rw all at (done a.minimums.now a.maximums.now a.component.count a.inner c.loop-place.place _ c.loop-place.totals _ c.loop-place-test.false c.loop-place.invariant.1)

@@ -1,0 +1,12 @@
+use Rattle.std.proofs.Common.{ap, ◌∙◌}
+use Rattle.template_rules.specs.Template.{template_of}
+use Rattle.track_rules.specs.Written.{spares_of}
+use Rattle.track_run.specs.Run.{run_after}
+use Rattle.track_run.proofs.Filling.{zero-run}
+use Rattle.track_run.proofs.lender.axis_records.Goals as goal
+
+pub returns : goal.returns
+returns c =
+    let cs = template_of c.args.components.now c.args.minimums.now c.args.maximums.now in
+    let sp = spares_of c.args.spare_minimums.now c.args.spare_maximums.now in
+    c.initialize_grid_tracks.ensures.1 ∙ ap (run_after c.args.axis cs sp c.args.items.now) (zero-run 60001 c.zero-records.result c.zero-records.ensures)

@@ -1,0 +1,16 @@
+use Prim.Native.Nat.{ℕ, ◌-◌, ◌/◌}
+use mathlib.Core.Path.{sym, ap, ◌∙◌}
+use mathlib.Core.List.{List}
+use Rattle.template_rules.specs.Template.{template_of}
+use Rattle.track_rules.specs.Records.{item_at}
+use Rattle.track_rules.specs.Steps.{cursor_at}
+use Rattle.track_rules.proofs.Words.{totals_words}
+use Rattle.track_run.proofs.Filling.{state-of}
+use Rattle.track_run.proofs.state.begin_at.Goals as goal
+
+pub returns : goal.returns
+returns c =
+    let a = c.args in
+    let ns = totals_words a.axis.repetitions a.components.now a.minimums.now a.maximums.now in
+    state-of a.axis (template_of a.components.now a.minimums.now a.maximums.now) (item_at a.items.now) a.index c.make_plan-plan.result c.cursor_at-cursor.result
+    c.make_plan-plan.ensures (c.cursor_at-cursor.ensures ∙ ap (λ (l : List ℕ). cursor_at a.axis l ((a.index - 1) / 2)) (sym ns))
