@@ -4,7 +4,7 @@ use crate::table;
 use crate::timing::pair;
 use std::hint::black_box;
 
-/// What the call answers, by its own archive: `rt staticlib explicit_size_bench`, which is no part of the library.
+/// What the call answers, by its own archive: `tools/make explicit_size_bench`, which is no part of the library.
 #[repr(C)]
 struct SizeNumbers {
     number: u32,

@@ -1,6 +1,6 @@
 /* Palgwern's calls for C: a panel sheet read, names entered, placements, line names and track records answered.
  *
- * Link target/staticlib/libpalgwern.a (x86-64 Linux), which `rt staticlib palgwern` writes. Every call is proved to end and to
+ * Link target/staticlib/libpalgwern.a (x86-64 Linux), which `tools/make palgwern` writes. Every call is proved to end and to
  * answer as its contract in crates/palgwern/src says, whatever the panel and what is lent hold. What C must ensure:
  *
  * - stack: 512 KiB of room for palgwern_read_sheet and palgwern_display_sheet, 192 KiB for palgwern_line_names, 128 KiB for

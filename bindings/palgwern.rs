@@ -1,4 +1,4 @@
-//! Palgwern's calls for Rust: safe functions over target/staticlib/libpalgwern.a, which `rt staticlib palgwern` writes.
+//! Palgwern's calls for Rust: safe functions over target/staticlib/libpalgwern.a, which `tools/make palgwern` writes.
 //!
 //! `mod palgwern;` and `-l static=palgwern` are all that is needed. A `Panel` owns the buffers that the library reads and writes and
 //! hands them over together, so what the calls ask of a caller holds: initialized arrays of the right lengths that do not overlap.

@@ -36,7 +36,7 @@ class Definition:
             bound |= set(PARTS.split(patterns))
         text = re.sub(r"λ [^\s.]+\.|(?<=[{;])\s*\S+ =|^  pub \S+ :", " ", text, flags=re.M)
         for word in PARTS.split(text):
-            if word and not word.startswith(".") and word not in bound:
+            if word and not word.startswith(".") and word.partition(".")[0] not in bound:
                 yield word
 
 
@@ -61,7 +61,7 @@ class Module:
                 block.append(line)
 
     def read_import(self, line):
-        found = re.match(r"(?:pub )?use Rattle·(\w+?)(?:·specs)?\.specs\.([\w.\-]+?)(?:\.\{(.*)\}| as (\S+))?$", line)
+        found = re.match(r"(?:pub )?use Rattle\.(\w+?)\.specs\.([\w.\-]+?)(?:\.\{(.*)\}| as (\S+))?$", line)
         if not found:
             return
         crate, path, names, alias = found.groups()
@@ -115,7 +115,7 @@ def declared(crate, name):
 def looked_up(crate, path, name):
     """What an import gives: a definition of a file, or a declared type, for its variants too."""
     if path.startswith("declared."):
-        parts = [part for part in path.split(".")[1:] if part != "the-variants"]
+        parts = [part for part in path.split(".")[1:] if part != "TheVariants"]
         return declared(crate, parts[-1])
     if not os.path.exists(os.path.join(REPOSITORY, "crates", crate, "specs", path + ".antt")):
         return None

@@ -21,7 +21,7 @@ def main():
     options = arguments()
     archive = find(options.library, *LIBRARY)
     if archive is None:
-        raise build.CannotCompare("no comparison: the library is not there, `rt staticlib palgwern` writes it")
+        raise build.CannotCompare("no comparison: the library is not there, `tools/make palgwern` writes it")
     if options.n < 1:
         raise build.CannotCompare("no comparison: N has to be at least 1")
     folder = os.path.join(build.COMPARE, "target", "lists")

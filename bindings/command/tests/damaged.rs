@@ -165,7 +165,7 @@ fn said(line: &str) -> (u32, u32, bool) {
 fn compare(half: usize) {
     let (folder, panel, mut random) = (folder(&format!("damaged-{half}")), panel_program(), Random::new(half as u64));
     if panel.is_none() {
-        println!("missing: the panel program (rt check panel); the library is asked in its place");
+        println!("missing: the panel program (tools/make panel); the library is asked in its place");
     }
     let (mut refused, mut unexplained) = (0, vec![]);
     for batch in 0..SHEETS / 2 / AT_ONCE {

@@ -30,7 +30,7 @@ fn examples_are_made_anew() {
 fn answers_are_the_panel_programs() {
     let panel = std::env::var_os("PANEL").map_or(beside("../target/bin/panel"), Into::into);
     if !panel.exists() {
-        return println!("missing: the panel program (rt check panel); the answers of the examples are not compared");
+        return println!("missing: the panel program (tools/make panel); the answers of the examples are not compared");
     }
     for name in EXAMPLES {
         let sheet = std::fs::File::open(path(&format!("{name}.sheet"))).unwrap();
