@@ -46,14 +46,14 @@ track_of_lem v is (inside r) f min max = go (ltb 31 (length (tracks_in r.pieces)
     go : (t : Bool) → ltb 31 (length (tracks_in r.pieces)) ≡ t
         → of_words (with_template v is (inside r)) (put_track (state_of (with_template v is (inside r))) (reading_of (with_template v is (inside r))) (axis_words (with_template v is (inside r))) min max)
         ≡ held_of (track_step (with_template v is (inside r)) min max)
-    go true e = rw (positive r.kind f.unended.some, e)
+    go true e = rw e
     go false e =
         let t : Sizes = record { min = min; max = max } in
         let ts : List Sizes = tracks_of (is ++ (repeat r ∷ [])) in
         let k : length ts < 2048 =
         omega (arith, few-tracks is f.items, f.components, ltb-false 31 (length (tracks_in r.pieces)) e, ap length (More.repeat-tracks is r), length-append (tracks_of is) (tracks_in r.pieces)) in
         let g : ltb 2047 (length ts) ≡ false = le-ltb 2047 (length ts) (omega arith) in
-        simp (positive r.kind f.unended.some, e, g, Follow.repeated-words v is r t k, More.inner-track-tracks is r t, More.inner_track_names is r t, More.inner-track-length is r t, length_more ts t)
+        simp (e, g, Follow.repeated-words v is r t k, More.inner-track-tracks is r t, More.inner_track_names is r t, More.inner-track-length is r t, length_more ts t)
 
 -- ---- `repeat`
 repeat_of_lem : (v : AxisView) (is : List Item) (u : Unended) → Fits (with_template v is u) → (kind number : ℕ)
@@ -68,7 +68,7 @@ repeat_of_lem v is none f kind number = go (ltb 65535 number) (ltb 63 (length (c
     go true t d e = rw d
     go false true d e = rw (d, e)
     go false false d e = simp (d, e, More.empty_tracks is (repeat_kind kind) number, More.empty_names is (repeat_kind kind) number)
-repeat_of_lem v is (inside r) f kind number = rw (positive r.kind f.unended.some)
+repeat_of_lem v is (inside r) f kind number = refl
 
 -- ---- `end`
 end_of : (v : AxisView) (is : List Item) (u : Unended) → Fits (with_template v is u)
@@ -79,7 +79,7 @@ end_of v is none f = refl
 end_of v is (inside r) f =
     let h : length (components_of is) < 64 = omega (arith, f.components) in
     let e : ltb 63 (length (components_of is)) ≡ false = le-ltb 63 (length (components_of is)) (omega arith) in
-    simp (positive r.kind f.unended.some, e, Follow.closed-words v is r h, More.repeat-components is r)
+    simp (e, Follow.closed-words v is r h, More.repeat-components is r)
 
 -- ---- `name`
 name_of_lem : (v : AxisView) (is : List Item) (u : Unended) → Fits (with_template v is u) → (n : List ℕ)
@@ -122,7 +122,6 @@ name_of_lem v is (inside r) f n = go (no_room 4096 32768 (length ms) (length (by
         let h : Room 4096 32768 (length ns) (length (bytes_of name_of ns)) (length n) = room 4096 32768 (length ns) (length (bytes_of name_of ns)) (length n) e in
         simp (
           e,
-          positive r.kind f.unended.some,
           Follow.inner-name-words v is r n h.free,
           Follow.more_bytes ns x h.bytes,
           More.inner_name_all is r n,

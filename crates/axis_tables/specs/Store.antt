@@ -1,6 +1,8 @@
 -- The words of an axis and its small state, and what each record does to them, whatever they hold.
-use Rattle.std.specs.Prelude.{ℕ, ◌+◌, ◌*◌, ◌%◌, List, cond, eqb, ltb, length, set}
+use Rattle.std.specs.Prelude.{ℕ, ◌+◌, ◌*◌, ◌%◌, List, Bool, true, false, cond, ltb, length, set, Option, Some, None, Result, Ok, Err}
 use Rattle.std.proofs.lemmas.List.Edits.{sets}
+use Rattle.coordinates.specs.declared.refusal.Fault.{Fault}
+use Rattle.coordinates.specs.Refusals.{number_of}
 use Rattle.axis_tables.specs.declared.AxisSpace.{AxisSpace}
 use Rattle.axis_tables.specs.declared.TemplateCounts.{TemplateCounts}
 use Rattle.axis_tables.specs.declared.ImplicitCounts.{ImplicitCounts}
@@ -8,7 +10,8 @@ use Rattle.axis_tables.specs.declared.AxisGrid.{AxisGrid}
 use Rattle.axis_tables.specs.declared.AxisRoom.{AxisRoom}
 use Rattle.axis_tables.specs.declared.AxisState.{AxisState}
 use Rattle.axis_tables.specs.declared.AxisReading.{AxisReading}
-use Rattle.axis_tables.specs.declared.AxisPut.{AxisPut}
+use Rattle.axis_tables.specs.declared.OpenRepeat.{OpenRepeat}
+use Rattle.axis_tables.specs.declared.AxisAfter.{AxisAfter}
 use Rattle.axis_tables.specs.View.{no_room, named_fault, repeat_kind}
 
 -- ---- words
@@ -62,7 +65,7 @@ abbrev pub zero_state : AxisState
 zero_state = record { grid = zero_axis_grid; room = zero_axis_room }
 
 abbrev pub zero_reading : AxisReading
-zero_reading = record { seen = 0; kind = 0; number = 0; first = 0; length = 0 }
+zero_reading = record { seen = false; unended = None }
 
 -- with one part of it anew
 abbrev pub with_room : AxisState → AxisRoom → AxisState
@@ -95,15 +98,30 @@ with_spares s spares = with_implicit s (record { negative = s.grid.implicit.nega
 abbrev pub with_extra : AxisState → ℕ → ℕ → AxisState
 with_extra s negative positive = with_implicit s (record { negative = negative; positive = positive; spares = s.grid.implicit.spares })
 
--- the open repeat; its kind is 0 where there is none
-abbrev pub with_repeat : AxisReading → ℕ → ℕ → ℕ → ℕ → AxisReading
-with_repeat r kind number first length = record { seen = r.seen; kind = kind; number = number; first = first; length = length }
+-- the repeat that has no end yet, if there is one
+abbrev pub with_unended : AxisReading → Option OpenRepeat → AxisReading
+with_unended r unended = record { seen = r.seen; unended = unended }
 
-abbrev pub with_seen : AxisReading → ℕ → AxisReading
-with_seen r seen = record { seen = seen; kind = r.kind; number = r.number; first = r.first; length = r.length }
+-- with one track more
+abbrev pub longer : OpenRepeat → OpenRepeat
+longer o = record { kind = o.kind; number = o.number; first = o.first; length = o.length + 1 }
+
+abbrev pub with_seen : AxisReading → Bool → AxisReading
+with_seen r seen = record { seen = seen; unended = r.unended }
+
+-- the answer of a record: its refusal's number, 0 where there is none, and the axis after it, on a refusal as it came
+pub record AxisPut : Type 0 where
+  pub fault : ℕ
+  pub state : AxisState
+  pub reading : AxisReading
 
 abbrev pub put : ℕ → AxisState → AxisReading → AxisPut
 put fault s r = record { fault = fault; state = s; reading = r }
+
+-- the number and the axis of what a call answers, of the axis as it came
+abbrev pub answered_axis : AxisState → AxisReading → Result AxisAfter Fault → AxisPut
+answered_axis s r (Ok after) = put 0 after.state after.reading
+answered_axis s r (Err fault) = put (number_of fault) s r
 
 -- ---- what a record leaves: its answer, with the words, the marks or the bytes
 
@@ -133,38 +151,51 @@ put_single s r w min max =
       words = set (set (set w s.room.template.components (component_word 0 0 s.room.template.tracks 1)) (minimums + s.room.template.tracks) min) (maximums + s.room.template.tracks) max;
     }))
 
-unfoldable pub put_repeated : AxisState → AxisReading → List ℕ → ℕ → ℕ → InWords
-put_repeated s r w min max =
-    cond (ltb 31 r.length) (refused_words 8 s r w)
+unfoldable pub put_repeated : AxisState → AxisReading → OpenRepeat → List ℕ → ℕ → ℕ → InWords
+put_repeated s r o w min max =
+    cond (ltb 31 o.length) (refused_words 8 s r w)
     (cond (ltb 2047 s.room.template.tracks) (refused_words 8 s r w)
     (record {
-      answer = put 0 (with_template s s.room.template.components (s.room.template.tracks + 1)) (with_repeat r r.kind r.number r.first (r.length + 1));
+      answer = put 0 (with_template s s.room.template.components (s.room.template.tracks + 1)) (with_unended r (Some (longer o)));
       words = set (set w (minimums + s.room.template.tracks) min) (maximums + s.room.template.tracks) max;
     }))
 
+abbrev pub track_in : AxisState → AxisReading → Option OpenRepeat → List ℕ → ℕ → ℕ → InWords
+track_in s r None w min max = put_single s r w min max
+track_in s r (Some o) w min max = put_repeated s r o w min max
+
 unfoldable pub put_track : AxisState → AxisReading → List ℕ → ℕ → ℕ → InWords
-put_track s r w min max = cond (eqb r.kind 0) (put_single s r w min max) (put_repeated s r w min max)
+put_track s r w min max = track_in s r r.unended w min max
+
+abbrev pub opened_in : AxisState → AxisReading → Option OpenRepeat → ℕ → ℕ → AxisPut
+opened_in s r None kind number =
+    cond (ltb 65535 number) (put 4 s r)
+    (cond (ltb 63 s.room.template.components) (put 8 s r)
+    (put 0 s (with_unended r (Some (record { kind = repeat_kind kind; number = number; first = s.room.template.tracks; length = 0 })))))
+opened_in s r (Some o) kind number = put 1 s r
 
 unfoldable pub open_repeat : AxisState → AxisReading → ℕ → ℕ → AxisPut
-open_repeat s r kind number =
-    cond (eqb r.kind 0)
-    (cond (ltb 65535 number) (put 4 s r)
-    (cond (ltb 63 s.room.template.components) (put 8 s r)
-    (put 0 s (with_repeat r (repeat_kind kind) number s.room.template.tracks 0))))
-    (put 1 s r)
+open_repeat s r kind number = opened_in s r r.unended kind number
+
+abbrev pub closed_in : AxisState → AxisReading → Option OpenRepeat → List ℕ → InWords
+closed_in s r None w = refused_words 1 s r w
+closed_in s r (Some o) w =
+    cond (ltb 63 s.room.template.components) (refused_words 8 s r w)
+    (record {
+      answer = put 0 (with_template s (s.room.template.components + 1) s.room.template.tracks) (with_unended r None);
+      words = set w s.room.template.components (component_word o.number o.kind o.first o.length);
+    })
 
 unfoldable pub close_repeat : AxisState → AxisReading → List ℕ → InWords
-close_repeat s r w =
-    cond (eqb r.kind 0) (refused_words 1 s r w)
-    (cond (ltb 63 s.room.template.components) (refused_words 8 s r w)
-    (record {
-      answer = put 0 (with_template s (s.room.template.components + 1) s.room.template.tracks) (with_repeat r 0 0 0 0);
-      words = set w s.room.template.components (component_word r.number r.kind r.first r.length);
-    }))
+close_repeat s r w = closed_in s r r.unended w
 
 -- where a name stands: outside a repeat, or after so many of its tracks
+abbrev pub place_of : Option OpenRepeat → ℕ
+place_of None = 0
+place_of (Some o) = o.length + 1
+
 abbrev pub place_in : AxisReading → ℕ
-place_in r = cond (eqb r.kind 0) 0 (r.length + 1)
+place_in r = place_of r.unended
 
 unfoldable pub put_name : AxisState → AxisReading → List ℕ → List ℕ → List ℕ → InNames
 put_name s r w b n =
@@ -190,4 +221,4 @@ abbrev pub put_extra : AxisState → AxisReading → ℕ → ℕ → AxisPut
 put_extra s r negative positive = put 0 (with_extra s negative positive) r
 
 abbrev pub put_axis : AxisState → AxisReading → ℕ → ℕ → ℕ → ℕ → AxisPut
-put_axis s r definite inner rule gap = put 0 (with_space s (record { definite = definite; inner = inner; rule = rule; gap = gap })) (with_seen r 1)
+put_axis s r definite inner rule gap = put 0 (with_space s (record { definite = definite; inner = inner; rule = rule; gap = gap })) (with_seen r true)

@@ -1,14 +1,13 @@
 -- What the state and the tables of an axis hold for a view: each region of the words is what the view lists, and zeros.
-use Rattle.std.specs.Prelude.{ℕ, ◌+◌, List, [], ◌∷◌, map, length}
+use Rattle.std.specs.Prelude.{ℕ, ◌+◌, List, [], ◌∷◌, map, Bool, true, false, cond, eqb, length, Some, None}
 use Rattle.axis_tables.specs.declared.AxisGrid.{AxisGrid}
 use Rattle.axis_tables.specs.declared.AxisRoom.{AxisRoom}
 use Rattle.axis_tables.specs.declared.AxisState.{AxisState}
 use Rattle.axis_tables.specs.declared.AxisReading.{AxisReading}
-use Rattle.axis_tables.specs.declared.AxisPut.{AxisPut}
 use Rattle.axis_tables.specs.Lay.{pad, Region, region, lay}
 use Rattle.axis_tables.specs.Runs.{words_from}
 use Rattle.axis_tables.specs.View.{Sizes, name, track, Item, single, repeat, Unended, none, inside, AxisView, AxisOutcome, written, tracks_in, tracks_of, components_of, NameRecord, name_of, axis_names, axis_bytes}
-use Rattle.axis_tables.specs.Store.{component_word, name_word, zero_template, put, InWords, InMarks, InNames}
+use Rattle.axis_tables.specs.Store.{component_word, name_word, zero_template, AxisPut, put, InWords, InMarks, InNames}
 
 -- the words of the components of items whose first track is number n
 abbrev pub components_from : ℕ → List Item → List ℕ
@@ -75,9 +74,14 @@ room_of v =
 abbrev pub state_of : AxisView → AxisState
 state_of v = record { grid = grid_of v; room = room_of v }
 
+-- 0 where there was no `axis` line
+abbrev pub was_seen : ℕ → Bool
+was_seen seen = cond (eqb seen 0) false true
+
 abbrev pub repeat_of : ℕ → List Item → Unended → AxisReading
-repeat_of seen is none = record { seen = seen; kind = 0; number = 0; first = 0; length = 0 }
-repeat_of seen is (inside r) = record { seen = seen; kind = r.kind; number = r.number; first = length (tracks_of is); length = length (tracks_in r.pieces) }
+repeat_of seen is none = record { seen = was_seen seen; unended = None }
+repeat_of seen is (inside r) =
+    record { seen = was_seen seen; unended = Some (record { kind = r.kind; number = r.number; first = length (tracks_of is); length = length (tracks_in r.pieces) }) }
 
 abbrev pub reading_of : AxisView → AxisReading
 reading_of v = repeat_of v.line.seen v.template v.unended

@@ -1,8 +1,7 @@
 // The words of an axis: where each region starts, and how they are packed.
-ghost use Rattle.std.specs.Prelude.{◌≡◌, get_or};
+ghost use Rattle.std.specs.Prelude.{◌≡◌, get_or, take, drop};
 ghost use Rattle.axis_tables.specs.Store.{component_word, name_word};
 ghost use Rattle.axis_tables.specs.Reads.{name_place};
-ghost use Rattle.axis_tables.specs.Runs.{part_of};
 
 use crate::NamePlace;
 
@@ -29,59 +28,54 @@ pub const AXIS_BYTES: usize = 32768;
 pub fn word_at(words: &[u64], place: usize) -> u64
     ensures { result ≡ get_or words.now place 0 }
 {
-    if place < words.len() {
-        return words[place];
-    }
-    0
+    words.get(place).copied().unwrap_or(0)
 }
 
-// So many words from a place on, cut where they end.
-pub fn words_part(words: &[u64], first: usize, length: u32) -> &[u64]
-    ensures { result.now ≡ part_of words.now first length }
+// So many items from a place on, cut where they end.
+pub fn part_from<T>(items: &[T], first: usize, length: u32) -> &[T]
+    ensures { result.now ≡ take length (drop first items.now) }
 {
-    let count = length as usize;
-    let end = words.len();
-    if end <= first {
-        return &words[end..end];
-    }
-    if end - first < count {
-        return &words[first..end];
-    }
-    let last = first + count;
-    &words[first..last]
+    let rest = &items[first.min(items.len())..];
+    &rest[..rest.len().min(length as usize)]
 }
 
 // The word of a component.
+#[tactic(auto, unfolding(crate::specs::Store::component_word))]
 pub fn component_word(number: u32, kind: u32, first: u32, length: u32) -> u64
     ensures { result ≡ component_word number kind first length }
 {
-    let number = number as u64 % 0x1_0000;
-    let kind = kind as u64 % 4;
-    let first = first as u64 % 0x1_0000;
-    let length = length as u64 % 0x1_0000;
+    let number = u64::from(number) % 0x1_0000;
+    let kind = u64::from(kind) % 4;
+    let first = u64::from(first) % 0x1_0000;
+    let length = u64::from(length) % 0x1_0000;
     number + kind * 0x1_0000 + first * 0x1_0000_0000 + length * 0x1_0000_0000_0000
 }
 
-// The word of a name.
-pub fn name_word(component: u32, place: u64, offset: u32, length: u64) -> u64
-    ensures { result ≡ name_word component place offset length }
-{
-    let component = component as u64 % 0x100;
-    let place = place % 0x100;
-    let offset = offset as u64 % 0x1_0000;
-    let length = length % 0x100;
-    component + place * 0x100 + offset * 0x1_0000 + length * 0x1_0000_0000
+impl From<NamePlace> for u64 {
+    ghost from_gives = { λ name word. word ≡ name_word name.component name.place name.offset name.length };
+
+    // The word of a name.
+    #[tactic(auto, unfolding(crate::specs::Store::name_word))]
+    fn from(name: NamePlace) -> u64 {
+        let component = u64::from(name.component) % 0x100;
+        let place = u64::from(name.place) % 0x100;
+        let offset = u64::from(name.offset) % 0x1_0000;
+        let length = u64::from(name.length) % 0x100;
+        component + place * 0x100 + offset * 0x1_0000 + length * 0x1_0000_0000
+    }
 }
 
-// A name's word taken apart. Any word gives a place.
-#[tactic(auto, unfolding(crate::specs::Reads::name_place))]
-pub fn name_place(word: u64) -> NamePlace
-    ensures { result ≡ name_place word }
-{
-    NamePlace {
-        component: (word % 0x100) as u32,
-        place: (word / 0x100 % 0x100) as u32,
-        offset: (word / 0x1_0000 % 0x1_0000) as u32,
-        length: (word / 0x1_0000_0000 % 0x100) as u32,
+impl From<u64> for NamePlace {
+    ghost from_gives = { λ word name. name ≡ name_place word };
+
+    // A name's word taken apart. Any word gives a place.
+    #[tactic(auto, unfolding(crate::specs::Reads::name_place))]
+    fn from(word: u64) -> NamePlace {
+        NamePlace {
+            component: (word % 0x100) as u32,
+            place: (word / 0x100 % 0x100) as u32,
+            offset: (word / 0x1_0000 % 0x1_0000) as u32,
+            length: (word / 0x1_0000_0000 % 0x100) as u32,
+        }
     }
 }

@@ -4,13 +4,12 @@
 
 pub mod layout;
 pub mod name;
-pub mod state;
 pub mod write;
 
 // The space of an axis, as its `axis` record says it: whether it has an inner size, the bits of that, rule 0 `max` or 1 `min`, the
 // gap's word.
 #[repr(C)]
-#[derive(Clone, Copy)]
+#[derive(Clone, Copy, Debug, PartialEq, Eq, Default)]
 pub struct AxisSpace {
     pub definite: u32,
     pub inner: u32,
@@ -20,7 +19,7 @@ pub struct AxisSpace {
 
 // The components of a template, and their tracks.
 #[repr(C)]
-#[derive(Clone, Copy)]
+#[derive(Clone, Copy, Debug, PartialEq, Eq, Default)]
 pub struct TemplateCounts {
     pub components: u32,
     pub tracks: u32,
@@ -28,7 +27,7 @@ pub struct TemplateCounts {
 
 // The implicit tracks before the grid, those after it, and the spare sizes that such tracks take.
 #[repr(C)]
-#[derive(Clone, Copy)]
+#[derive(Clone, Copy, Debug, PartialEq, Eq, Default)]
 pub struct ImplicitCounts {
     pub negative: u32,
     pub positive: u32,
@@ -37,7 +36,7 @@ pub struct ImplicitCounts {
 
 // The explicit size of an axis.
 #[repr(C)]
-#[derive(Clone, Copy)]
+#[derive(Clone, Copy, Debug, PartialEq, Eq, Default)]
 pub struct AxisSize {
     pub repetitions: u32,
     pub explicit: u32,
@@ -46,7 +45,7 @@ pub struct AxisSize {
 // What answers are read from on an axis, beside the tables: its space, the counts of its template and of its implicit tracks, how many
 // name entries there are, and its explicit size.
 #[repr(C)]
-#[derive(Clone, Copy)]
+#[derive(Clone, Copy, Debug, PartialEq, Eq, Default)]
 pub struct AxisGrid {
     pub space: AxisSpace,
     pub template: TemplateCounts,
@@ -58,7 +57,7 @@ pub struct AxisGrid {
 // What only an edit reads of an axis: the template as it is written, how many `name` records there are, the bytes of the line-name
 // store that are used, and the tracks that areas span.
 #[repr(C)]
-#[derive(Clone, Copy)]
+#[derive(Clone, Copy, Debug, PartialEq, Eq, Default)]
 pub struct AxisRoom {
     pub template: TemplateCounts,
     pub names: u32,
@@ -67,34 +66,38 @@ pub struct AxisRoom {
 }
 
 // An axis of a panel: what answers, and what edits.
-#[derive(Clone, Copy)]
+#[derive(Clone, Copy, Debug, PartialEq, Eq)]
 pub struct AxisState {
     pub grid: AxisGrid,
     pub room: AxisRoom,
 }
 
-// What only reading needs: whether the `axis` record was seen, and the repeat that is open: kind 0 is none, 1 counted, 2 `fill`,
-// 3 `fit`; its number, the place of its first track and its tracks so far.
-#[derive(Clone, Copy)]
+// What only reading needs: whether the `axis` record was seen, and the repeat that has no `end` yet.
+#[derive(Clone, Copy, Debug, PartialEq, Eq, Default)]
 pub struct AxisReading {
-    pub seen: u32,
+    pub seen: bool,
+    pub unended: Option<OpenRepeat>,
+}
+
+// A repeat that has no `end` yet: its kind and number as in the word of its component, the place of its first track and its tracks so far.
+#[derive(Clone, Copy, Debug, PartialEq, Eq)]
+pub struct OpenRepeat {
     pub kind: u32,
     pub number: u32,
     pub first: u32,
     pub length: u32,
 }
 
-// The answer of a record: its refusal's number, 0 where there is none, and the axis after it, on a refusal as it came.
-#[derive(Clone, Copy)]
-pub struct AxisPut {
-    pub fault: u32,
+// An axis after a record, and what reading needs of it.
+#[derive(Clone, Copy, Debug, PartialEq, Eq)]
+pub struct AxisAfter {
     pub state: AxisState,
     pub reading: AxisReading,
 }
 
 // Where a name stands and where its bytes lie: the component before or in which it stands, its place there (0 outside a repeat,
 // i + 1 after i of the repeat's tracks), and its part of the store.
-#[derive(Clone, Copy)]
+#[derive(Clone, Copy, Debug, PartialEq, Eq)]
 pub struct NamePlace {
     pub component: u32,
     pub place: u32,

@@ -1,135 +1,107 @@
 // What `name` does to an axis.
-ghost use Rattle.std.specs.Prelude.{◌≡◌, ◌+◌, ◌≤◌, length};
+ghost use Rattle.std.specs.Prelude.{◌≡◌, ◌+◌, ◌%◌, ◌≤◌, length};
 ghost use Rattle.std.proofs.lemmas.List.Edits.{sets};
-ghost use Rattle.axis_tables.specs.Store.{InNames, place_in, put_name};
+ghost use Rattle.coordinates.specs.Refusals.{number_of};
+ghost use Rattle.axis_tables.specs.Store.{InNames, place_in, answered_axis, put_name};
 ghost use Rattle.axis_tables.specs.View.{no_room, named_fault};
-ghost use Rattle.axis_tables.specs.Runs.{put_bytes, part_of};
+ghost use Rattle.axis_tables.specs.Runs.{put_bytes};
 
-use crate::layout::{NAMES, name_word};
-use crate::state::put;
-use crate::write::set_word;
-use crate::{AxisPut, AxisReading, AxisState};
+use crate::layout::NAMES;
+use crate::write::set_at;
+use crate::{AxisAfter, AxisReading, AxisState, NamePlace};
+use coordinates::Fault;
+
+// The longest name, in bytes.
+pub const LONGEST_NAME: usize = 32;
 
 // The bytes of a name from `at` on.
+#[tactic(auto, using(crate::proofs::Sets::put_sets))]
 fn copy_bytes(store: &mut [u8], at: usize, name: &[u8])
     requires { at + length name.now ≤ length store.old }
     ensures { store.new ≡ sets store.old at name.now }
 {
-    let mut j: usize = 0;
-    let mut o = at;
-    while j < name.len() {
-        store[o] = name[j];
-        o += 1;
-        j += 1;
-    }
+    store[at..at + name.len()].copy_from_slice(name);
 }
 
 // The same where the store has room for them, and else nothing.
+#[tactic(auto, unfolding(crate::specs::Runs::put_bytes))]
 pub fn put_bytes(store: &mut [u8], at: usize, name: &[u8])
     ensures { store.new ≡ put_bytes store.old at name.now }
 {
-    if store.len() < at {
-        return;
+    if at <= store.len() && name.len() <= store.len() - at {
+        copy_bytes(store, at, name);
     }
-    if store.len() - at < name.len() {
-        return;
-    }
-    copy_bytes(store, at, name);
 }
 
 // The same as far as the store reaches.
+#[tactic(auto, using(crate::proofs::Sets::sets_past, crate::proofs::Sets::sets_cut))]
 fn copy_what_fits(store: &mut [u8], at: usize, name: &[u8])
     ensures { store.new ≡ sets store.old at name.now }
 {
-    if store.len() <= at {
-        return;
+    if at < store.len() {
+        let fitting = name.len().min(store.len() - at);
+        copy_bytes(store, at, &name[..fitting]);
     }
-    let room = store.len() - at;
-    if room < name.len() {
-        copy_bytes(store, at, &name[0..room]);
-        return;
-    }
-    copy_bytes(store, at, name);
-}
-
-// The part of a store that holds a name, cut where the store ends.
-pub fn name_part(store: &[u8], offset: u32, length: u32) -> &[u8]
-    ensures { result.now ≡ part_of store.now offset length }
-{
-    let first = offset as usize;
-    let count = length as usize;
-    let end = store.len();
-    if end <= first {
-        return &store[end..end];
-    }
-    if end - first < count {
-        return &store[first..end];
-    }
-    let last = first + count;
-    &store[first..last]
 }
 
 // Whether a name of that length has no room in a table of `most` names and a store of `room` bytes.
 pub fn no_room(most: u32, room: u32, names: u32, used: u32, length: usize) -> bool
     ensures { result ≡ no_room most room names used length }
 {
-    if 32 < length {
-        return true;
-    }
-    if most <= names {
-        return true;
-    }
-    (room as usize) < used as usize + length
+    LONGEST_NAME < length || most <= names || (room as usize) < used as usize + length
 }
 
-// A fault beside a name of that length: a name of more than 32 bytes is 2, the lowest number.
-pub fn named_fault(length: usize, fault: u32) -> u32
-    ensures { result ≡ named_fault length fault }
+// A fault beside a name of that length: a name of more than 32 bytes is the fault with the lower number.
+pub fn named_fault(length: usize, fault: Fault) -> Fault
+    ensures { number_of result ≡ named_fault length (number_of fault) }
 {
-    if 32 < length {
-        return 2;
+    if LONGEST_NAME < length {
+        Fault::Name
+    } else {
+        fault
     }
-    fault
 }
 
-// Where a name stands: 0 outside a repeat, one more than the tracks before it in the open repeat.
-fn place_in(reading: AxisReading) -> u64
-    ensures { result ≡ place_in reading }
+// Where a name stands, as a byte: 0 outside a repeat, one more than the tracks before it in the open repeat.
+fn place_in(reading: AxisReading) -> u32
+    ensures { result ≡ place_in reading % 256 }
 {
-    if reading.kind == 0 {
-        return 0;
+    match reading.unended {
+        None => 0,
+        Some(repeat) => (repeat.length % 0x100 + 1) % 0x100,
     }
-    reading.length as u64 + 1
 }
 
 // A name: its word is the next, and its bytes follow those of the names before it. 2: more than 32 bytes; 8: it has no room.
+#[tactic(auto, unfolding(crate::specs::Store::put_name), using(crate::proofs::Sets::name_word_byte))]
 pub fn put_name(
     state: AxisState,
     reading: AxisReading,
     words: &mut [u64],
     bytes: &mut [u8],
     name: &[u8],
-) -> AxisPut
-    ensures { record { answer = result; words = words.new; bytes = bytes.new } ≡ put_name state reading words.old bytes.old name.now }
+) -> Result<AxisAfter, Fault>
+    ensures { record { answer = answered_axis state reading result; words = words.new; bytes = bytes.new } ≡ put_name state reading words.old bytes.old name.now }
 {
     let length = name.len();
     let names = state.room.names;
     let used = state.room.used;
     if no_room(4096, 32768, names, used, length) {
-        return put(named_fault(length, 8), state, reading);
+        return Err(named_fault(length, Fault::Crowded));
     }
-    let word = name_word(
-        state.room.template.components,
-        place_in(reading),
-        used,
-        length as u64,
-    );
-    set_word(words, NAMES + names as usize, word);
+    let word = u64::from(NamePlace {
+        component: state.room.template.components,
+        place: place_in(reading),
+        offset: used,
+        length: length as u32,
+    });
+    set_at(words, NAMES + names as usize, word);
     copy_what_fits(bytes, used as usize, name);
-    let next = names + 1;
-    let end = used + length as u32;
     let mut after = state;
-    after.room.names = next;
-    after.room.used = end;
-    put(0, after, reading)
+    after.room.names = names + 1;
+    after.room.used = used + length as u32;
+    Ok(AxisAfter {
+        state: after,
+        reading,
+    })
 }

@@ -1,22 +1,11 @@
-// One word or byte of a lent part.
+// One place of a lent part.
 ghost use Rattle.std.specs.Prelude.{◌≡◌, set};
 
-// A word at a place, where there is one.
-pub fn set_word(words: &mut [u64], at: usize, value: u64)
-    ensures { words.new ≡ set words.old at value }
+// A word or a byte at a place, where there is one.
+pub fn set_at<T: Copy>(items: &mut [T], at: usize, value: T)
+    ensures { items.new ≡ set items.old at value }
 {
-    if words.len() <= at {
-        return;
+    if at < items.len() {
+        items[at] = value;
     }
-    words[at] = value;
-}
-
-// A byte at a place, where there is one.
-pub fn set_byte(bytes: &mut [u8], at: usize, value: u8)
-    ensures { bytes.new ≡ set bytes.old at value }
-{
-    if bytes.len() <= at {
-        return;
-    }
-    bytes[at] = value;
 }

@@ -1,30 +1,36 @@
 // What `spare` does to an axis.
 ghost use Rattle.std.specs.Prelude.{◌≡◌};
-ghost use Rattle.axis_tables.specs.Store.{InWords, put_spare};
+ghost use Rattle.axis_tables.specs.Store.{InWords, answered_axis, put_spare};
 
 use axis_tables::layout::{SPARE_MAXIMUMS, SPARE_MINIMUMS};
-use axis_tables::state::put;
-use axis_tables::write::set_word;
-use axis_tables::{AxisPut, AxisReading, AxisState};
+use axis_tables::write::set_at;
+use axis_tables::{AxisAfter, AxisReading, AxisState};
+use coordinates::Fault;
+
+// The most spare sizes of an axis.
+const MOST_SPARES: u32 = 64;
 
 // Spare sizes. 8: a 65th.
+#[tactic(auto, unfolding(axis_tables::specs::Store::put_spare))]
 pub fn put_spare(
     state: AxisState,
     reading: AxisReading,
     words: &mut [u64],
     min: u64,
     max: u64,
-) -> AxisPut
-    ensures { record { answer = result; words = words.new } ≡ put_spare state reading words.old min max }
+) -> Result<AxisAfter, Fault>
+    ensures { record { answer = answered_axis state reading result; words = words.new } ≡ put_spare state reading words.old min max }
 {
     let spares = state.grid.implicit.spares;
-    if 63 < spares {
-        return put(8, state, reading);
+    if MOST_SPARES <= spares {
+        return Err(Fault::Crowded);
     }
-    set_word(words, SPARE_MINIMUMS + spares as usize, min);
-    set_word(words, SPARE_MAXIMUMS + spares as usize, max);
-    let next = spares + 1;
+    set_at(words, SPARE_MINIMUMS + spares as usize, min);
+    set_at(words, SPARE_MAXIMUMS + spares as usize, max);
     let mut after = state;
-    after.grid.implicit.spares = next;
-    put(0, after, reading)
+    after.grid.implicit.spares = spares + 1;
+    Ok(AxisAfter {
+        state: after,
+        reading,
+    })
 }

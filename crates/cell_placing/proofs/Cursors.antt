@@ -3,12 +3,10 @@ use mathlib.Core.Path.{◌≡◌, refl}
 use mathlib.Core.Bool.{Bool, true, false, cond}
 use mathlib.Core.List.{List}
 use mathlib.Core.Logic.{◌⊎◌, inl, inr, ⊎_elim}
-use Prim.Native.Nat.{ℕ, suc, ◌+◌, ◌-◌, ◌≤◌, ◌<◌}
+use Prim.Native.Nat.{ℕ, ◌+◌, ◌≤◌, ◌<◌}
 use native.Mathlib.Omega.{arith}
-use native.Mathlib.Numerals.{add-one}
 use lib.Dec.{eqb, ltb}
-use lib.ListN.{length, get_or, set, take, drop}
-use lib.Seq.{sets, drop-cons}
+use lib.ListN.{get_or}
 use borrow.Author.Tests.{eqb-true, eqb-false, ltb-true, ltb-false}
 use Rattle.free_cells.specs.declared.Place.{Place}
 use Rattle.free_cells.specs.Words.{rectangle_in}
@@ -102,17 +100,6 @@ start_row_from cursor p from e h = go (ltb p.column cursor.column) refl e
         (λ l. absurd (omega (arith, ltb-true p.column cursor.column q, same_row cursor p (omega (arith, rows_on cursor p h)) h)))
         (order cursor.row p.row)
     go false q z = omega (arith, rows_on cursor p h)
-
--- ---- words that are written one after the other
-
-pub write_turn : (lands placed : List ℕ) (j count : ℕ) → j < count → count ≤ length placed
-    → sets (set lands j (get_or placed j 0)) (j + 1) (take (count - (j + 1)) (drop (j + 1) placed)) ≡ sets lands j (take (count - j) (drop j placed))
-write_turn lands placed j count h w =
-    let z : count - j ≡ suc (count - suc j) = omega arith in
-    rw (add-one, drop-cons placed j 0 (omega arith), z)
-
-pub write_done : (lands placed : List ℕ) (j count : ℕ) → count ≤ j → sets lands j (take (count - j) (drop j placed)) ≡ lands
-write_done lands placed j count h = let z : count - j ≡ 0 = omega arith in rw z
 
 -- a cursor's row has 16 bits
 pub cursor-small : (packing : Packing) (items placed : List ℕ) (i : ℕ) (place : Place) → CursorPlace packing items placed i place → place.row < 65536

@@ -8,8 +8,10 @@ use Rattle.cell_sides.specs.declared.Side.TheVariants.{Outside, Free, Fixed}
 use Rattle.free_cells.specs.declared.Rectangle.{Rectangle}
 use Rattle.free_cells.specs.Words.{rectangle_of}
 use Rattle.free_cells.proofs.Words.{Small, rectangle_back}
+use Rattle.cell_placing.specs.declared.Group.{Group}
+use Rattle.cell_placing.specs.declared.Group.TheVariants.{FixedInBoth, FixedInRow, Rest}
 use Rattle.cell_placing.specs.declared.Item.{Item}
-use Rattle.cell_placing.specs.Items.{side_of, item_of, side_lines, item_word}
+use Rattle.cell_placing.specs.Items.{side_of, item_of, side_lines, item_word, group_number}
 
 -- a side that a word can say
 abbrev pub Sayable : Side → Type 0
@@ -40,3 +42,15 @@ item_back i c r =
     ∙ ap item_by (rectangle_back (record { columns = side_lines i.column; rows = side_lines i.row }) (side_small i.column c) (side_small i.row r))
     ∙ ap {B = Item} (λ (s : Side). record { column = s; row = side_of (side_lines i.row) }) (side_back_lem i.column c)
     ∙ ap {B = Item} (λ (s : Side). record { column = i.column; row = s }) (side_back_lem i.row r)
+
+-- a group by its number
+pub group-same : (g h : Group) → group_number g ≡ group_number h → g ≡ h
+group-same FixedInBoth FixedInBoth e = refl
+group-same FixedInBoth FixedInRow e = absurd (omega arith)
+group-same FixedInBoth Rest e = absurd (omega arith)
+group-same FixedInRow FixedInBoth e = absurd (omega arith)
+group-same FixedInRow FixedInRow e = refl
+group-same FixedInRow Rest e = absurd (omega arith)
+group-same Rest FixedInBoth e = absurd (omega arith)
+group-same Rest FixedInRow e = absurd (omega arith)
+group-same Rest Rest e = refl

@@ -5,6 +5,7 @@ use mathlib.Core.List.{List}
 use mathlib.Core.Logic.{⊎_elim}
 use Prim.Native.Nat.{ℕ, ◌+◌, ◌≤◌, ◌<◌}
 use native.Mathlib.Omega.{arith}
+use Rattle.std.specs.Prelude.{Some, None}
 use lib.Dec.{leb, ltb}
 use borrow.Author.Tests.{leb-true, ltb-true, le-leb, lt-ltb}
 use Rattle.coordinates.specs.declared.axis.Axis.{Axis}
@@ -14,13 +15,12 @@ use Rattle.free_cells.specs.declared.Lines.{Lines}
 use Rattle.free_cells.specs.declared.Rectangle.{Rectangle}
 use Rattle.free_cells.specs.declared.Size.{Size}
 use Rattle.free_cells.specs.declared.Place.{Place}
-use Rattle.free_cells.specs.Words.{rectangle_of, rectangle_word}
 use Rattle.free_cells.specs.Free.{tracks_from, along, area_at, FreeLine, FirstOr0, first, nowhere, AtOrAfter, FreePlace, FirstPlace, earliest, no_place, last_row_line}
 use Rattle.free_cells.proofs.Places.{order, row_from, row_past}
-use Rattle.free_cells.proofs.Words.{Small, rectangle_back}
+use Rattle.free_cells.proofs.Words.{Small}
 use Rattle.cell_placing.specs.declared.Item.{Item}
 use Rattle.cell_placing.specs.Css.{On, Fits, start_of}
-use Rattle.cell_placing.specs.Steps.{is_on, last_on, last_across, item_along, start_along, Here, FirstLand, found, none}
+use Rattle.cell_placing.specs.Steps.{is_on, last_on, last_across, item_along, start_along, Here, FirstLand}
 
 -- ---- two lines on an axis
 
@@ -45,7 +45,7 @@ on_off last l e o = false≢true (sym e ∙ on_from last l o)
 on_same : (last : ℕ) (l m : Lines) → l.start ≡ m.start → l.end ≡ m.end → On last l → On last m
 on_same last l m e f o = record { first = omega (arith, o.first); order = omega (arith, o.order); final = omega (arith, o.final) }
 
-on_small : (last : ℕ) (l : Lines) → last < 65536 → On last l → Small l
+pub on_small : (last : ℕ) (l : Lines) → last < 65536 → On last l → Small l
 on_small last l h o = record { start = omega (arith, o.order, o.final); end = omega (arith, o.final) }
 
 -- ---- rectangles
@@ -57,31 +57,23 @@ pub same_rectangle : (q r : Rectangle) → q.columns ≡ r.columns → q.rows �
 same_rectangle q r e f =
     ap {B = Rectangle} (λ (l : Lines). record { columns = l; rows = q.rows }) e ∙ ap {B = Rectangle} (λ (l : Lines). record { columns = r.columns; rows = l }) f
 
-found_at : (These : Rectangle → Type 0) (r : Rectangle) (w : ℕ) → w ≡ rectangle_word r → Small r.columns → Small r.rows → These r
-    → ((q : Rectangle) → These q → AtOrAfter (start_of r) (start_of q)) → FirstLand These w
-found_at These r w e x y t f =
-    let z : rectangle_of w ≡ r = ap rectangle_of e ∙ rectangle_back r x y in found (rw z t) (λ q g. rw z (f q g))
-
 -- ---- lines in both axes
 
 module _ (last : ℕ) (columns rows : Lines) where
   abbrev fixed : Item
   fixed = record { column = Fixed columns.start columns.end; row = Fixed rows.start rows.end }
 
-  pub fixed-columns-off : is_on last columns ≡ false → FirstLand (Fits last fixed) 0
-  fixed-columns-off e = none refl (λ q f. on_off last columns e (on_same last q.columns columns f.columns.0 f.columns.1 f.across))
+  pub fixed-columns-off : is_on last columns ≡ false → FirstLand (Fits last fixed) None
+  fixed-columns-off e = λ q f. on_off last columns e (on_same last q.columns columns f.columns.0 f.columns.1 f.across)
 
-  pub fixed-rows-off : is_on last_row_line rows ≡ false → FirstLand (Fits last fixed) 0
-  fixed-rows-off e = none refl (λ q f. on_off last_row_line rows e (on_same last_row_line q.rows rows f.rows.0 f.rows.1 f.down))
+  pub fixed-rows-off : is_on last_row_line rows ≡ false → FirstLand (Fits last fixed) None
+  fixed-rows-off e = λ q f. on_off last_row_line rows e (on_same last_row_line q.rows rows f.rows.0 f.rows.1 f.down)
 
-  pub fixed-found : (w : ℕ) → last < 65536 → is_on last columns ≡ true → is_on last_row_line rows ≡ true → w ≡ rectangle_word (record { columns = columns; rows = rows })
-      → FirstLand (Fits last fixed) w
-  fixed-found w h c d e =
-      let x = on_to last columns c in
-      let y = on_to last_row_line rows d in
-      found_at (Fits last fixed) (record { columns = columns; rows = rows }) w e (on_small last columns h x) (on_small last_row_line rows (omega arith) y)
-      (record { columns = (refl, refl); rows = (refl, refl); across = x; down = y })
-      (λ q f. row_from (start_of (record { columns = columns; rows = rows })) (start_of q) (sym f.rows.0) (omega (arith, f.columns.0)))
+  pub fixed-found : is_on last columns ≡ true → is_on last_row_line rows ≡ true → FirstLand (Fits last fixed) (Some (record { columns = columns; rows = rows }))
+  fixed-found c d = (
+    record { columns = (refl, refl); rows = (refl, refl); across = on_to last columns c; down = on_to last_row_line rows d },
+    λ q f. row_from (start_of (record { columns = columns; rows = rows })) (start_of q) (sym f.rows.0) (omega (arith, f.columns.0)),
+  )
 
 -- ---- lines across an axis
 
@@ -127,33 +119,25 @@ module _ (words : List ℕ) (count last from tracks : ℕ) (across : Lines) wher
       (λ l. row_from (start_of (at Row line)) (start_of q) (omega arith) (omega (arith, h.fits.columns.0)))
       (order line q.rows.start)
 
-  small_at : (axis : Axis) (line : ℕ) → last < 65536 → On (last_across axis last) across → line + tracks ≤ last_on axis last
-      → Small (at axis line).columns × Small (at axis line).rows
-  small_at Column line h o w = (record { start = omega arith; end = omega arith }, on_small last_row_line across (omega arith) o)
-  small_at Row line h o w = (on_small last across h o, record { start = omega arith; end = omega arith })
-
-  pub along-found : (axis : Axis) (line w : ℕ) → last < 65536 → (tracks ≡ 0 → ⊥) → is_on (last_across axis last) across ≡ true
-      → FirstOr0 (FreeLine words count axis (last_on axis last) from tracks across) line → (line ≡ 0 → ⊥) → w ≡ rectangle_word (at axis line) → FirstLand (There axis) w
-  along-found axis line w h t o (nowhere e f) out q = absurd (out e)
-  along-found axis line w h t o (first g f) out q =
-      let x = on_to (last_across axis last) across o in
-      let s = small_at axis line h x g.inside in
-      found_at (There axis) (at axis line) w q s.0 s.1 (on_line axis line (omega arith) x g) after
+  pub along-found : (axis : Axis) (line : ℕ) → (tracks ≡ 0 → ⊥) → is_on (last_across axis last) across ≡ true
+      → FirstOr0 (FreeLine words count axis (last_on axis last) from tracks across) line → (line ≡ 0 → ⊥) → FirstLand (There axis) (Some (at axis line))
+  along-found axis line t o (nowhere e f) out = absurd (out e)
+  along-found axis line t o (first g f) out = (on_line axis line (omega arith) (on_to (last_across axis last) across o) g, after)
     where
       after : (q : Rectangle) → There axis q → AtOrAfter (start_of (at axis line)) (start_of q)
       after q u = after-at axis line q u (⊎_elim (λ (l : start_along axis q < line). absurd (f (start_along axis q) l (to_line axis q u))) (λ l. l) (order (start_along axis q) line))
 
-  pub along-nowhere : (axis : Axis) → FirstOr0 (FreeLine words count axis (last_on axis last) from tracks across) 0 → FirstLand (There axis) 0
-  along-nowhere axis (nowhere e f) = none refl (λ q u. f (start_along axis q) (to_line axis q u))
+  pub along-nowhere : (axis : Axis) → FirstOr0 (FreeLine words count axis (last_on axis last) from tracks across) 0 → FirstLand (There axis) None
+  along-nowhere axis (nowhere e f) = λ q u. f (start_along axis q) (to_line axis q u)
   along-nowhere axis (first g f) = absurd (omega (arith, g.first))
 
-  pub along-no-tracks : (axis : Axis) → tracks ≡ 0 → FirstLand (There axis) 0
-  along-no-tracks Column e = none refl (λ q u. omega (arith, u.fits.across.order, u.fits.columns))
-  along-no-tracks Row e = none refl (λ q u. omega (arith, u.fits.down.order, u.fits.rows))
+  pub along-no-tracks : (axis : Axis) → tracks ≡ 0 → FirstLand (There axis) None
+  along-no-tracks Column e = λ q u. omega (arith, u.fits.across.order, u.fits.columns)
+  along-no-tracks Row e = λ q u. omega (arith, u.fits.down.order, u.fits.rows)
 
-  pub along-off : (axis : Axis) → is_on (last_across axis last) across ≡ false → FirstLand (There axis) 0
-  along-off Column e = none refl (λ q u. on_off last_row_line across e (on_same last_row_line q.rows across u.fits.rows.0 u.fits.rows.1 u.fits.down))
-  along-off Row e = none refl (λ q u. on_off last across e (on_same last q.columns across u.fits.columns.0 u.fits.columns.1 u.fits.across))
+  pub along-off : (axis : Axis) → is_on (last_across axis last) across ≡ false → FirstLand (There axis) None
+  along-off Column e = λ q u. on_off last_row_line across e (on_same last_row_line q.rows across u.fits.rows.0 u.fits.rows.1 u.fits.down)
+  along-off Row e = λ q u. on_off last across e (on_same last q.columns across u.fits.columns.0 u.fits.columns.1 u.fits.across)
 
   -- the line found leaves room for the tracks
   pub along-room : (axis : Axis) (line : ℕ) → FirstOr0 (FreeLine words count axis (last_on axis last) from tracks across) line → (line ≡ 0 → ⊥) → line + tracks ≤ last_on axis last
@@ -194,25 +178,20 @@ module _ (words : List ℕ) (count last : ℕ) (size : Size) (from : Place) wher
         past = f.reached;
       }
 
-  pub area-found : (p : Place) (w : ℕ) → last < 65536 → (size.columns ≡ 0 → ⊥) → (size.rows ≡ 0 → ⊥) → FirstPlace (FreePlace words count last size from) p → (p.row ≡ 0 → ⊥)
-      → w ≡ rectangle_word (area_at size p) → FirstLand Anywhere w
-  area-found p w h c r (no_place e f) out q = absurd (out (ap (λ (x : Place). x.row) e))
-  area-found p w h c r (earliest g f) out q =
-      found_at Anywhere (area_at size p) w q
-      (record { start = omega (arith, g.across); end = omega (arith, g.across) })
-      (record { start = omega (arith, g.down); end = omega (arith, g.down) })
-      (on-place p c r g)
-      (λ q u b. f (start_of q) b (to-place q u))
+  pub area-found : (p : Place) → (size.columns ≡ 0 → ⊥) → (size.rows ≡ 0 → ⊥) → FirstPlace (FreePlace words count last size from) p → (p.row ≡ 0 → ⊥)
+      → FirstLand Anywhere (Some (area_at size p))
+  area-found p c r (no_place e f) out = absurd (out (ap (λ (x : Place). x.row) e))
+  area-found p c r (earliest g f) out = (on-place p c r g, λ q u b. f (start_of q) b (to-place q u))
 
-  pub area-nowhere : (p : Place) → FirstPlace (FreePlace words count last size from) p → p.row ≡ 0 → FirstLand Anywhere 0
-  area-nowhere p (no_place e f) z = none refl (λ q u. f (start_of q) (to-place q u))
+  pub area-nowhere : (p : Place) → FirstPlace (FreePlace words count last size from) p → p.row ≡ 0 → FirstLand Anywhere None
+  area-nowhere p (no_place e f) z = λ q u. f (start_of q) (to-place q u)
   area-nowhere p (earliest g f) z = absurd (omega (arith, g.row))
 
-  pub area-no-columns : size.columns ≡ 0 → FirstLand Anywhere 0
-  area-no-columns e = none refl (λ q u. omega (arith, u.fits.across.order, u.fits.columns))
+  pub area-no-columns : size.columns ≡ 0 → FirstLand Anywhere None
+  area-no-columns e = λ q u. omega (arith, u.fits.across.order, u.fits.columns)
 
-  pub area-no-rows : size.rows ≡ 0 → FirstLand Anywhere 0
-  area-no-rows e = none refl (λ q u. omega (arith, u.fits.down.order, u.fits.rows))
+  pub area-no-rows : size.rows ≡ 0 → FirstLand Anywhere None
+  area-no-rows e = λ q u. omega (arith, u.fits.down.order, u.fits.rows)
 
   pub area-room : (p : Place) → FirstPlace (FreePlace words count last size from) p → (p.row ≡ 0 → ⊥) → (p.column + size.columns ≤ last) × (p.row + size.rows ≤ last_row_line)
   area-room p (no_place e f) out = absurd (out (ap (λ (x : Place). x.row) e))

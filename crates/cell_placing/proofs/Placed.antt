@@ -8,17 +8,19 @@ use native.Mathlib.Omega.{arith}
 use lib.ListN.{length, get_or, set, take, replicate, length-set, length-take, length-replicate, get_or-replicate}
 use lib.Seq.{sets, get_or-set_same, get_or-set_other, get_or-take}
 use Rattle.free_cells.specs.declared.Rectangle.{Rectangle}
-use Rattle.free_cells.specs.Words.{lines_of, rectangle_of, rectangle_in}
+use Rattle.free_cells.specs.Words.{rectangle_of, rectangle_word, rectangle_in}
+use Rattle.free_cells.specs.Free.{last_row_line}
+use Rattle.free_cells.proofs.Words.{rectangle_back}
 use Rattle.free_cells.proofs.Places.{order}
 use Rattle.cell_placing.specs.declared.Item.{Item}
 use Rattle.cell_placing.specs.declared.Packing.{Packing}
 use Rattle.cell_placing.specs.declared.Packing.TheVariants.{Sparse, Dense}
-use Rattle.cell_placing.specs.declared.Outcome.TheVariants as Came
+use Rattle.std.specs.Prelude.{Ok}
 use Rattle.cell_placing.specs.Items.{is_lined, item_in, group_of}
 use Rattle.cell_placing.specs.Css.{turn, Earlier, Fits, start_of, Unoccupied, PastInRow, LastOfRest, PastCursor, Past, Candidate, First, Stuck, AllLand, FirstStuck, Answers}
+use Rattle.cell_placing.proofs.Lands.{on_small}
 use Rattle.cell_placing.specs.Css as Css
-use Rattle.cell_placing.specs.Steps.{Going, Ready, Landing, Turned, goes, stops, Passed, all, stuck}
-use Rattle.cell_placing.specs.Steps as Steps
+use Rattle.cell_placing.specs.Steps.{Going, Ready, Turned, goes, stops}
 
 -- ---- only what was placed before a cell counts for it
 
@@ -68,13 +70,13 @@ group_most item = go (is_lined item.row) (is_lined item.column)
 
 module _ (packing : Packing) (last count : ℕ) (items placed : List ℕ) where
   -- nothing is placed yet
-  pub going-begins : count ≤ 256 → placed ≡ replicate 256 0 → Going packing last count items placed 0
+  pub going-begins : count ≤ 256 → placed ≡ take count (replicate 256 0) → Going packing last count items placed 0
   going-begins few e =
       record {
         few = few;
-        whole = ap length e ∙ length-replicate {A = ℕ} 256 0;
+        whole = ap length e ∙ length-take count (replicate {A = ℕ} 256 0) ∙ omega (arith, length-replicate {A = ℕ} 256 0);
         landed = λ j h w. absurd (omega arith);
-        later = λ j h w. ap (λ (l : List ℕ). get_or l j 0) e ∙ get_or-replicate 256 j 0 0 (omega arith);
+        later = λ j h w. ap (λ (l : List ℕ). get_or l j 0) e ∙ get_or-take count (replicate 256 0) j 0 h ∙ get_or-replicate 256 j 0 0 (omega arith);
       }
 
   -- a cell of another group
@@ -100,20 +102,16 @@ module _ (packing : Packing) (last count : ℕ) (items placed : List ℕ) where
   pub ready_for : (group i : ℕ) → i < count → group_of (item_in items i) ≡ group → Going packing last count items placed (group * 256 + i) → Ready packing last count items placed i
   ready_for group i held e g = record { held = held; going = rw e g }
 
-  no_start : (rectangle_of 0).columns.start ≡ 0
-  unfolding rectangle_of lines_of
-  no_start = refl
+  pub turn-stuck : (i : ℕ) → Ready packing last count items placed i → Stuck packing last count (item_in items) (rectangle_in placed) i → FirstStuck packing last count (item_in items) i
+  turn-stuck i r s = record { lands = rectangle_in placed; held = r.held; before = λ j e. r.going.landed j e.held e.order; stuck = s }
 
-  pub turn-stuck : (i w : ℕ) → Ready packing last count items placed i → Landing packing last count items placed i w → w ≡ 0 → FirstStuck packing last count (item_in items) i
-  turn-stuck i w r (Steps.lands f) z =
-      absurd (omega (arith, no_start, (rw z at f).one.fits.across.first))
-  turn-stuck i w r (Steps.sticks e s) z =
-      record { lands = rectangle_in placed; held = r.held; before = λ j e. r.going.landed j e.held e.order; stuck = s }
+  -- the word of a land gives it back
+  word-back : (item : Item) (r : Rectangle) → last < 65536 → Fits last item r → rectangle_of (rectangle_word r) ≡ r
+  word-back item r h f = rectangle_back r (on_small last r.columns h f.across) (on_small last_row_line r.rows (omega arith) f.down)
 
-  pub turn-placed : (i w : ℕ) → Ready packing last count items placed i → Landing packing last count items placed i w → (w ≡ 0 → ⊥)
-      → Going packing last count items (set placed i w) (turn (item_in items) i + 1)
-  turn-placed i w r (Steps.sticks e s) out = absurd (out e)
-  turn-placed i w r (Steps.lands f) out =
+  pub turn-placed : (i w : ℕ) (land : Rectangle) → last < 65536 → Ready packing last count items placed i → First packing last count (item_in items) (rectangle_in placed) i land
+      → w ≡ rectangle_word land → Going packing last count items (set placed i w) (turn (item_in items) i + 1)
+  turn-placed i w land h r f is =
       record { few = few; whole = length-set placed i w ∙ g.whole; landed = landed; later = λ j h l. get_or-set_other placed i j w 0 (apart j l) ∙ g.later j h (omega arith) }
     where
       g : Going packing last count items placed (turn (item_in items) i)
@@ -131,8 +129,8 @@ module _ (packing : Packing) (last count : ℕ) (items placed : List ℕ) where
       kept : (j : ℕ) → turn (item_in items) j < turn (item_in items) i → rectangle_in placed j ≡ rectangle_in (set placed i w) j
       kept j l = sym (ap rectangle_of (get_or-set_other placed i j w 0 (before j l)))
 
-      here : rectangle_in (set placed i w) i ≡ rectangle_of w
-      here = ap rectangle_of (get_or-set_same placed i w 0 (omega (arith, g.whole, r.held)))
+      here : rectangle_in (set placed i w) i ≡ land
+      here = ap rectangle_of (get_or-set_same placed i w 0 (omega (arith, g.whole, r.held)) ∙ is) ∙ word-back (item_in items i) land h f.one.fits
 
       landed : (j : ℕ) → j < count → turn (item_in items) j < turn (item_in items) i + 1
           → First packing last count (item_in items) (rectangle_in (set placed i w)) j (rectangle_in (set placed i w) j)
@@ -149,7 +147,7 @@ module _ (packing : Packing) (last count : ℕ) (items placed : List ℕ) where
               let i-held = r.held in
               let z : j ≡ i = (one-turn (group_of (item_in items j)) (group_of (item_in items i)) j i (omega arith) (omega arith) e).1 in
               rw (z, here)
-              (first-same packing last count (item_in items) (rectangle_in placed) (rectangle_in (set placed i w)) i (λ k e. kept k e.order) (rectangle_of w) f)
+              (first-same packing last count (item_in items) (rectangle_in placed) (rectangle_in (set placed i w)) i (λ k e. kept k e.order) land f)
 
   -- the end of a pass
   pub pass-ends : (group i : ℕ) → count ≤ i → i ≤ count → Going packing last count items placed (group * 256 + i) → Going packing last count items placed (group * 256 + 256)
@@ -172,23 +170,12 @@ module _ (packing : Packing) (last count : ℕ) (items placed : List ℕ) where
   all-land g i h = let m = group_most (item_in items i) in let f = g.few in g.landed i h (omega arith)
 
   pub answer-placed : (lent : List ℕ) → Going packing last count items placed (3 * 256)
-      → Answers packing last count (item_in items) lent (sets lent 0 (take count placed)) Came.Placed
-  answer-placed lent g =
-      let f = g.few in
-      let l : length (take count placed) ≡ count = length-take count placed ∙ omega (arith, g.whole) in
-      Css.placed (take count placed) l every refl refl
-    where
-      same : (j : ℕ) → j < count → rectangle_in placed j ≡ rectangle_in (take count placed) j
-      same j h = sym (ap rectangle_of (get_or-take count placed j 0 h))
-
-      every : AllLand packing last count (item_in items) (rectangle_in (take count placed))
-      every i h =
-          rw (← same i h)
-          (first-same packing last count (item_in items) (rectangle_in placed) (rectangle_in (take count placed)) i (λ j e. same j e.held) (rectangle_in placed i) (all-land g i h))
+      → Answers packing last count (item_in items) lent (sets lent 0 placed) (Ok tt)
+  answer-placed lent g = Css.placed placed g.whole (all-land g) refl refl
 
 -- where the count is held
 pub answer_by : (packing : Packing) (last count held : ℕ) (items placed lent : List ℕ) → held ≡ count → Going packing last held items placed (3 * 256)
-    → Answers packing last count (item_in items) lent (sets lent 0 (take held placed)) Came.Placed
+    → Answers packing last count (item_in items) lent (sets lent 0 placed) (Ok tt)
 answer_by packing last count held items placed lent e g = rw (← e) (answer-placed packing last held items placed lent g)
 
 -- ---- what a turn and a pass came to
@@ -202,13 +189,3 @@ pub turned_off : {packing : Packing} {last count : ℕ} {items placed : List ℕ
     → FirstStuck packing last count (item_in items) i
 turned_off r (goes e g) t = absurd (false≢true (sym t ∙ e))
 turned_off r (stops e s) t = s
-
-pub passed_on : {packing : Packing} {last count : ℕ} {items placed : List ℕ} {time : ℕ} (r : ℕ) → Passed packing last count items placed time r → count ≤ r
-    → Going packing last count items placed time
-passed_on r (all h g) w = g
-passed_on r (stuck h s) w = absurd (omega arith)
-
-pub passed_off : {packing : Packing} {last count : ℕ} {items placed : List ℕ} {time : ℕ} (r : ℕ) → Passed packing last count items placed time r → r < count
-    → FirstStuck packing last count (item_in items) r
-passed_off r (all h g) w = absurd (omega arith)
-passed_off r (stuck h s) w = s

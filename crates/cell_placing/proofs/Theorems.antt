@@ -15,8 +15,7 @@ use Rattle.free_cells.proofs.Places.{order}
 use Rattle.free_cells.proofs.Unique.{same_start}
 use Rattle.cell_placing.specs.declared.Item.{Item}
 use Rattle.cell_placing.specs.declared.Packing.{Packing}
-use Rattle.cell_placing.specs.declared.Outcome.{Outcome}
-use Rattle.cell_placing.specs.declared.Outcome.TheVariants as Came
+use Rattle.std.specs.Prelude.{Result, Err}
 use Rattle.cell_placing.specs.Items.{group_of}
 use Rattle.cell_placing.specs.Css.{turn, Earlier, Keeps, On, start_of, First, AllLand, FirstStuck, Answers, placed, refused}
 use Rattle.cell_placing.proofs.Lands.{same_rectangle, same_lines}
@@ -84,11 +83,11 @@ module _ (packing : Packing) (last count : ℕ) (items : ℕ → Item) where
       same h k = let u = s.held in let v = t.held in (one-turn (group_of (items i)) (group_of (items j)) i j (omega arith) (omega arith) (omega arith)).1
 
   -- so a call has one outcome
-  pub outcome-unique : (before after other : List ℕ) (o p : Outcome) → count ≤ 256 → Answers packing last count items before after o → Answers packing last count items before other p → o ≡ p
+  pub outcome-unique : (before after other : List ℕ) (o p : Result (Unit {0}) ℕ) → count ≤ 256 → Answers packing last count items before after o → Answers packing last count items before other p → o ≡ p
   outcome-unique before after other o p few (placed u a b d e) (placed v f g h k) = e ∙ sym k
   outcome-unique before after other o p few (placed u a b d e) (refused i s h k) = absurd (stuck-not-all i (rectangle_in u) s b)
   outcome-unique before after other o p few (refused i s h k) (placed u a b d e) = absurd (stuck-not-all i (rectangle_in u) s b)
-  outcome-unique before after other o p few (refused i s h k) (refused j t g l) = k ∙ ap Came.StuckAt (stuck-unique i j few s t) ∙ sym l
+  outcome-unique before after other o p few (refused i s h k) (refused j t g l) = k ∙ ap {B = Result (Unit {0}) ℕ} (λ (k : ℕ). Err k) (stuck-unique i j few s t) ∙ sym l
 
   -- ---- what it means
 

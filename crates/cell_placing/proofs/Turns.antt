@@ -2,8 +2,10 @@
 use mathlib.Core.Path.{◌≡◌, refl, sym, ap, ◌∙◌}
 use mathlib.Core.List.{List}
 use mathlib.Core.Logic.{◌⊎◌, inl, inr, ⊎_elim}
-use Prim.Native.Nat.{ℕ, ◌≤◌, ◌<◌, min}
+use Prim.Native.Nat.{ℕ, ◌≤◌, ◌<◌}
+use lib.ListN.{length}
 use native.Mathlib.Omega.{arith}
+use Rattle.std.specs.Prelude.{Option, Some, None}
 use Rattle.coordinates.specs.declared.axis.Axis.TheVariants.{Column, Row}
 use Rattle.cell_sides.specs.declared.Side.{Side}
 use Rattle.cell_sides.specs.declared.Side.TheVariants.{Outside, Free, Fixed}
@@ -11,7 +13,7 @@ use Rattle.free_cells.specs.declared.Lines.{Lines}
 use Rattle.free_cells.specs.declared.Rectangle.{Rectangle}
 use Rattle.free_cells.specs.declared.Size.{Size}
 use Rattle.free_cells.specs.declared.Place.{Place}
-use Rattle.free_cells.specs.Words.{rectangle_of, rectangle_in}
+use Rattle.free_cells.specs.Words.{rectangle_in}
 use Rattle.free_cells.specs.Free.{Clear, AtOrAfter, no_place_of}
 use Rattle.free_cells.proofs.Cells.{none_at_0}
 use Rattle.free_cells.proofs.Places.{order}
@@ -20,7 +22,7 @@ use Rattle.cell_placing.specs.declared.Packing.{Packing}
 use Rattle.cell_placing.specs.declared.Packing.TheVariants.{Sparse, Dense}
 use Rattle.cell_placing.specs.Items.{item_in, group_of}
 use Rattle.cell_placing.specs.Css.{turn, Fits, start_of, Unoccupied, PastInRow, PastCursor, Past, Candidate}
-use Rattle.cell_placing.specs.Steps.{item_along, start_along, Here, FirstLand, found, none, RowCursor, RestCursor, after, begins, CursorColumn, CursorPlace, start_row, Ready, Landing, lands, sticks}
+use Rattle.cell_placing.specs.Steps.{item_along, start_along, Here, FirstLand, RowCursor, RestCursor, after, begins, CursorColumn, CursorPlace, start_row, Ready, Landing}
 use Rattle.cell_placing.proofs.Cursors.{start_row_to, start_row_from}
 
 -- ---- the groups
@@ -130,31 +132,31 @@ module _ (packing : Packing) (last count : ℕ) (items placed : List ℕ) (i : �
   -- ---- where it lands
 
   -- the first of these, where these are the candidates
-  landing : (These : Rectangle → Type 0) (w : ℕ) → FirstLand These w → ((r : Rectangle) → These r → Could r) → ((r : Rectangle) → Could r → These r) → Landing packing last count items placed i w
-  landing These w (found t f) to back = lands (record { one = to (rectangle_of w) t; first = λ q c. f q (back q c) })
-  landing These w (none e f) to back = sticks e (λ q c. f q (back q c))
+  landing : (These : Rectangle → Type 0) (land : Option Rectangle) → FirstLand These land → ((r : Rectangle) → These r → Could r) → ((r : Rectangle) → Could r → These r)
+      → Landing packing last count items placed i land
+  landing These (Some r) f to back = record { one = to r f.0; first = λ q c. f.1 q (back q c) }
+  landing These None f to back = λ q c. f q (back q c)
 
-  pub outside-column : (row : Side) → item_in items i ≡ record { column = Outside; row = row } → Landing packing last count items placed i 0
-  outside-column row e = sticks refl (λ q c. (rw e at c.fits).columns)
+  pub outside-column : (row : Side) → item_in items i ≡ record { column = Outside; row = row } → Landing packing last count items placed i None
+  outside-column row e = λ q c. (rw e at c.fits).columns
 
-  pub outside-row : (column : Side) → item_in items i ≡ record { column = column; row = Outside } → Landing packing last count items placed i 0
-  outside-row column e = sticks refl (λ q c. (rw e at c.fits).rows)
+  pub outside-row : (column : Side) → item_in items i ≡ record { column = column; row = Outside } → Landing packing last count items placed i None
+  outside-row column e = λ q c. (rw e at c.fits).rows
 
-  pub both-land : (columns rows : Lines) (w : ℕ) → item_in items i ≡ record { column = Fixed columns.start columns.end; row = Fixed rows.start rows.end }
-      → FirstLand (Fits last (record { column = Fixed columns.start columns.end; row = Fixed rows.start rows.end })) w → Landing packing last count items placed i w
-  both-land columns rows w e f =
+  pub both-land : (columns rows : Lines) (land : Option Rectangle) → item_in items i ≡ record { column = Fixed columns.start columns.end; row = Fixed rows.start rows.end }
+      → FirstLand (Fits last (record { column = Fixed columns.start columns.end; row = Fixed rows.start rows.end })) land → Landing packing last count items placed i land
+  both-land columns rows land e f =
       let g : group_of (item_in items i) ≡ 0 = ap group_of e ∙ group_both columns.start columns.end rows.start rows.end in
-      landing (Fits last (record { column = Fixed columns.start columns.end; row = Fixed rows.start rows.end })) w f
+      landing (Fits last (record { column = Fixed columns.start columns.end; row = Fixed rows.start rows.end })) land f
       (λ r h. record { fits = rw e h; free = λ out. absurd (out g); past = past-both packing (group_of (item_in items i)) count (item_in items) (rectangle_in placed) i r g })
       (λ r c. rw e at c.fits)
 
-  pub row-lands : (tracks from : ℕ) (rows : Lines) (w : ℕ) → item_in items i ≡ record { column = Free tracks; row = Fixed rows.start rows.end }
+  pub row-lands : (tracks from : ℕ) (rows : Lines) (land : Option Rectangle) → item_in items i ≡ record { column = Free tracks; row = Fixed rows.start rows.end }
       → CursorColumn packing items placed i rows.start from
-      → FirstLand (Here placed (min count 256) last (item_along Column tracks rows) (λ q. from ≤ start_along Column q)) w → Landing packing last count items placed i w
-  row-lands tracks from rows w e c f =
+      → FirstLand (Here placed (length placed) last (item_along Column tracks rows) (λ q. from ≤ start_along Column q)) land → Landing packing last count items placed i land
+  row-lands tracks from rows land e c f =
       let g : group_of (item_in items i) ≡ 1 = ap group_of e ∙ group_row tracks rows.start rows.end in
-      let few : min count 256 ≡ count = omega (arith, ready.going.few) in
-      landing (Here placed count last (item_along Column tracks rows) (λ q. from ≤ start_along Column q)) w (rw few at f)
+      landing (Here placed count last (item_along Column tracks rows) (λ q. from ≤ start_along Column q)) land (rw ready.going.whole at f)
       (λ r h.
       record {
         fits = rw e h.fits;
@@ -169,13 +171,12 @@ module _ (packing : Packing) (last count : ℕ) (items placed : List ℕ) (i : �
         past = past_row (group_of (item_in items i)) rows.start from r g g c k.rows.0 d.past;
       })
 
-  pub column-lands : (columns : Lines) (tracks from : ℕ) (cursor : Place) (w : ℕ) → item_in items i ≡ record { column = Fixed columns.start columns.end; row = Free tracks }
+  pub column-lands : (columns : Lines) (tracks from : ℕ) (cursor : Place) (land : Option Rectangle) → item_in items i ≡ record { column = Fixed columns.start columns.end; row = Free tracks }
       → CursorPlace packing items placed i cursor → from ≡ start_row cursor columns.start
-      → FirstLand (Here placed (min count 256) last (item_along Row tracks columns) (λ q. from ≤ start_along Row q)) w → Landing packing last count items placed i w
-  column-lands columns tracks from cursor w e c s f =
+      → FirstLand (Here placed (length placed) last (item_along Row tracks columns) (λ q. from ≤ start_along Row q)) land → Landing packing last count items placed i land
+  column-lands columns tracks from cursor land e c s f =
       let g : group_of (item_in items i) ≡ 2 = ap group_of e ∙ group_rest (Fixed columns.start columns.end) tracks in
-      let few : min count 256 ≡ count = omega (arith, ready.going.few) in
-      landing (Here placed count last (item_along Row tracks columns) (λ q. from ≤ start_along Row q)) w (rw few at f)
+      landing (Here placed count last (item_along Row tracks columns) (λ q. from ≤ start_along Row q)) land (rw ready.going.whole at f)
       (λ r h.
       record {
         fits = rw e h.fits;
@@ -190,14 +191,13 @@ module _ (packing : Packing) (last count : ℕ) (items placed : List ℕ) (i : �
         past = start_row_from cursor (start_of r) from (s ∙ ap (start_row cursor) (sym k.columns.0)) (past-rest (group_of (item_in items i)) cursor r g g c d.past);
       })
 
-  pub area-lands : (size : Size) (cursor : Place) (w : ℕ) → item_in items i ≡ record { column = Free size.columns; row = Free size.rows }
+  pub area-lands : (size : Size) (cursor : Place) (land : Option Rectangle) → item_in items i ≡ record { column = Free size.columns; row = Free size.rows }
       → CursorPlace packing items placed i cursor
-      → FirstLand (Here placed (min count 256) last (record { column = Free size.columns; row = Free size.rows }) (λ q. AtOrAfter cursor (start_of q))) w
-      → Landing packing last count items placed i w
-  area-lands size cursor w e c f =
+      → FirstLand (Here placed (length placed) last (record { column = Free size.columns; row = Free size.rows }) (λ q. AtOrAfter cursor (start_of q))) land
+      → Landing packing last count items placed i land
+  area-lands size cursor land e c f =
       let g : group_of (item_in items i) ≡ 2 = ap group_of e ∙ group_rest (Free size.columns) size.rows in
-      let few : min count 256 ≡ count = omega (arith, ready.going.few) in
-      landing (Here placed count last (record { column = Free size.columns; row = Free size.rows }) (λ q. AtOrAfter cursor (start_of q))) w (rw few at f)
+      landing (Here placed count last (record { column = Free size.columns; row = Free size.rows }) (λ q. AtOrAfter cursor (start_of q))) land (rw ready.going.whole at f)
       (λ r h.
       record {
         fits = rw e h.fits;

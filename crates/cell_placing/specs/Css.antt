@@ -1,7 +1,7 @@
 -- CSS Grid Level 1, 8.5, grid item placement, row flow, as document 02, Req 10, asks it of cells: "columns fixed at the explicit count and rows
 -- growing up to 10,000". Cells are numbered in sheet order from 0; `items` has their sides (8.3.1), `lands` where they land, `last` is the
 -- last column line. Nothing here says how a place is found.
-use Rattle.std.specs.Prelude.{ℕ, zero, suc, ◌+◌, ◌*◌, ◌≤◌, ◌<◌, ◌≡◌, List, length}
+use Rattle.std.specs.Prelude.{ℕ, zero, suc, ◌+◌, ◌*◌, ◌≤◌, ◌<◌, ◌≡◌, List, length, Result, Ok, Err}
 use Rattle.std.proofs.lemmas.List.Edits.{sets}
 use Rattle.cell_sides.specs.declared.Side.{Side}
 use Rattle.cell_sides.specs.declared.Side.TheVariants.{Outside, Free, Fixed}
@@ -13,8 +13,6 @@ use Rattle.free_cells.specs.Free.{Overlap, AtOrAfter, last_row_line}
 use Rattle.cell_placing.specs.declared.Item.{Item}
 use Rattle.cell_placing.specs.declared.Packing.{Packing}
 use Rattle.cell_placing.specs.declared.Packing.TheVariants.{Sparse, Dense}
-use Rattle.cell_placing.specs.declared.Outcome.{Outcome}
-use Rattle.cell_placing.specs.declared.Outcome.TheVariants.{Placed, StuckAt}
 use Rattle.cell_placing.specs.Items.{group_of}
 
 -- ---- the order: steps 1, 2 and 4 of 8.5; "Items fixed on both axes go first, then those fixed in their row, then the rest in sheet order"
@@ -113,7 +111,7 @@ pub record FirstStuck (packing : Packing) (last count : ℕ) (items : ℕ → It
 
 -- what a call answers and leaves of the lent words: the words of all lands, from the first on, those past the cells as they were; or the
 -- first cell that is stuck, and all words as they were
-pub data Answers (packing : Packing) (last count : ℕ) (items : ℕ → Item) (before after : List ℕ) (outcome : Outcome) : Type 0 where
-  placed : (words : List ℕ) → length words ≡ count → AllLand packing last count items (rectangle_in words) → after ≡ sets before 0 words → outcome ≡ Placed
+pub data Answers (packing : Packing) (last count : ℕ) (items : ℕ → Item) (before after : List ℕ) (outcome : Result (Unit {0}) ℕ) : Type 0 where
+  placed : (words : List ℕ) → length words ≡ count → AllLand packing last count items (rectangle_in words) → after ≡ sets before 0 words → outcome ≡ Ok tt
       → Answers packing last count items before after outcome
-  refused : (i : ℕ) → FirstStuck packing last count items i → after ≡ before → outcome ≡ StuckAt i → Answers packing last count items before after outcome
+  refused : (i : ℕ) → FirstStuck packing last count items i → after ≡ before → outcome ≡ Err i → Answers packing last count items before after outcome

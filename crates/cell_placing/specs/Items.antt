@@ -4,6 +4,8 @@ use Rattle.cell_sides.specs.declared.Side.{Side}
 use Rattle.cell_sides.specs.declared.Side.TheVariants.{Outside, Free, Fixed}
 use Rattle.free_cells.specs.declared.Lines.{Lines}
 use Rattle.free_cells.specs.Words.{lines_of, rectangle_word}
+use Rattle.cell_placing.specs.declared.Group.{Group}
+use Rattle.cell_placing.specs.declared.Group.TheVariants.{FixedInBoth, FixedInRow, Rest}
 use Rattle.cell_placing.specs.declared.Item.{Item}
 
 -- a side as two lines: start 0 is free over `end` tracks, start 65,535 is outside
@@ -34,3 +36,9 @@ is_lined (Fixed a b) = true
 -- "Items fixed on both axes go first, then those fixed in their row, then the rest"
 unfoldable pub group_of : Item → ℕ
 group_of i = cond (is_lined i.row) (cond (is_lined i.column) 0 1) 2
+
+-- the number of a group
+abbrev pub group_number : Group → ℕ
+group_number FixedInBoth = 0
+group_number FixedInRow = 1
+group_number Rest = 2

@@ -1,5 +1,5 @@
 -- What the code computes, and what it knows between its steps.
-use Rattle.std.specs.Prelude.{ℕ, ◌+◌, ◌≤◌, ◌<◌, ◌≡◌, Bool, true, false, cond, ◌&&◌, List, ◌⊎◌, eqb, leb, ltb, length, get_or}
+use Rattle.std.specs.Prelude.{ℕ, ◌+◌, ◌≤◌, ◌<◌, ◌≡◌, Bool, true, false, cond, ◌&&◌, List, ◌⊎◌, eqb, leb, ltb, length, get_or, Option, Some, None, Result, Ok, Err}
 use Rattle.coordinates.specs.declared.axis.Axis.{Axis}
 use Rattle.coordinates.specs.declared.axis.Axis.TheVariants.{Column, Row}
 use Rattle.cell_sides.specs.declared.Side.TheVariants.{Free, Fixed}
@@ -44,10 +44,10 @@ pub record Here (words : List ℕ) (count last : ℕ) (item : Item) (PastIt : Re
   pub clear : Clear words count r
   pub past : PastIt r
 
--- the word of the first such rectangle in row order, 0 where there is none
-pub data FirstLand (These : Rectangle → Type 0) (w : ℕ) : Type 0 where
-  found : These (rectangle_of w) → ((q : Rectangle) → These q → AtOrAfter (start_of (rectangle_of w)) (start_of q)) → FirstLand These w
-  none : w ≡ 0 → ((q : Rectangle) → These q → ⊥) → FirstLand These w
+-- the first such rectangle in row order, where there is one
+abbrev pub FirstLand : (Rectangle → Type 0) → Option Rectangle → Type 0
+FirstLand These (Some r) = These r × ((q : Rectangle) → These q → AtOrAfter (start_of r) (start_of q))
+FirstLand These None = (q : Rectangle) → These q → ⊥
 
 -- ---- the cursors
 
@@ -89,7 +89,7 @@ start_row cursor column = cond (ltb column cursor.column) (cursor.row + 1) curso
 -- those whose turn is past have landed, the others' words are 0
 pub record Going (packing : Packing) (last count : ℕ) (items placed : List ℕ) (time : ℕ) : Type 0 where
   pub few : count ≤ 256
-  pub whole : length placed ≡ 256
+  pub whole : length placed ≡ count
   pub landed : (j : ℕ) → j < count → turn (item_in items) j < time → First packing last count (item_in items) (rectangle_in placed) j (rectangle_in placed j)
   pub later : (j : ℕ) → j < count → time ≤ turn (item_in items) j → get_or placed j 0 ≡ 0
 
@@ -98,10 +98,10 @@ pub record Ready (packing : Packing) (last count : ℕ) (items placed : List ℕ
   pub held : i < count
   pub going : Going packing last count items placed (turn (item_in items) i)
 
--- where cell i lands, as a word, in its turn; 0 where it is stuck
-pub data Landing (packing : Packing) (last count : ℕ) (items placed : List ℕ) (i w : ℕ) : Type 0 where
-  lands : First packing last count (item_in items) (rectangle_in placed) i (rectangle_of w) → Landing packing last count items placed i w
-  sticks : w ≡ 0 → Stuck packing last count (item_in items) (rectangle_in placed) i → Landing packing last count items placed i w
+-- where cell i lands in its turn; nowhere where it is stuck
+abbrev pub Landing : Packing → ℕ → ℕ → List ℕ → List ℕ → ℕ → Option Rectangle → Type 0
+Landing packing last count items placed i (Some r) = First packing last count (item_in items) (rectangle_in placed) i r
+Landing packing last count items placed i None = Stuck packing last count (item_in items) (rectangle_in placed) i
 
 -- ---- the passes
 
@@ -111,6 +111,6 @@ pub data Turned (packing : Packing) (last count : ℕ) (items placed : List ℕ)
   stops : on ≡ false → FirstStuck packing last count (item_in items) i → Turned packing last count items placed i time on
 
 -- after a pass: it came to the end, or to the first that is stuck
-pub data Passed (packing : Packing) (last count : ℕ) (items placed : List ℕ) (time r : ℕ) : Type 0 where
-  all : count ≤ r → Going packing last count items placed time → Passed packing last count items placed time r
-  stuck : r < count → FirstStuck packing last count (item_in items) r → Passed packing last count items placed time r
+abbrev pub Passed : Packing → ℕ → ℕ → List ℕ → List ℕ → ℕ → Result (Unit {0}) ℕ → Type 0
+Passed packing last count items placed time (Ok _) = Going packing last count items placed time
+Passed packing last count items placed time (Err i) = FirstStuck packing last count (item_in items) i

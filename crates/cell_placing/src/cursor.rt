@@ -3,45 +3,32 @@ ghost use Rattle.std.specs.Prelude.{◌≡◌, ◌≤◌, ◌<◌};
 ghost use Rattle.free_cells.specs.Words.{rectangle_of};
 ghost use Rattle.cell_placing.specs.Css.{start_of};
 ghost use Rattle.cell_placing.specs.Steps.{later_column, RowCursor, RestCursor, start_row};
+ghost use Rattle.cell_placing.specs.Turns.{IsReady};
 
 use crate::words::group_of;
-use free_cells::Place;
-use free_cells::way::MOST_PLACED;
-use free_cells::word::rectangle_of;
+use crate::{Group, Turn};
+use free_cells::{Place, Rectangle};
 
 // The larger of a column and where a cell starts that is fixed in its row, where that is this row.
 fn later_column(item: u64, land: u64, row: u32, column: u32) -> u32
     ensures { result ≡ later_column item land row column }
 {
-    let placed = rectangle_of(land);
-    if group_of(item) != 1 {
+    let placed = Rectangle::from(land);
+    if group_of(item) != Group::FixedInRow || placed.rows.start != row {
         return column;
     }
-    if placed.rows.start != row {
-        return column;
-    }
-    if placed.columns.start < column {
-        return column;
-    }
-    placed.columns.start
+    placed.columns.start.max(column)
 }
 
-// The greatest column at which one of the first cells, so many, that are fixed in their row starts, of those that start in this row; 0 where
+// The greatest column at which one of the cells before this one that are fixed in their row starts, of those that start in this row; 0 where
 // there is none.
-pub(crate) fn row_cursor(
-    items: &[u64; MOST_PLACED],
-    placed: &[u64; MOST_PLACED],
-    count: u32,
-    row: u32,
-) -> u32
-    requires { count ≤ 256 }
-    ensures { RowCursor items.now placed.now count row result }
+pub(crate) fn row_cursor(turn: Turn, row: u32) -> u32
+    requires { IsReady turn }
+    ensures { RowCursor turn.entry.cells.items.now turn.entry.placed.now turn.entry.index row result }
 {
     let mut column: u32 = 0;
-    let mut j: u32 = 0;
-    while j < count {
-        column = later_column(items[j as usize], placed[j as usize], row, column);
-        j += 1;
+    for j in 0..turn.index as usize {
+        column = later_column(turn.cells.items[j], turn.placed[j], row, column);
     }
     column
 }
@@ -50,27 +37,21 @@ pub(crate) fn row_cursor(
 fn start_of(land: u64) -> Place
     ensures { result ≡ start_of (rectangle_of land) }
 {
-    let placed = rectangle_of(land);
+    let placed = Rectangle::from(land);
     Place {
         row: placed.rows.start,
         column: placed.columns.start,
     }
 }
 
-// Where the last of the rest, of the first cells, so many, starts; zeros where there is none.
-pub(crate) fn rest_cursor(
-    items: &[u64; MOST_PLACED],
-    placed: &[u64; MOST_PLACED],
-    count: u32,
-) -> Place
-    requires { count ≤ 256 }
-    ensures { RestCursor items.now placed.now count result }
+// Where the last of the rest, of the cells before this one, starts; zeros where there is none.
+pub(crate) fn rest_cursor(turn: Turn) -> Place
+    requires { IsReady turn }
+    ensures { RestCursor turn.entry.cells.items.now turn.entry.placed.now turn.entry.index result }
 {
-    let mut j = count;
-    while 0 < j {
-        j -= 1;
-        if group_of(items[j as usize]) == 2 {
-            return start_of(placed[j as usize]);
+    for j in (0..turn.index as usize).rev() {
+        if group_of(turn.cells.items[j]) == Group::Rest {
+            return start_of(turn.placed[j]);
         }
     }
     Place { row: 0, column: 0 }

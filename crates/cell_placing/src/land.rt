@@ -1,21 +1,17 @@
 // Where a cell lands in its turn, beside those placed before.
-ghost use Rattle.std.specs.Prelude.{◌≡◌, ◌≤◌, ◌<◌, min};
+ghost use Rattle.std.specs.Prelude.{◌≡◌, ◌≤◌, ◌<◌, length};
 ghost use Rattle.cell_sides.specs.declared.Side.TheVariants.{Free, Fixed};
-ghost use Rattle.free_cells.specs.Words.{rectangle_word};
-ghost use Rattle.free_cells.specs.Free.{AtOrAfter, along};
-ghost use Rattle.cell_placing.specs.Items.{item_in};
+ghost use Rattle.free_cells.specs.Free.{AtOrAfter};
 ghost use Rattle.cell_placing.specs.Css.{Fits, start_of};
-ghost use Rattle.cell_placing.specs.Steps.{is_on, last_on, last_across, item_along, start_along, FirstLand, Here, CursorColumn, CursorPlace, Ready, Landing};
+ghost use Rattle.cell_placing.specs.Steps.{is_on, last_on, last_across, item_along, start_along, FirstLand, Here, CursorColumn, CursorPlace};
+ghost use Rattle.cell_placing.specs.Turns.{IsReady, Lands, turning};
 
-use crate::Packing;
 use crate::cursor::{rest_cursor, row_cursor, start_row};
-use crate::words::item_of;
+use crate::{Item, Packing, Turn};
 use cell_sides::Side;
 use coordinates::Axis;
-use free_cells::search::{LAST_ROW_LINE, free_line, free_place};
-use free_cells::way::MOST_PLACED;
-use free_cells::word::rectangle_word;
-use free_cells::{Lines, Place, Size};
+use free_cells::search::{LAST_ROW_LINE, along, free_line, free_place};
+use free_cells::{Lines, Place, Rectangle, Size};
 
 // Whether two lines, a track or more apart, are on an axis.
 fn is_on(last: u32, lines: Lines) -> bool
@@ -45,79 +41,45 @@ fn last_across(axis: Axis, last: u16) -> u32
 }
 
 // The rectangle of a cell with lines in both axes.
-fn fixed_land(last: u16, columns: Lines, rows: Lines) -> u64
+fn fixed_land(last: u16, columns: Lines, rows: Lines) -> Option<Rectangle>
     ensures { FirstLand (Fits last (record { column = Fixed columns.start columns.end; row = Fixed rows.start rows.end })) result }
 {
-    if !is_on(last as u32, columns) {
-        return 0;
+    if !is_on(last as u32, columns) || !is_on(LAST_ROW_LINE, rows) {
+        return None;
     }
-    if !is_on(LAST_ROW_LINE, rows) {
-        return 0;
-    }
-    rectangle_word(columns, rows)
-}
-
-// The word of the rectangle between two lines along an axis and two across it.
-fn word_along(axis: Axis, lines: Lines, across: Lines) -> u64
-    ensures { result ≡ rectangle_word (along axis lines across) }
-{
-    match axis {
-        Axis::Column => rectangle_word(lines, across),
-        Axis::Row => rectangle_word(across, lines),
-    }
+    Some(Rectangle { columns, rows })
 }
 
 // The first free rectangle of so many tracks along an axis, at or after a line, between two lines across it.
 fn along_land(
-    placed: &[u64; MOST_PLACED],
-    count: u32,
+    placed: &[u64],
     axis: Axis,
     last: u16,
     from: u32,
     tracks: u32,
     across: Lines,
-) -> u64
-    ensures { FirstLand (Here placed.now (min count 256) last (item_along axis tracks across) (λ q. from ≤ start_along axis q)) result }
+) -> Option<Rectangle>
+    ensures { FirstLand (Here placed.now (length placed.now) last (item_along axis tracks across) (λ q. from ≤ start_along axis q)) result }
 {
-    if tracks == 0 {
-        return 0;
+    if tracks == 0 || !is_on(last_across(axis, last), across) {
+        return None;
     }
-    if !is_on(last_across(axis, last), across) {
-        return 0;
-    }
-    let line = free_line(
-        placed,
-        count,
-        axis,
-        last_on(axis, last),
-        from,
-        tracks,
-        across,
-    );
-    if line == 0 {
-        return 0;
-    }
+    let line = free_line(placed, axis, last_on(axis, last), from, tracks, across)?;
     let lines = Lines {
         start: line,
         end: line + tracks,
     };
-    word_along(axis, lines, across)
+    Some(along(axis, lines, across))
 }
 
 // The first free rectangle of a size, in row order, at or after a place.
-fn free_area(placed: &[u64; MOST_PLACED], count: u32, last: u16, size: Size, from: Place) -> u64
-    ensures { FirstLand (Here placed.now (min count 256) last (record { column = Free size.columns; row = Free size.rows }) (λ q. AtOrAfter from (start_of q))) result }
+fn free_area(placed: &[u64], last: u16, size: Size, from: Place) -> Option<Rectangle>
+    ensures { FirstLand (Here placed.now (length placed.now) last (record { column = Free size.columns; row = Free size.rows }) (λ q. AtOrAfter from (start_of q))) result }
 {
-    if size.columns == 0 {
-        return 0;
+    if size.columns == 0 || size.rows == 0 {
+        return None;
     }
-    if size.rows == 0 {
-        return 0;
-    }
-    let place = free_place(placed, count, last as u32, size, from);
-    if place.row == 0 {
-        return 0;
-    }
+    let place = free_place(placed, last as u32, size, from)?;
     let columns = Lines {
         start: place.column,
         end: place.column + size.columns,
@@ -126,171 +88,122 @@ fn free_area(placed: &[u64; MOST_PLACED], count: u32, last: u16, size: Size, fro
         start: place.row,
         end: place.row + size.rows,
     };
-    rectangle_word(columns, rows)
+    Some(Rectangle { columns, rows })
 }
 
 // The column from which a cell that is fixed in its row is looked for.
-fn cursor_column(
-    packing: Packing,
-    items: &[u64; MOST_PLACED],
-    placed: &[u64; MOST_PLACED],
-    i: u32,
-    row: u32,
-) -> u32
-    requires { i ≤ 256 }
-    ensures { CursorColumn packing items.now placed.now i row result }
+fn cursor_column(turn: Turn, row: u32) -> u32
+    requires { IsReady turn }
+    ensures { CursorColumn turn.entry.cells.packing turn.entry.cells.items.now turn.entry.placed.now turn.entry.index row result }
 {
-    match packing {
-        Packing::Sparse => row_cursor(items, placed, i, row),
+    match turn.cells.packing {
+        Packing::Sparse => row_cursor(turn, row),
         Packing::Dense => 0,
     }
 }
 
 // The place from which one of the rest is looked for.
-fn cursor_place(
-    packing: Packing,
-    items: &[u64; MOST_PLACED],
-    placed: &[u64; MOST_PLACED],
-    i: u32,
-) -> Place
-    requires { i ≤ 256 }
-    ensures { CursorPlace packing items.now placed.now i result }
+fn cursor_place(turn: Turn) -> Place
+    requires { IsReady turn }
+    ensures { CursorPlace turn.entry.cells.packing turn.entry.cells.items.now turn.entry.placed.now turn.entry.index result }
 {
-    match packing {
-        Packing::Sparse => rest_cursor(items, placed, i),
+    match turn.cells.packing {
+        Packing::Sparse => rest_cursor(turn),
         Packing::Dense => Place { row: 0, column: 0 },
     }
 }
 
 // A cell that is fixed in its row.
-fn row_land(
-    last: u16,
-    items: &[u64; MOST_PLACED],
-    count: u32,
-    packing: Packing,
-    i: u32,
-    placed: &[u64; MOST_PLACED],
-    tracks: u32,
-    rows: Lines,
-) -> u64
-    requires { Ready packing last count items.now placed.now i × (item_in items.now i ≡ record { column = Free tracks; row = Fixed rows.start rows.end }) }
-    ensures { Landing packing last count items.now placed.now i result }
+fn row_land(turn: Turn, tracks: u32, rows: Lines) -> Option<Rectangle>
+    requires { IsReady turn × (turning turn ≡ record { column = Free tracks; row = Fixed rows.start rows.end }) }
+    ensures { Lands turn.entry result }
 {
-    let from = cursor_column(packing, items, placed, i, rows.start);
-    along_land(placed, count, Axis::Column, last, from, tracks, rows)
+    let from = cursor_column(turn, rows.start);
+    along_land(
+        turn.placed,
+        Axis::Column,
+        turn.cells.last,
+        from,
+        tracks,
+        rows,
+    )
 }
 
 // A cell that is fixed in its column.
-fn column_land(
-    last: u16,
-    items: &[u64; MOST_PLACED],
-    count: u32,
-    packing: Packing,
-    i: u32,
-    placed: &[u64; MOST_PLACED],
-    columns: Lines,
-    tracks: u32,
-) -> u64
-    requires { Ready packing last count items.now placed.now i × (item_in items.now i ≡ record { column = Fixed columns.start columns.end; row = Free tracks }) }
-    ensures { Landing packing last count items.now placed.now i result }
+fn column_land(turn: Turn, columns: Lines, tracks: u32) -> Option<Rectangle>
+    requires { IsReady turn × (turning turn ≡ record { column = Fixed columns.start columns.end; row = Free tracks }) }
+    ensures { Lands turn.entry result }
 {
-    let cursor = cursor_place(packing, items, placed, i);
+    let cursor = cursor_place(turn);
     let from = start_row(cursor, columns.start);
-    along_land(placed, count, Axis::Row, last, from, tracks, columns)
+    along_land(
+        turn.placed,
+        Axis::Row,
+        turn.cells.last,
+        from,
+        tracks,
+        columns,
+    )
 }
 
 // A cell that is free in both axes.
-fn free_land(
-    last: u16,
-    items: &[u64; MOST_PLACED],
-    count: u32,
-    packing: Packing,
-    i: u32,
-    placed: &[u64; MOST_PLACED],
-    size: Size,
-) -> u64
-    requires { Ready packing last count items.now placed.now i × (item_in items.now i ≡ record { column = Free size.columns; row = Free size.rows }) }
-    ensures { Landing packing last count items.now placed.now i result }
+fn free_land(turn: Turn, size: Size) -> Option<Rectangle>
+    requires { IsReady turn × (turning turn ≡ record { column = Free size.columns; row = Free size.rows }) }
+    ensures { Lands turn.entry result }
 {
-    let cursor = cursor_place(packing, items, placed, i);
-    free_area(placed, count, last, size, cursor)
+    let cursor = cursor_place(turn);
+    free_area(turn.placed, turn.cells.last, size, cursor)
 }
 
 // A cell whose row is fixed.
-fn fixed_row(
-    last: u16,
-    items: &[u64; MOST_PLACED],
-    count: u32,
-    packing: Packing,
-    i: u32,
-    placed: &[u64; MOST_PLACED],
-    column: Side,
-    rows: Lines,
-) -> u64
-    requires { Ready packing last count items.now placed.now i × (item_in items.now i ≡ record { column = column; row = Fixed rows.start rows.end }) }
-    ensures { Landing packing last count items.now placed.now i result }
+fn fixed_row(turn: Turn, column: Side, rows: Lines) -> Option<Rectangle>
+    requires { IsReady turn × (turning turn ≡ record { column = column; row = Fixed rows.start rows.end }) }
+    ensures { Lands turn.entry result }
 {
     match column {
-        Side::Outside => 0,
-        Side::Free(tracks) => row_land(last, items, count, packing, i, placed, tracks, rows),
+        Side::Outside => None,
+        Side::Free(tracks) => row_land(turn, tracks, rows),
         Side::Fixed(start, end) => {
             let columns = Lines { start, end };
-            fixed_land(last, columns, rows)
+            fixed_land(turn.cells.last, columns, rows)
         }
     }
 }
 
 // A cell whose row is free.
-fn free_row(
-    last: u16,
-    items: &[u64; MOST_PLACED],
-    count: u32,
-    packing: Packing,
-    i: u32,
-    placed: &[u64; MOST_PLACED],
-    column: Side,
-    tracks: u32,
-) -> u64
-    requires { Ready packing last count items.now placed.now i × (item_in items.now i ≡ record { column = column; row = Free tracks }) }
-    ensures { Landing packing last count items.now placed.now i result }
+fn free_row(turn: Turn, column: Side, tracks: u32) -> Option<Rectangle>
+    requires { IsReady turn × (turning turn ≡ record { column = column; row = Free tracks }) }
+    ensures { Lands turn.entry result }
 {
     match column {
-        Side::Outside => 0,
+        Side::Outside => None,
         Side::Free(columns) => {
             let size = Size {
                 columns,
                 rows: tracks,
             };
-            free_land(last, items, count, packing, i, placed, size)
+            free_land(turn, size)
         }
         Side::Fixed(start, end) => {
             let columns = Lines { start, end };
-            column_land(last, items, count, packing, i, placed, columns, tracks)
+            column_land(turn, columns, tracks)
         }
     }
 }
 
-// Where cell i lands in its turn, as a word; 0 where it is stuck.
-pub(crate) fn land_of(
-    last: u16,
-    items: &[u64; MOST_PLACED],
-    count: u32,
-    packing: Packing,
-    i: u32,
-    placed: &[u64; MOST_PLACED],
-) -> u64
-    requires { Ready packing last count items.now placed.now i }
-    ensures { Landing packing last count items.now placed.now i result }
+// Where a cell lands in its turn; none where it is stuck.
+pub(crate) fn land_of(turn: Turn) -> Option<Rectangle>
+    requires { IsReady turn }
+    ensures { Lands turn.entry result }
 {
-    let item = item_of(items[i as usize]);
+    let item = Item::from(turn.cells.items[turn.index as usize]);
     let column = item.column;
-    let row = item.row;
-    match row {
-        Side::Outside => 0,
-        Side::Free(tracks) => free_row(last, items, count, packing, i, placed, column, tracks),
+    match item.row {
+        Side::Outside => None,
+        Side::Free(tracks) => free_row(turn, column, tracks),
         Side::Fixed(start, end) => {
             let rows = Lines { start, end };
-            fixed_row(last, items, count, packing, i, placed, column, rows)
+            fixed_row(turn, column, rows)
         }
     }
 }

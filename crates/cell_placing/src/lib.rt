@@ -9,23 +9,44 @@ pub mod words;
 
 use cell_sides::Side;
 
+// The most cells of a call.
+pub const MOST_PLACED: usize = 256;
+
 // How cells are packed: in sparse packing no automatic cell lands before the one placed last, in dense packing each takes the first place.
-#[derive(Clone, Copy)]
+#[derive(Clone, Copy, Debug, PartialEq, Eq)]
 pub enum Packing {
     Sparse,
     Dense,
 }
 
+// The groups in which cells are placed, in their order: those with a line in both axes, those that have one in their row alone, the rest.
+#[derive(Clone, Copy, Debug, PartialEq, Eq)]
+pub enum Group {
+    FixedInBoth,
+    FixedInRow,
+    Rest,
+}
+
 // A cell by its sides.
-#[derive(Clone, Copy)]
+#[derive(Clone, Copy, Debug, PartialEq, Eq)]
 pub struct Item {
     pub column: Side,
     pub row: Side,
 }
 
-// All cells are placed, or none, since this one is stuck.
+// The cells of a call: the last column line, the words of their sides, how many there are, and how they are packed.
 #[derive(Clone, Copy)]
-pub enum Outcome {
-    Placed,
-    StuckAt(u32),
+pub(crate) struct Cells<'a> {
+    pub last: u16,
+    pub items: &'a [u64; MOST_PLACED],
+    pub count: u32,
+    pub packing: Packing,
+}
+
+// The turn of a cell: the cells of its call, its index, and the words of the rectangles that are placed, 0 for a cell whose turn comes later.
+#[derive(Clone, Copy)]
+pub(crate) struct Turn<'a> {
+    pub cells: Cells<'a>,
+    pub index: u32,
+    pub placed: &'a [u64],
 }

@@ -1,96 +1,77 @@
 // The three passes over the cells.
-ghost use Rattle.std.specs.Prelude.{◌≡◌, ◌+◌, ◌*◌, ◌≤◌, ◌<◌, min, length, take};
+ghost use Rattle.std.specs.Prelude.{◌≡◌, ◌+◌, ◌*◌, ◌≤◌, ◌<◌, min, length};
 ghost use Rattle.std.proofs.lemmas.List.Edits.{sets};
-ghost use Rattle.cell_placing.specs.Items.{item_in};
+ghost use Rattle.cell_placing.specs.Items.{item_in, group_number};
 ghost use Rattle.cell_placing.specs.Css.{Answers};
 ghost use Rattle.cell_placing.specs.Steps.{Going, Turned, Passed};
 
 use crate::land::land_of;
 use crate::words::group_of;
-use crate::{Outcome, Packing};
-use free_cells::way::{MOST_PLACED, at_most_all};
-
-// The number of groups, each of which is placed in a pass.
-const GROUPS: u32 = 3;
+use crate::{Cells, Group, MOST_PLACED, Packing, Turn};
 
 // Places cell i in the pass of a group, where it is one of that; whether it isn't stuck.
-fn place_one(
-    last: u16,
-    items: &[u64; MOST_PLACED],
-    count: u32,
-    packing: Packing,
-    group: u32,
-    i: u32,
-    placed: &mut [u64; MOST_PLACED],
-) -> bool
-    requires { (i < count) × (group < 3) × Going packing last count items.now placed.old (group * 256 + i) }
-    ensures { Turned packing last count items.now placed.new i (group * 256 + i) result }
+fn place_one(cells: Cells, group: Group, i: u32, placed: &mut [u64]) -> bool
+    requires { (i < cells.count) × Going cells.packing cells.last cells.count cells.items.now placed.old (group_number group * 256 + i) }
+    ensures { Turned cells.entry.packing cells.entry.last cells.entry.count cells.entry.items.now placed.new i (group_number group * 256 + i) result }
 {
-    if group_of(items[i as usize]) != group {
+    if group_of(cells.items[i as usize]) != group {
         return true;
     }
-    let land = land_of(last, items, count, packing, i, placed);
-    if land == 0 {
+    let turn = Turn {
+        cells,
+        index: i,
+        placed,
+    };
+    let Some(land) = land_of(turn) else {
         return false;
-    }
-    placed[i as usize] = land;
+    };
+    placed[i as usize] = u64::from(land);
     true
 }
 
-// The pass of a group: the first cell that is stuck, else as many as there are.
-fn place_group(
-    last: u16,
-    items: &[u64; MOST_PLACED],
-    count: u32,
-    packing: Packing,
-    group: u32,
-    placed: &mut [u64; MOST_PLACED],
-) -> u32
-    requires { (group < 3) × Going packing last count items.now placed.old (group * 256) }
-    ensures { Passed packing last count items.now placed.new (group * 256 + 256) result }
+// The pass of a group, refused by the first cell that is stuck.
+fn place_group(cells: Cells, group: Group, placed: &mut [u64]) -> Result<(), u32>
+    requires { Going cells.packing cells.last cells.count cells.items.now placed.old (group_number group * 256) }
+    ensures { Passed cells.entry.packing cells.entry.last cells.entry.count cells.entry.items.now placed.new (group_number group * 256 + 256) result }
 {
-    let mut i: u32 = 0;
-    while i < count {
-        if !place_one(last, items, count, packing, group, i, placed) {
-            return i;
+    for i in 0..cells.count {
+        if !place_one(cells, group, i, placed) {
+            return Err(i);
         }
-        i += 1;
     }
-    count
+    Ok(())
 }
 
-// Writes so many words from the first place on.
-fn write_lands(placed: &[u64; MOST_PLACED], count: u32, lands: &mut [u64; MOST_PLACED])
-    requires { (count ≤ 256) × (length placed.now ≡ 256) }
-    ensures { lands.new ≡ sets lands.old 0 (take count placed.now) }
+// Writes the words of the lands from the first place on.
+fn write_lands(placed: &[u64], lands: &mut [u64; MOST_PLACED])
+    requires { length placed.now ≤ 256 }
+    ensures { lands.new ≡ sets lands.old 0 placed.now }
 {
-    let mut j: u32 = 0;
-    while j < count {
-        lands[j as usize] = placed[j as usize];
-        j += 1;
-    }
+    lands[..placed.len()].copy_from_slice(placed);
 }
 
-// Places the cells, beside the last column line. The lent words take where each lands, in sheet order; where one is stuck they stay.
+// Places the cells, beside the last column line. The lent words take where each lands, in sheet order; where one is stuck they stay, and
+// the first of these in placing order is answered.
 pub fn place_items(
     last: u16,
     items: &[u64; MOST_PLACED],
     count: u32,
     packing: Packing,
     lands: &mut [u64; MOST_PLACED],
-) -> Outcome
+) -> Result<(), u32>
     ensures { Answers packing last (min count 256) (item_in items.now) lands.old lands.new result }
 {
-    let held = at_most_all(count);
-    let mut placed: [u64; MOST_PLACED] = [0; MOST_PLACED];
-    let mut group: u32 = 0;
-    while group < GROUPS {
-        let i = place_group(last, items, held, packing, group, &mut placed);
-        if i < held {
-            return Outcome::StuckAt(i);
-        }
-        group += 1;
-    }
-    write_lands(&placed, held, lands);
-    Outcome::Placed
+    let cells = Cells {
+        last,
+        items,
+        count: count.min(MOST_PLACED as u32),
+        packing,
+    };
+    let mut room: [u64; MOST_PLACED] = [0; MOST_PLACED];
+    let placed = &mut room[..cells.count as usize];
+    place_group(cells, Group::FixedInBoth, placed)?;
+    place_group(cells, Group::FixedInRow, placed)?;
+    place_group(cells, Group::Rest, placed)?;
+    write_lands(placed, lands);
+    Ok(())
 }

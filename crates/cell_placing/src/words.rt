@@ -1,11 +1,11 @@
 // A cell as a word: a side takes 32 bits, as two lines do; start 0 is a free side over `end` tracks, and start 65,535 one that is outside.
 ghost use Rattle.std.specs.Prelude.{◌≡◌};
-ghost use Rattle.cell_placing.specs.Items.{side_of, item_of, side_lines, item_word, is_lined, group_of};
+ghost use Rattle.cell_placing.specs.Items.{side_of, item_of, side_lines, item_word, group_of, group_number};
 
-use crate::Item;
+use crate::{Group, Item};
 use cell_sides::Side;
-use free_cells::Lines;
-use free_cells::word::{lines_of, rectangle_word};
+use free_cells::word::lines_of;
+use free_cells::{Lines, Rectangle};
 
 // The start that says "outside".
 const OUTSIDE: u32 = 65535;
@@ -14,22 +14,25 @@ const OUTSIDE: u32 = 65535;
 fn side_of(lines: Lines) -> Side
     ensures { result ≡ side_of lines }
 {
-    if lines.start == 0 {
-        return Side::Free(lines.end);
+    match lines.start {
+        0 => Side::Free(lines.end),
+        OUTSIDE => Side::Outside,
+        start => Side::Fixed(start, lines.end),
     }
-    if lines.start == OUTSIDE {
-        return Side::Outside;
-    }
-    Side::Fixed(lines.start, lines.end)
 }
 
 // A cell from its word. Any word gives one.
-pub fn item_of(word: u64) -> Item
-    ensures { result ≡ item_of word }
-{
-    let column = side_of(lines_of(word));
-    let row = side_of(lines_of(word / 0x1_0000_0000));
-    Item { column, row }
+impl From<u64> for Item {
+    ghost from_gives = { λ word item. item ≡ item_of word };
+
+    // Its column's lines stand in the lower 32 bits.
+    #[tactic(auto, unfolding(crate::specs::Items::item_of))]
+    fn from(word: u64) -> Item {
+        Item {
+            column: side_of(lines_of(word)),
+            row: side_of(lines_of(word / 0x1_0000_0000)),
+        }
+    }
 }
 
 // The two lines that say a side.
@@ -50,35 +53,27 @@ fn side_lines(side: Side) -> Lines
 }
 
 // The word of a cell.
-pub fn item_word(column: Side, row: Side) -> u64
-    ensures { result ≡ item_word (record { column = column; row = row }) }
-{
-    rectangle_word(side_lines(column), side_lines(row))
-}
+impl From<Item> for u64 {
+    ghost from_gives = { λ item word. word ≡ item_word item };
 
-// Whether a side has a line, inside or outside.
-fn is_lined(side: Side) -> bool
-    ensures { result ≡ is_lined side }
-{
-    match side {
-        Side::Outside => true,
-        Side::Free(_) => false,
-        Side::Fixed(_, _) => true,
+    // That of a rectangle with its sides' lines.
+    fn from(item: Item) -> u64 {
+        u64::from(Rectangle {
+            columns: side_lines(item.column),
+            rows: side_lines(item.row),
+        })
     }
 }
 
-// The group in which a cell is placed: 0 where both axes have a line, 1 where only the row has one, else 2.
-pub fn group_of(word: u64) -> u32
-    ensures { result ≡ group_of (item_of word) }
+// The group in which a cell is placed.
+#[tactic(auto, unfolding(crate::specs::Items::group_of))]
+pub fn group_of(word: u64) -> Group
+    ensures { group_number result ≡ group_of (item_of word) }
 {
-    let item = item_of(word);
-    let column = item.column;
-    let row = item.row;
-    if !is_lined(row) {
-        return 2;
+    let item = Item::from(word);
+    match (item.column, item.row) {
+        (_, Side::Free(_)) => Group::Rest,
+        (Side::Free(_), _) => Group::FixedInRow,
+        _ => Group::FixedInBoth,
     }
-    if is_lined(column) {
-        return 0;
-    }
-    1
 }

@@ -5,19 +5,16 @@ use mathlib.Core.Logic.{⊎_elim}
 use Prim.Native.Nat.{ℕ, zero, suc, ◌+◌, ◌-◌, ◌≤◌, ◌<◌, max}
 use native.Mathlib.Omega.{arith}
 use borrow.Author.Tests.{leb-true, leb-false, ltb-true, ltb-false, eqb-true, eqb-false, le-ltb, ne_eqb}
+use Rattle.std.specs.Prelude.{Option, Some, None}
 use lib.Dec.{eqb, leb, ltb, lt→ltb}
-use lib.IntN.{ℤ, pos, negsuc, ◌+ℤ◌, ◌-ℤ◌, nat_abs}
-use mir.Syntax.{w32}
-use mir.Val.{SFits, to_z, of_z}
-use mir.Facts.{to_z-of_z}
-use Rattle.coordinates.proofs.Integers.{plus_before, plus_past, minus_at, minus_past, fits_pos_32}
+use lib.IntN.{ℤ, pos, negsuc, ◌+ℤ◌, ◌-ℤ◌}
+use Rattle.coordinates.proofs.Integers.{plus_before, plus_past, minus_at, minus_past}
 use Rattle.coordinates.proofs.Lines.{lt_or_ge}
 use Rattle.name_rules.specs.Css.{Resolved, free, at_line, spanning, ResolvedEnds}
 use Rattle.name_rules.specs.CssOrder.{OrderedLines, in_order, swapped, one_track}
 use Rattle.name_rules.proofs.CssOrder.{ordered_exist, ordered_unique}
-use Rattle.placement_hits.specs.Steps.{end_by}
 use Rattle.cell_sides.specs.Css.{End, auto, line, span, end_of, Extent, between, automatic, CssExtent, two_lines_lem, span_ahead, span_back, start_alone, end_alone, two_spans, start_span, end_span, nothing, Among, SideOf, inside, leaves, anywhere, CssSide}
-use Rattle.cell_sides.specs.Steps.{number_up_to, number_back, end_ahead, tracks_of, end_in, fixed_side, side_back, ordered_side, lines_side, side_in}
+use Rattle.cell_sides.specs.Steps.{line_up_to, line_back, tracks_of, end_in, side_ahead, side_back, ordered_side, side_by}
 use Rattle.cell_sides.specs.declared.Side.{Side}
 use Rattle.cell_sides.specs.declared.Side.TheVariants.{Outside, Fixed}
 use Rattle.cell_sides.specs.declared.CellEnd.{CellEnd}
@@ -34,24 +31,24 @@ abbrev pub Off : ℕ → ℤ → Type 0
 Off last l = (a : ℕ) → pos a ≡ l → 1 ≤ a → a ≤ last → ⊥
 
 -- an end as CSS has it, and as the code has read it
-pub data Read (last : ℕ) : End → CellEnd → Type 0 where
-  read-auto : Read last auto Auto
-  read-span : {k : ℕ} → 1 ≤ k → Read last (span k) (Span k)
-  read-line : {a : ℕ} → 1 ≤ a → a ≤ last → Read last (line (pos a)) (Line a)
-  read_off : {l : ℤ} → Off last l → Read last (line l) (Line 0)
+pub data Read (last : ℕ) : End → Option CellEnd → Type 0 where
+  read-auto : Read last auto (Some Auto)
+  read-span : {k : ℕ} → 1 ≤ k → Read last (span k) (Some (Span k))
+  read-line : {a : ℕ} → 1 ≤ a → a ≤ last → Read last (line (pos a)) (Some (Line a))
+  read_off : {l : ℤ} → Off last l → Read last (line l) None
 
 module _ (n last : ℕ) where
-  read_number : (l : ℤ) (a : ℕ) → pos a ≡ l → 1 ≤ a → Read last (line l) (Line (number_up_to last a))
+  read_number : (l : ℤ) (a : ℕ) → pos a ≡ l → 1 ≤ a → Read last (line l) (line_up_to last a)
   read_number l a e h = go (leb a last) refl
     where
-      go : (t : Bool) → leb a last ≡ t → Read last (line l) (Line (cond t a 0))
+      go : (t : Bool) → leb a last ≡ t → Read last (line l) (cond t (Some (Line a)) None)
       go true q = rw (← e) (read-line h (leb-true a last q))
       go false q = read_off (λ b f g k. omega (arith, leb-false a last q, pos-same b a (f ∙ sym e)))
 
-  read_back : (k : ℕ) → Read last (line (negsuc k +ℤ pos (n + 2))) (Line (number_back n last k))
+  read_back : (k : ℕ) → Read last (line (negsuc k +ℤ pos (n + 2))) (line_back n last k)
   read_back k = go (leb k n) refl
     where
-      go : (t : Bool) → leb k n ≡ t → Read last (line (negsuc k +ℤ pos (n + 2))) (Line (cond t (number_up_to last (n + 1 - k)) 0))
+      go : (t : Bool) → leb k n ≡ t → Read last (line (negsuc k +ℤ pos (n + 2))) (cond t (line_up_to last (n + 1 - k)) None)
       go true q =
           let h : k ≤ n = leb-true k n q in
           let e : n + 1 - k ≡ n + 2 - k - 1 = omega arith in
@@ -67,10 +64,10 @@ module _ (n last : ℕ) where
           before : n + 2 ≤ k → Off last (negsuc k +ℤ pos (n + 2))
           before w a e f g = never-negative a (k - (n + 2)) (e ∙ sym (plus_before k (n + 2) w))
 
-  read-tracks : (k : ℕ) → Read last (span (max 1 k)) (Span (tracks_of k))
+  read-tracks : (k : ℕ) → Read last (span (max 1 k)) (Some (Span (tracks_of k)))
   read-tracks k = go (eqb k 0) refl
     where
-      go : (t : Bool) → eqb k 0 ≡ t → Read last (span (max 1 k)) (Span (cond t 1 k))
+      go : (t : Bool) → eqb k 0 ≡ t → Read last (span (max 1 k)) (Some (Span (cond t 1 k)))
       go true q = let z : max 1 k ≡ 1 = omega (arith, eqb-true k 0 q) in rw z (read-span {k = 1} (omega arith))
       go false q = let z : max 1 k ≡ k = omega (arith, eqb-false k 0 q) in rw z (read-span {k = k} (omega (arith, eqb-false k 0 q)))
 
@@ -83,15 +80,15 @@ module _ (n last : ℕ) where
 
 module _ (last : ℕ) where
   -- so many tracks from a line on, or back from it
-  ahead : (a k : ℕ) → 1 ≤ a → a ≤ last → 1 ≤ k → SideOf last (between (pos a) (pos a +ℤ pos k)) (fixed_side last a k)
-  ahead a k h w g = rw (ne_eqb a 0 (omega arith), le-ltb last a w) (go (ltb (last - a) k) refl)
+  ahead : (a k : ℕ) → 1 ≤ a → a ≤ last → 1 ≤ k → SideOf last (between (pos a) (pos a +ℤ pos k)) (side_ahead last a k)
+  ahead a k h w g = rw (le-ltb last a w) (go (ltb (last - a) k) refl)
     where
       go : (t : Bool) → ltb (last - a) k ≡ t → SideOf last (between (pos a) (pos (a + k))) (cond t Outside (Fixed a (a + k)))
       go true q = leaves (λ x y m. omega (arith, ltb-true (last - a) k q, pos-same y (a + k) m.high, m.final))
       go false q = inside {a = a} {b = a + k} (record { low = refl; high = refl; first = h; order = omega arith; final = omega (arith, ltb-false (last - a) k q) })
 
-  ahead-off : (l hi : ℤ) (k : ℕ) → Off last l → SideOf last (between l hi) (fixed_side last 0 k)
-  ahead-off l hi k off = leaves (λ x y m. off x m.low m.first (omega (arith, m.order, m.final)))
+  ahead-off : (l hi : ℤ) → Off last l → SideOf last (between l hi) Outside
+  ahead-off l hi off = leaves (λ x y m. off x m.low m.first (omega (arith, m.order, m.final)))
 
   back : (a k : ℕ) → a ≤ last → 1 ≤ k → SideOf last (between (pos a -ℤ pos k) (pos a)) (side_back k a)
   back a k w g = go (ltb k a) refl
@@ -111,8 +108,8 @@ module _ (last : ℕ) where
               at : k ≤ a → ⊥
               at u = omega (arith, ltb-false k a q, pos-same x (a - k) (m.low ∙ sym (minus_at a k u)), m.first)
 
-  back-off : (lo l : ℤ) (k : ℕ) → Off last l → SideOf last (between lo l) (side_back k 0)
-  back-off lo l k off = rw (le-ltb k 0 (omega arith)) (leaves {lo = lo} {hi = l} (λ x y m. off y m.high (omega (arith, m.first, m.order)) m.final))
+  back-off : (lo l : ℤ) → Off last l → SideOf last (between lo l) Outside
+  back-off lo l off = (leaves {lo = lo} {hi = l} (λ x y m. off y m.high (omega (arith, m.first, m.order)) m.final))
 
   -- both of two lines are among the lines where their extent is
   start-among : {s e lo hi : ℤ} {x y : ℕ} → OrderedLines s e lo hi → Among last lo hi x y → Off last s → ⊥
@@ -128,15 +125,12 @@ module _ (last : ℕ) where
   abbrev pub Answer : End → End → Side → Type 0
   Answer s e side = (x : Extent) × CssExtent s e x × SideOf last x side
 
-  pub lines-there : (a b : ℕ) → 1 ≤ a → 1 ≤ b → lines_side last a b ≡ ordered_side last a b
-  lines-there a b h g = ap (λ (t : Bool). cond t Outside (cond (eqb b 0) Outside (ordered_side last a b))) (ne_eqb a 0 (omega arith)) ∙ ap (λ (t : Bool). cond t Outside (ordered_side last a b)) (ne_eqb b 0 (omega arith))
-
-  two : (a b : ℕ) → 1 ≤ a → a ≤ last → 1 ≤ b → b ≤ last → Answer (line (pos a)) (line (pos b)) (lines_side last a b)
+  two : (a b : ℕ) → 1 ≤ a → a ≤ last → 1 ≤ b → b ≤ last → Answer (line (pos a)) (line (pos b)) (ordered_side last a b)
   two a b h w g v =
-      rw (lines-there a b (omega arith) (omega arith)) (go (ltb a b) (ltb b a) refl refl)
+      go (ltb a b) (ltb b a) refl refl
     where
       go : (t u : Bool) → ltb a b ≡ t → ltb b a ≡ u
-          → Answer (line (pos a)) (line (pos b)) (cond t (Fixed a b) (cond u (Fixed b a) (fixed_side last a 1)))
+          → Answer (line (pos a)) (line (pos b)) (cond t (Fixed a b) (cond u (Fixed b a) (side_ahead last a 1)))
       go true u p q = let o : a < b = ltb-true a b p in
           (between (pos a) (pos b), two_lines_lem (in_order (record { lt = lt→ltb a b o })), inside (record { low = refl; high = refl; first = h; order = o; final = v }))
       go false true p q = let o : b < a = ltb-true b a q in
@@ -144,34 +138,32 @@ module _ (last : ℕ) where
       go false false p q = let o : a ≡ b = omega (arith, ltb-false a b p, ltb-false b a q) in
           (between (pos a) (pos a +ℤ pos 1), two_lines_lem (one_track (ap pos o)), ahead a 1 h w (omega arith))
 
-  start-off : (s e : ℤ) (b : ℕ) → Off last s → Answer (line s) (line e) (lines_side last 0 b)
-  start-off s e b off = let o = ordered_exist s e in (between o.0 o.1, two_lines_lem o.2, leaves (λ x y m. start-among o.2 m off))
+  start-off : (s e : ℤ) → Off last s → Answer (line s) (line e) Outside
+  start-off s e off = let o = ordered_exist s e in (between o.0 o.1, two_lines_lem o.2, leaves (λ x y m. start-among o.2 m off))
 
-  end-off : (s e : ℤ) (a : ℕ) → 1 ≤ a → Off last e → Answer (line s) (line e) (lines_side last a 0)
-  end-off s e a h off =
-      let o = ordered_exist s e in
-      rw (ne_eqb a 0 (omega arith)) (between o.0 o.1, two_lines_lem o.2, leaves (λ x y m. end-among o.2 m off))
+  end-off : (s e : ℤ) → Off last e → Answer (line s) (line e) Outside
+  end-off s e off = let o = ordered_exist s e in (between o.0 o.1, two_lines_lem o.2, leaves (λ x y m. end-among o.2 m off))
 
-  pub sides : {s e : End} {c d : CellEnd} → Read last s c → Read last e d → Answer s e (side_in last c d)
+  pub sides : {s e : End} {c d : Option CellEnd} → Read last s c → Read last e d → Answer s e (side_by last c d)
   sides read-auto read-auto = (automatic 1, nothing, anywhere)
   sides read-auto (read-span {k} h) = (automatic k, end_span, anywhere)
   sides read-auto (read-line {a} h w) = (between (pos a -ℤ pos 1) (pos a), end_alone, back a 1 w (omega arith))
-  sides read-auto (read_off {l} off) = (between (l -ℤ pos 1) l, end_alone, back-off (l -ℤ pos 1) l 1 off)
+  sides read-auto (read_off {l} off) = (between (l -ℤ pos 1) l, end_alone, back-off (l -ℤ pos 1) l off)
   sides (read-span {k} h) read-auto = (automatic k, start_span, anywhere)
   sides (read-span {k} h) (read-span {k = j} g) = (automatic k, two_spans, anywhere)
   sides (read-span {k} h) (read-line {a} g w) = (between (pos a -ℤ pos k) (pos a), span_back, back a k w h)
-  sides (read-span {k} h) (read_off {l} off) = (between (l -ℤ pos k) l, span_back, back-off (l -ℤ pos k) l k off)
+  sides (read-span {k} h) (read_off {l} off) = (between (l -ℤ pos k) l, span_back, back-off (l -ℤ pos k) l off)
   sides (read-line {a} h w) read-auto = (between (pos a) (pos a +ℤ pos 1), start_alone, ahead a 1 h w (omega arith))
   sides (read-line {a} h w) (read-span {k} g) = (between (pos a) (pos a +ℤ pos k), span_ahead, ahead a k h w g)
   sides (read-line {a} h w) (read-line {a = b} g v) = two a b h w g v
-  sides (read-line {a} h w) (read_off {l} off) = end-off (pos a) l a h off
-  sides (read_off {l} off) read-auto = (between l (l +ℤ pos 1), start_alone, ahead-off l (l +ℤ pos 1) 1 off)
-  sides (read_off {l} off) (read-span {k} g) = (between l (l +ℤ pos k), span_ahead, ahead-off l (l +ℤ pos k) k off)
-  sides (read_off {l} off) (read-line {a = b} g v) = start-off l (pos b) b off
-  sides (read_off {l} off) (read_off {l = m} on) = start-off l m 0 off
+  sides (read-line {a} h w) (read_off {l} off) = end-off (pos a) l off
+  sides (read_off {l} off) read-auto = (between l (l +ℤ pos 1), start_alone, ahead-off l (l +ℤ pos 1) off)
+  sides (read_off {l} off) (read-span {k} g) = (between l (l +ℤ pos k), span_ahead, ahead-off l (l +ℤ pos k) off)
+  sides (read_off {l} off) (read-line {a = b} g v) = start-off l (pos b) off
+  sides (read_off {l} off) (read_off {l = m} on) = start-off l m off
 
 -- the code's side is one that CSS gives
-pub side_css : (n last : ℕ) (r : ResolvedEnds) → CssSide n last r (side_in last (end_in n last r.first) (end_in n last r.last))
+pub side_css : (n last : ℕ) (r : ResolvedEnds) → CssSide n last r (side_by last (end_in n last r.first) (end_in n last r.last))
 side_css n last r =
     let a = sides last (reads n last r.first) (reads n last r.last) in record { extent = a.0; lies = a.1; is = a.2 }
 
@@ -201,55 +193,3 @@ side_of_unique anywhere anywhere = refl
 pub side_unique : (n last : ℕ) (r : ResolvedEnds) (s t : Side) → CssSide n last r s → CssSide n last r t → s ≡ t
 side_unique n last r s t a b =
     side_of_unique a.is (rw (extent_unique b.lies a.lies) at b.is)
-
--- ---- what the code has at hand
-
--- both ends read, and the side that was made of them
-pub meets : (n last : ℕ) (r : ResolvedEnds) (c d : CellEnd) (s : Side) → c ≡ end_in n last r.first → d ≡ end_in n last r.last → s ≡ side_in last c d
-    → CssSide n last r s
-meets n last r c d s e f q = rw (q, e, f) (side_css n last r)
-
--- a grid line by its sign
-pub read_ahead : (n last g : ℕ) (z : ℤ) (e : CellEnd) → pos g ≡ z → e ≡ end_ahead last g → e ≡ end_in n last (at_line z)
-read_ahead n last g z e p q = rw (← p) q
-
-pub read_behind : (n last k : ℕ) (z : ℤ) (number : ℕ) → negsuc k ≡ z → number ≡ number_back n last k → Line number ≡ end_in n last (at_line z)
-read_behind n last k z number p q = rw (← p) (ap Line q)
-
--- a span by its sign
-pub span_ahead_of : (n : ℕ) (z : ℤ) (e : CellEnd) → pos n ≡ z → e ≡ Span (tracks_of n) → e ≡ Span (tracks_of (nat_abs z))
-span_ahead_of n z e p q = rw (← p) q
-
-pub span-behind : (k : ℕ) (z : ℤ) → negsuc k ≡ z → Span (k + 1) ≡ Span (tracks_of (nat_abs z))
-span-behind k z p = let y : k + 1 ≡ suc k = omega arith in rw (← p, y, ne_eqb (suc k) 0 (omega arith))
-
--- an end by its kind
-pub kind_line : (n last : ℕ) (kind number : ℤ) (e : CellEnd) → kind ≡ pos 1 → e ≡ end_in n last (at_line number) → e ≡ end_in n last (end_by kind number)
-kind_line n last kind number e p q = rw p q
-
-pub kind_span : (n last : ℕ) (kind number : ℤ) (e : CellEnd) → kind ≡ pos 3 → e ≡ Span (tracks_of (nat_abs number)) → e ≡ end_in n last (end_by kind number)
-kind_span n last kind number e p q = rw p q
-
-pub kind_other : (n last : ℕ) (kind number : ℤ) → (kind ≡ pos 1 → ⊥) → (kind ≡ pos 3 → ⊥) → Auto ≡ end_in n last (end_by kind number)
-kind_other n last (pos zero) number h g = refl
-kind_other n last (pos (suc zero)) number h g = absurd (h refl)
-kind_other n last (pos (suc (suc zero))) number h g = refl
-kind_other n last (pos (suc (suc (suc zero)))) number h g = absurd (g refl)
-kind_other n last (pos (suc (suc (suc (suc k))))) number h g = refl
-kind_other n last (negsuc k) number h g = refl
-
--- a number of 32 bits compared with a small one
-pub is_number : (z : ℤ) (n : ℕ) → SFits w32 z → n < 2147483648 → of_z w32 z ≡ n → z ≡ pos n
-is_number z n f h e = sym (to_z-of_z f) ∙ ap (to_z w32) e ∙ to_z-of_z (fits_pos_32 n h)
-
-pub is-not : (z : ℤ) (n : ℕ) → (of_z w32 z ≡ of_z w32 (pos n) → ⊥) → z ≡ pos n → ⊥
-is-not z n h e = h (ap (of_z w32) e)
-
--- numbers of 32 bits that were read
-pub read_back_end : (n last : ℕ) (kind number : ℤ) (e : CellEnd) → SFits w32 kind → SFits w32 number → e ≡ end_in n last (end_by (to_z w32 (of_z w32 kind)) (to_z w32 (of_z w32 number)))
-    → e ≡ end_in n last (end_by kind number)
-read_back_end n last kind number e f g q = q ∙ rw (to_z-of_z {w = w32} {z = kind} f, to_z-of_z {w = w32} {z = number} g)
-
--- a number before 0 of 32 bits
-pub below_32 : (k : ℕ) (z : ℤ) → negsuc k ≡ z → SFits w32 z → k < 2147483648
-below_32 k z e f = (rw (← e) at f).sfits

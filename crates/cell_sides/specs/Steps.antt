@@ -1,5 +1,5 @@
 -- The steps of the code: the number of a line, the end of a cell, and its side.
-use Rattle.std.specs.Prelude.{cond, ℕ, ◌+◌, ◌-◌, eqb, leb, ltb, pos, negsuc}
+use Rattle.std.specs.Prelude.{cond, ℕ, ◌+◌, ◌-◌, eqb, leb, ltb, pos, negsuc, Option, Some, None}
 use Rattle.name_rules.specs.Css.{Resolved, free, at_line, spanning}
 use Rattle.cell_sides.specs.declared.Side.{Side}
 use Rattle.cell_sides.specs.declared.Side.TheVariants.{Outside, Free, Fixed}
@@ -8,47 +8,43 @@ use Rattle.cell_sides.specs.declared.CellEnd.TheVariants.{Auto, Line, Span}
 
 -- ---- the end
 
--- a number that is one of the lines, else 0
-abbrev pub number_up_to : ℕ → ℕ → ℕ
-number_up_to last number = cond (leb number last) number 0
+-- a line by its number, where it is one of the lines
+abbrev pub line_up_to : ℕ → ℕ → Option CellEnd
+line_up_to last number = cond (leb number last) (Some (Line number)) None
 
-abbrev pub number_back : ℕ → ℕ → ℕ → ℕ
-number_back n last back = cond (leb back n) (number_up_to last (n + 1 - back)) 0
+abbrev pub line_back : ℕ → ℕ → ℕ → Option CellEnd
+line_back n last back = cond (leb back n) (line_up_to last (n + 1 - back)) None
 
-abbrev pub end_ahead : ℕ → ℕ → CellEnd
-end_ahead last line = cond (eqb line 0) Auto (Line (number_up_to last line))
+abbrev pub end_ahead : ℕ → ℕ → Option CellEnd
+end_ahead last line = cond (eqb line 0) (Some Auto) (line_up_to last line)
 
 abbrev pub tracks_of : ℕ → ℕ
 tracks_of k = cond (eqb k 0) 1 k
 
-abbrev pub end_in : ℕ → ℕ → Resolved → CellEnd
-end_in n last free = Auto
+abbrev pub end_in : ℕ → ℕ → Resolved → Option CellEnd
+end_in n last free = Some Auto
 end_in n last (at_line (pos g)) = end_ahead last g
-end_in n last (at_line (negsuc k)) = Line (number_back n last k)
-end_in n last (spanning k) = Span (tracks_of k)
+end_in n last (at_line (negsuc k)) = line_back n last k
+end_in n last (spanning k) = Some (Span (tracks_of k))
 
 -- ---- the side
 
-abbrev pub fixed_side : ℕ → ℕ → ℕ → Side
-fixed_side last start tracks =
-    cond (eqb start 0) Outside
-    (cond (ltb last start) Outside
+abbrev pub side_ahead : ℕ → ℕ → ℕ → Side
+side_ahead last start tracks =
+    cond (ltb last start) Outside
     (cond (ltb (last - start) tracks) Outside
-    (Fixed start (start + tracks))))
+    (Fixed start (start + tracks)))
 
 abbrev pub side_back : ℕ → ℕ → Side
 side_back tracks end = cond (ltb tracks end) (Fixed (end - tracks) end) Outside
 
 abbrev pub ordered_side : ℕ → ℕ → ℕ → Side
-ordered_side last start end = cond (ltb start end) (Fixed start end) (cond (ltb end start) (Fixed end start) (fixed_side last start 1))
+ordered_side last start end = cond (ltb start end) (Fixed start end) (cond (ltb end start) (Fixed end start) (side_ahead last start 1))
 
-abbrev pub lines_side : ℕ → ℕ → ℕ → Side
-lines_side last start end = cond (eqb start 0) Outside (cond (eqb end 0) Outside (ordered_side last start end))
-
-abbrev pub from_line : ℕ → ℕ → CellEnd → Side
-from_line last start Auto = fixed_side last start 1
-from_line last start (Line end) = lines_side last start end
-from_line last start (Span tracks) = fixed_side last start tracks
+abbrev pub line_side : ℕ → ℕ → CellEnd → Side
+line_side last start Auto = side_ahead last start 1
+line_side last start (Line end) = ordered_side last start end
+line_side last start (Span tracks) = side_ahead last start tracks
 
 abbrev pub from_span : ℕ → CellEnd → Side
 from_span start Auto = Free start
@@ -62,5 +58,11 @@ from_auto (Span tracks) = Free tracks
 
 abbrev pub side_in : ℕ → CellEnd → CellEnd → Side
 side_in last Auto e = from_auto e
-side_in last (Line s) e = from_line last s e
+side_in last (Line s) e = line_side last s e
 side_in last (Span k) e = from_span k e
+
+-- an end whose line is not among the lines leaves no side
+abbrev pub side_by : ℕ → Option CellEnd → Option CellEnd → Side
+side_by last (Some s) (Some e) = side_in last s e
+side_by last (Some s) None = Outside
+side_by last None e = Outside

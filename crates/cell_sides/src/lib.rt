@@ -5,15 +5,15 @@
 pub mod cell;
 
 // A cell in one axis: an edge leaves the lines, it has so many tracks and no line, or it lies between two lines.
-#[derive(Clone, Copy)]
+#[derive(Clone, Copy, Debug, PartialEq, Eq)]
 pub enum Side {
     Outside,
     Free(u32),
     Fixed(u32, u32),
 }
 
-// A settled end: no line, the number of a line, 0 where it is not among the lines, or so many tracks.
-#[derive(Clone, Copy)]
+// A settled end: no line, a line by its number, or so many tracks.
+#[derive(Clone, Copy, Debug, PartialEq, Eq)]
 pub enum CellEnd {
     Auto,
     Line(u32),

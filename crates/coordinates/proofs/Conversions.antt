@@ -12,6 +12,10 @@ use Rattle.coordinates.specs.Signed.{sixteen_bits}
 use Rattle.coordinates.specs.Answers.{held_line, refused_conversion, converted_line, grid_line_of, implied_negative, implied_positive}
 use Rattle.coordinates.proofs.Integers.{minus_at, minus_before}
 
+-- a refusal has zeros beside it
+pub refused-zeros : (n : ℕ) → ((refused_conversion n).line.0 ≡ pos 0) × ((refused_conversion n).held ≡ false)
+refused-zeros n = (refl, refl)
+
 module _ (n : ℕ) (g : ℤ) where
   pub converted-zero : (m : ℕ) → pos m ≡ g → m ≡ 0 → refused_conversion zero_line ≡ converted_line n g
   converted-zero m e z = rw (← e, z)

@@ -1,13 +1,35 @@
 -- What the calls of layer 1 answer: a refusal with zeros beside it, or the line or count.
-use Rattle.std.specs.Prelude.{ℕ, zero, suc, ◌+◌, ◌-◌, Bool, true, false, cond, ltb, ℤ, pos, negsuc}
-use Rattle.coordinates.specs.Refusals.{no_refusal, refusal_of, count, zero_line}
+use Rattle.std.specs.Prelude.{ℕ, zero, suc, ◌+◌, ◌-◌, Bool, true, false, cond, ltb, ℤ, pos, negsuc, Result, Ok, Err}
+use Rattle.coordinates.specs.Refusals.{no_refusal, refusal_of, number_of, count, zero_line}
 use Rattle.coordinates.specs.Lines.{held, outside, uncut, to_grid_line}
 use Rattle.coordinates.specs.declared.line.OriginZeroLine.{OriginZeroLine}
 use Rattle.coordinates.specs.declared.line.GridLine.{GridLine}
-use Rattle.coordinates.specs.declared.line.OriginZeroAnswer.{OriginZeroAnswer}
-use Rattle.coordinates.specs.declared.line.ConvertedLine.{ConvertedLine}
-use Rattle.coordinates.specs.declared.line.GridLineAnswer.{GridLineAnswer}
-use Rattle.coordinates.specs.declared.line.CountAnswer.{CountAnswer}
+use Rattle.coordinates.specs.declared.line.MarkedLine.{MarkedLine}
+use Rattle.coordinates.specs.declared.refusal.Refusal.{Refusal}
+use Rattle.coordinates.specs.declared.refusal.Fault.{Fault}
+
+-- ---- answers in this paper's numbers and values: a refusal, and beside it zeros
+
+-- an origin-zero line
+pub record OriginZeroAnswer : Type 0 where
+  pub refusal : Refusal
+  pub line : OriginZeroLine
+
+-- a grid line as an origin-zero line, and its mark: whether it was held at an end
+pub record ConvertedLine : Type 0 where
+  pub refusal : Refusal
+  pub line : OriginZeroLine
+  pub held : Bool
+
+-- a grid line
+pub record GridLineAnswer : Type 0 where
+  pub refusal : Refusal
+  pub line : GridLine
+
+-- a number of tracks
+pub record CountAnswer : Type 0 where
+  pub refusal : Refusal
+  pub count : ℕ
 
 abbrev pub clamped_of : ℤ → OriginZeroLine
 clamped_of z = record { 0 = held z }
@@ -68,3 +90,21 @@ implied_negative_answer l = cond (outside l) (refused_count count) (count_answer
 
 unfoldable pub implied_positive_answer : ℕ → ℤ → CountAnswer
 implied_positive_answer n l = cond (ltb 10000 n) (refused_count count) (cond (outside l) (refused_count count) (count_answer (implied_positive n l)))
+
+-- ---- the numbers and values of what a call answers
+
+abbrev pub answered_line : Result OriginZeroLine Fault → OriginZeroAnswer
+answered_line (Ok l) = line_answer l.0
+answered_line (Err fault) = refused_line (number_of fault)
+
+abbrev pub answered_conversion : Result MarkedLine Fault → ConvertedLine
+answered_conversion (Ok m) = record { refusal = no_refusal; line = m.line; held = m.held }
+answered_conversion (Err fault) = refused_conversion (number_of fault)
+
+abbrev pub answered_grid_line : Result GridLine Fault → GridLineAnswer
+answered_grid_line (Ok g) = grid_line_of g.0
+answered_grid_line (Err fault) = refused_grid_line (number_of fault)
+
+abbrev pub answered_count : Result ℕ Fault → CountAnswer
+answered_count (Ok n) = count_answer n
+answered_count (Err fault) = refused_count (number_of fault)

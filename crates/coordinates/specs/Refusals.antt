@@ -1,6 +1,8 @@
 -- Document 01, the table of refusals: a fault is answered by its number and place.
-use Rattle.std.specs.Prelude.{ℕ}
+use Rattle.std.specs.Prelude.{ℕ, Option, Some, None, Result, Ok, Err}
 use Rattle.coordinates.specs.declared.refusal.Refusal.{Refusal}
+use Rattle.coordinates.specs.declared.refusal.Fault.{Fault}
+use Rattle.coordinates.specs.declared.refusal.Fault.TheVariants.{Unread, Name, Value, Count, Area, Twice, Late, Crowded, ZeroLine, Short, Indefinite, Overlap, Unequal, Broken, Unplaced}
 
 -- nothing is refused: both numbers are zero
 abbrev pub no_refusal : Refusal
@@ -61,3 +63,31 @@ broken = 14
 -- document 02, Req 10: an item that can't be placed
 abbrev pub unplaced : ℕ
 unplaced = 15
+
+-- the number of a fault in the table
+abbrev pub number_of : Fault → ℕ
+number_of Unread = unread
+number_of Name = name
+number_of Value = value
+number_of Count = count
+number_of Area = area
+number_of Twice = twice
+number_of Late = late
+number_of Crowded = crowded
+number_of ZeroLine = zero_line
+number_of Short = short
+number_of Indefinite = indefinite
+number_of Overlap = overlap
+number_of Unequal = unequal
+number_of Broken = broken
+number_of Unplaced = unplaced
+
+-- the number of a fault that may be absent: 0 where there is none
+abbrev pub fault_number : Option Fault → ℕ
+fault_number None = 0
+fault_number (Some fault) = number_of fault
+
+-- the number of a refusal, 0 where a call answers
+abbrev pub refused_by : {A : Type 0} → Result A Fault → ℕ
+refused_by (Ok a) = 0
+refused_by (Err fault) = number_of fault

@@ -2,28 +2,32 @@
 ghost use Rattle.std.specs.Prelude.{◌≡◌};
 ghost use Rattle.coordinates.specs.Axes.{axis_number, axis_of};
 
-#[derive(Clone, Copy)]
+#[derive(Clone, Copy, Debug, PartialEq, Eq)]
 pub enum Axis {
     Column,
     Row,
 }
 
-// The number of an axis: 0 the columns, 1 the rows.
-pub fn axis_number(axis: Axis) -> u32
-    ensures { result ≡ axis_number axis }
-{
-    match axis {
-        Axis::Column => 0,
-        Axis::Row => 1,
+impl From<Axis> for u32 {
+    ghost from_gives = { λ axis number. number ≡ axis_number axis };
+
+    // The number of an axis: 0 the columns, 1 the rows.
+    fn from(axis: Axis) -> u32 {
+        match axis {
+            Axis::Column => 0,
+            Axis::Row => 1,
+        }
     }
 }
 
-// The axis of a number.
-pub fn axis_of(number: u32) -> Axis
-    ensures { result ≡ axis_of number }
-{
-    if number == 0 {
-        return Axis::Column;
+impl From<u32> for Axis {
+    ghost from_gives = { λ number axis. axis ≡ axis_of number };
+
+    // The axis of a number; any other than the columns' counts as the rows'.
+    fn from(number: u32) -> Axis {
+        match number {
+            0 => Axis::Column,
+            _ => Axis::Row,
+        }
     }
-    Axis::Row
 }

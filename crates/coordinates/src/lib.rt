@@ -9,5 +9,5 @@ pub mod refusal;
 pub mod signed;
 
 pub use axis::Axis;
-pub use line::{GridLine, OriginZeroLine};
-pub use refusal::Refusal;
+pub use line::{GridLine, MarkedLine, OriginZeroLine};
+pub use refusal::{Fault, Refusal};

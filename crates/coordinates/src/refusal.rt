@@ -1,6 +1,6 @@
 // The refusals of document 01's table, and those that document 02 adds, by number.
 ghost use Rattle.std.specs.Prelude.{◌≡◌};
-ghost use Rattle.coordinates.specs.Refusals.{no_refusal, refusal_of};
+ghost use Rattle.coordinates.specs.Refusals.{no_refusal, refusal_of, number_of};
 
 // unread: a sheet too long, or a line of no form
 pub const UNREAD: u32 = 1;
@@ -32,6 +32,51 @@ pub const UNEQUAL: u32 = 13;
 pub const BROKEN: u32 = 14;
 // unplaced: a cell for which no place is free, or whose lines leave the columns or the rows (document 02, Req 10)
 pub const UNPLACED: u32 = 15;
+
+// A fault of the table: why a call is refused.
+#[derive(Clone, Copy, Debug, PartialEq, Eq)]
+pub enum Fault {
+    Unread,
+    Name,
+    Value,
+    Count,
+    Area,
+    Twice,
+    Late,
+    Crowded,
+    ZeroLine,
+    Short,
+    Indefinite,
+    Overlap,
+    Unequal,
+    Broken,
+    Unplaced,
+}
+
+impl From<Fault> for u32 {
+    ghost from_gives = { λ fault number. number ≡ number_of fault };
+
+    // The number of a fault in the table.
+    fn from(fault: Fault) -> u32 {
+        match fault {
+            Fault::Unread => UNREAD,
+            Fault::Name => NAME,
+            Fault::Value => VALUE,
+            Fault::Count => COUNT,
+            Fault::Area => AREA,
+            Fault::Twice => TWICE,
+            Fault::Late => LATE,
+            Fault::Crowded => CROWDED,
+            Fault::ZeroLine => ZERO_LINE,
+            Fault::Short => SHORT,
+            Fault::Indefinite => INDEFINITE,
+            Fault::Overlap => OVERLAP,
+            Fault::Unequal => UNEQUAL,
+            Fault::Broken => BROKEN,
+            Fault::Unplaced => UNPLACED,
+        }
+    }
+}
 
 // A refusal: its number, 0 where nothing is refused, and its place, the sheet's line, 0 for a call without a sheet.
 #[derive(Clone, Copy)]

@@ -1,5 +1,5 @@
 // Whole numbers by their sign, so that all arithmetic is on unsigned counts.
-ghost use Rattle.std.specs.Prelude.{◌≡◌, ◌<◌, min, pos, ◌+ℤ◌, ◌-ℤ◌};
+ghost use Rattle.std.specs.Prelude.{◌≡◌, ◌<◌, pos, ◌+ℤ◌, ◌-ℤ◌};
 ghost use Rattle.coordinates.specs.Signed.{HeldAs, integer_of, sixteen_bits, Split};
 
 // `NonNegative(n)` is n, and `Negative(k)` is -(k + 1).
@@ -42,20 +42,13 @@ fn count_of_16_bits(n: u32) -> i16
     n as i16
 }
 
-// The smaller of a count and a limit.
-fn at_most(n: u32, limit: u32) -> u32
-    ensures { result ≡ min n limit }
-{
-    if n < limit { n } else { limit }
-}
-
 // The number of 16 bits, or the nearest there is.
 pub fn joined(value: Signed) -> i16
     ensures { result ≡ sixteen_bits (integer_of value) }
 {
     match value {
-        Signed::NonNegative(n) => count_of_16_bits(at_most(n, 32767)),
-        Signed::Negative(k) => -1 - count_of_16_bits(at_most(k, 32767)),
+        Signed::NonNegative(n) => count_of_16_bits(n.min(32767)),
+        Signed::Negative(k) => -1 - count_of_16_bits(k.min(32767)),
     }
 }
 
@@ -109,11 +102,11 @@ pub fn hold(value: Signed) -> HeldLine
 {
     match value {
         Signed::NonNegative(n) => HeldLine {
-            line: Signed::NonNegative(at_most(n, 10000)),
+            line: Signed::NonNegative(n.min(10000)),
             held: 10000 < n,
         },
         Signed::Negative(k) => HeldLine {
-            line: Signed::Negative(at_most(k, 9999)),
+            line: Signed::Negative(k.min(9999)),
             held: 9999 < k,
         },
     }

@@ -1,4 +1,5 @@
 -- The count of repetitions in steps is layer 3's, and one walk gathers the whole of a template. Assumes nothing.
+use Rattle.std.specs.Prelude.{Option, Some, None}
 use Prim.Native.Nat.{ℕ, ◌*◌, ◌^◌, ◌≤◌, ◌<◌, min, max}
 use mathlib.Core.Path.{◌≡◌, refl, sym, ◌∙◌}
 use mathlib.Core.Bool.{Bool, true, false, cond, not, ◌&&◌, ◌||◌, true≢false}
@@ -15,8 +16,6 @@ use Rattle.template_rules.specs.Summary.{meaning_of, no_components, steps_in, fi
 use Rattle.template_rules.specs.Repetitions.{room, first_space, quotient, whole_of, one_more, wanted_of, fitting_of, held_of, repetitions_of}
 use Rattle.template_rules.specs.Explicit.{valid_of, template_size_of}
 use Rattle.template_rules.specs.Bounds.{Gathered}
-use Rattle.template_rules.specs.declared.InnerSize.{InnerSize}
-use Rattle.template_rules.specs.declared.InnerSize.TheVariants.{Definite, Indefinite}
 use Rattle.template_rules.specs.declared.AutoRepeatStrategy.{AutoRepeatStrategy}
 use Rattle.template_rules.specs.declared.TemplateSummary.{TemplateSummary}
 use Rattle.template_rules.proofs.FirstPart.{first_part_all, most-steps}
@@ -27,7 +26,7 @@ use Rattle.explicit_size.specs.Steps.{spaces_by, count_by}
 
 -- ---- the walk
 module _ (words minimums maximums : List ℕ) where
-  length-template : length (template_of words minimums maximums) ≡ length words
+  pub length-template : length (template_of words minimums maximums) ≡ length words
   unfolding template_of
   length-template = length-map words (λ (w : ℕ). with_tracks minimums maximums (component_of w))
 
@@ -67,14 +66,14 @@ held_smaller p k n h some = go (leb 10000 p) refl
     go false e = let g : p < 10000 = leb-false 10000 p e in rw e (free n (room p k) some (room-some p k h g) (room_most p k h g))
 
 -- at least one repetition is wanted
-wanted_some : (inner : InnerSize) (strategy : AutoRepeatStrategy) (gap : Sizing) (s : TemplateSummary) → 1 ≤ wanted_of inner strategy gap s
+wanted_some : (inner : Option Float) (strategy : AutoRepeatStrategy) (gap : Sizing) (s : TemplateSummary) → 1 ≤ wanted_of inner strategy gap s
 unfolding fitting_of
-wanted_some (Definite x) strategy gap s = go (lt x (first_space s (gap_of gap x))) (whole_of strategy (quotient s x (gap_of gap x)))
+wanted_some (Some x) strategy gap s = go (lt x (first_space s (gap_of gap x))) (whole_of strategy (quotient s x (gap_of gap x)))
   where
     go : (t : Bool) (n : ℕ) → 1 ≤ cond t 1 (one_more n)
     go true n = omega arith
     go false n = omega arith
-wanted_some Indefinite strategy gap s = omega arith
+wanted_some None strategy gap s = omega arith
 
 -- a valid template with automatic repeats has one
 one_automatic : (a b c d : Bool) → (a && (b || (c && d))) ≡ true → b ≡ false → c ≡ true
@@ -85,7 +84,7 @@ one_automatic false b c d e h = absurd (true≢false (sym e))
 
 module _ (s : TemplateSummary) (h : Gathered 64 s) where
   -- layer 3's count
-  pub counted : (inner : InnerSize) (strategy : AutoRepeatStrategy) (gap : Sizing) (g : Float)
+  pub counted : (inner : Option Float) (strategy : AutoRepeatStrategy) (gap : Sizing) (g : Float)
       → (template_size_of inner strategy gap s).repetitions ≡ min (wanted_of inner strategy gap s) (spaces_by s g).most
   unfolding template_size_of spaces_by repetitions_of
   counted inner strategy gap g = go (valid_of s) refl (eqb s.automatic 0) refl
@@ -99,10 +98,10 @@ module _ (s : TemplateSummary) (h : Gathered 64 s) where
           rw (e, f, o) (held_smaller s.before s.repeated (wanted_of inner strategy gap s) (h.filled full (above_test s.automatic f)) (wanted_some inner strategy gap s))
 
   -- at an inner size it is the count of the steps
-  pub counted-at : (x : Float) (strategy : AutoRepeatStrategy) (gap : Sizing) → (template_size_of (Definite x) strategy gap s).repetitions ≡ count_by strategy x (spaces_by s (gap_of gap x))
+  pub counted-at : (x : Float) (strategy : AutoRepeatStrategy) (gap : Sizing) → (template_size_of (Some x) strategy gap s).repetitions ≡ count_by strategy x (spaces_by s (gap_of gap x))
   unfolding count_by spaces_by fitting_of
-  counted-at x strategy gap = counted (Definite x) strategy gap (gap_of gap x) ∙ go (asks_of s) refl
+  counted-at x strategy gap = counted (Some x) strategy gap (gap_of gap x) ∙ go (asks_of s) refl
     where
-      go : (t : Bool) → asks_of s ≡ t → min (wanted_of (Definite x) strategy gap s) (spaces_by s (gap_of gap x)).most ≡ count_by strategy x (spaces_by s (gap_of gap x))
+      go : (t : Bool) → asks_of s ≡ t → min (wanted_of (Some x) strategy gap s) (spaces_by s (gap_of gap x)).most ≡ count_by strategy x (spaces_by s (gap_of gap x))
       go true e = rw e
       go false e = rw e (sym (none_of _) ∙ none_of _)

@@ -1,11 +1,10 @@
 -- The automatic repeat of a template (document 01, layer 3): whether there is one that counts, and how often it is written out at an inner size.
-use Rattle.std.specs.Prelude.{ℕ, Bool, cond, ◌&&◌, List, eqb, leb, length, Float}
+use Rattle.std.specs.Prelude.{ℕ, Bool, cond, ◌&&◌, List, eqb, leb, length, Float, Option}
 use Rattle.sizing.specs.Words.{zero32}
 use Rattle.sizing.specs.declared.Sizing.{Sizing}
 use Rattle.template_rules.specs.Template.{Component}
 use Rattle.template_rules.specs.Summary.{meaning_of, no_components}
 use Rattle.template_rules.specs.Explicit.{valid_of, template_size_of, inner_value}
-use Rattle.template_rules.specs.declared.InnerSize.{InnerSize}
 use Rattle.template_rules.specs.declared.AutoRepeatStrategy.{AutoRepeatStrategy}
 use Rattle.template_rules.specs.declared.TemplateSummary.{TemplateSummary}
 
@@ -21,5 +20,5 @@ unfoldable pub repeats_automatically : List Component → Bool
 repeats_automatically cs = asks_of (gathered_of zero32 cs)
 
 -- the repetitions of layer 3, not refused by the tracks that they come to: 0 where the template counts as none or has no automatic repeat
-unfoldable pub repetitions_in : InnerSize → AutoRepeatStrategy → Sizing → List Component → ℕ
+unfoldable pub repetitions_in : Option Float → AutoRepeatStrategy → Sizing → List Component → ℕ
 repetitions_in inner strategy gap cs = (template_size_of inner strategy gap (gathered_of (inner_value inner) cs)).repetitions

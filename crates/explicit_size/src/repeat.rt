@@ -1,59 +1,71 @@
 // The automatic repeat of a template: what decides how often it is written out, and how often that is at an inner size.
-ghost use Rattle.std.specs.Prelude.{◌≡◌, min};
-ghost use Rattle.template_rules.specs.Template.{template_of};
+ghost use Rattle.std.specs.Prelude.{◌≡◌};
+ghost use Rattle.template_rules.specs.Template.{template_of, components_of};
 ghost use Rattle.template_rules.specs.Bounds.{Gathered};
 ghost use Rattle.explicit_size.specs.Repeat.{gathered_of, asks_of, repeats_automatically, repetitions_in};
 ghost use Rattle.explicit_size.specs.Steps.{spaces_by, count_by};
 
-use crate::repetitions::{
-    first_repetition_space, fit_in, further_repetition_space, held_repetitions,
-};
-use crate::size::{EVERY_STEP, is_valid};
+use crate::repetitions::{AutomaticRepeat, MOST_TRACKS, fit_in};
+use crate::size::is_valid;
 use sizing::Sizing;
 use sizing::definite::gap_value;
-use template_rules::{AutoRepeatStrategy, InnerSize, TemplateSummary};
+use template_rules::{AutoRepeatStrategy, Template, TemplateSummary};
 use template_summary::summary::template_summary;
+
+// As many steps as a template of any words can have: 64 components, each of at most 65,535 tracks.
+const EVERY_STEP: u64 = 64 * 0x1_0000;
 
 // What of a template decides how often its automatic repeat is written out, whatever the inner size: the space of the first repetition with
 // the tracks outside it and the gaps, that of each further one, and the most repetitions.
-#[derive(Clone, Copy)]
+#[derive(Clone, Copy, Debug, PartialEq)]
 pub struct RepeatSpaces {
     pub first: f32,
     pub further: f32,
     pub most: u32,
 }
 
-// The smaller of two counts.
-fn smaller(a: u32, b: u32) -> u32
-    ensures { result ≡ min a b }
+// What is gathered of a whole template, from its tables: their words hold no more steps than it is given.
+fn gathered_of_tables(
+    components: &[u64],
+    minimums: &[u64],
+    maximums: &[u64],
+    inner: f32,
+) -> TemplateSummary
+    ensures { (result ≡ gathered_of inner (template_of components.now minimums.now maximums.now)) × Gathered 64 result }
 {
-    if a < b {
-        return a;
-    }
-    b
+    let template = Template {
+        components,
+        minimums,
+        maximums,
+    };
+    template_summary(template, inner, EVERY_STEP)
 }
 
 // What is gathered of a whole template.
-#[tactic(auto, unfolding(crate::specs::Repeat::gathered_of))]
-fn gathered(components: &[u64], minimums: &[u64], maximums: &[u64], inner: f32) -> TemplateSummary
-    ensures { (result ≡ gathered_of inner (template_of components.now minimums.now maximums.now)) × Gathered 64 result }
+pub(crate) fn gathered(template: Template<'_>, inner: f32) -> TemplateSummary
+    ensures { (result ≡ gathered_of inner (components_of template.entry)) × Gathered 64 result }
 {
-    template_summary(components, minimums, maximums, inner, EVERY_STEP)
+    gathered_of_tables(
+        template.components,
+        template.minimums,
+        template.maximums,
+        inner,
+    )
 }
 
 // Whether a template counts and has an automatic repeat.
 fn asks(summary: TemplateSummary) -> bool
     ensures { result ≡ asks_of summary }
 {
-    is_valid(summary) & (summary.automatic == 1)
+    is_valid(summary) && summary.automatic == 1
 }
 
 // The same of a template by its words.
 #[tactic(auto, unfolding(crate::specs::Repeat::repeats_automatically))]
-pub fn repeats_automatically(components: &[u64], minimums: &[u64], maximums: &[u64]) -> bool
-    ensures { result ≡ repeats_automatically (template_of components.now minimums.now maximums.now) }
+pub fn repeats_automatically(template: Template<'_>) -> bool
+    ensures { result ≡ repeats_automatically (components_of template.entry) }
 {
-    asks(gathered(components, minimums, maximums, 0.0))
+    asks(gathered(template, 0.0))
 }
 
 // What decides the count, from what is gathered; zeros where there is no automatic repeat that counts.
@@ -63,10 +75,11 @@ fn spaces_by(summary: TemplateSummary, gap: f32) -> RepeatSpaces
     ensures { result ≡ spaces_by summary gap }
 {
     if asks(summary) {
+        let repeat = AutomaticRepeat { summary };
         return RepeatSpaces {
-            first: first_repetition_space(summary, gap),
-            further: further_repetition_space(summary, gap),
-            most: held_repetitions(summary.before, summary.repeated, 10000) as u32,
+            first: repeat.first_repetition_space(gap),
+            further: repeat.further_repetition_space(gap),
+            most: repeat.held_repetitions(MOST_TRACKS) as u32,
         };
     }
     RepeatSpaces {
@@ -77,16 +90,10 @@ fn spaces_by(summary: TemplateSummary, gap: f32) -> RepeatSpaces
 }
 
 // What decides the count, percentages taken of an inner size.
-pub fn repeat_spaces(
-    components: &[u64],
-    minimums: &[u64],
-    maximums: &[u64],
-    inner: f32,
-    gap: f32,
-) -> RepeatSpaces
-    ensures { (result ≡ spaces_by (gathered_of inner (template_of components.now minimums.now maximums.now)) gap) × Gathered 64 (gathered_of inner (template_of components.now minimums.now maximums.now)) }
+pub fn repeat_spaces(template: Template<'_>, inner: f32, gap: f32) -> RepeatSpaces
+    ensures { (result ≡ spaces_by (gathered_of inner (components_of template.entry)) gap) × Gathered 64 (gathered_of inner (components_of template.entry)) }
 {
-    spaces_by(gathered(components, minimums, maximums, inner), gap)
+    spaces_by(gathered(template, inner), gap)
 }
 
 // The count at an inner size.
@@ -94,34 +101,29 @@ pub fn repeat_spaces(
 pub fn repetitions_in(spaces: RepeatSpaces, strategy: AutoRepeatStrategy, inner: f32) -> u32
     ensures { result ≡ count_by strategy inner spaces }
 {
-    smaller(
-        fit_in(strategy, inner, spaces.first, spaces.further),
-        spaces.most,
-    )
+    fit_in(strategy, inner, spaces.first, spaces.further).min(spaces.most)
 }
 
 // How often the automatic repeat of a template is written out: 0 where the template counts as none, has no automatic repeat or has more than
 // 64 components. The tracks that it comes to refuse nothing here.
 #[tactic(auto, unfolding(crate::specs::Repeat::repetitions_in))]
 pub fn template_repetitions(
-    components: &[u64],
-    minimums: &[u64],
-    maximums: &[u64],
-    inner: InnerSize,
+    template: Template<'_>,
+    inner: Option<f32>,
     strategy: AutoRepeatStrategy,
     gap: Sizing,
 ) -> u32
-    ensures { result ≡ repetitions_in inner strategy gap (template_of components.now minimums.now maximums.now) }
+    ensures { result ≡ repetitions_in inner strategy gap (components_of template.entry) }
 {
     match inner {
-        InnerSize::Definite(x) => {
+        Some(x) => {
             let value = gap_value(gap, x);
-            let spaces = repeat_spaces(components, minimums, maximums, x, value);
+            let spaces = repeat_spaces(template, x, value);
             repetitions_in(spaces, strategy, x)
         }
-        InnerSize::Indefinite => {
-            let spaces = repeat_spaces(components, minimums, maximums, 0.0, 0.0);
-            smaller(1, spaces.most)
+        None => {
+            let spaces = repeat_spaces(template, 0.0, 0.0);
+            spaces.most.min(1)
         }
     }
 }

@@ -2,25 +2,43 @@
 
 #![tactic(auto)]
 
-ghost use Rattle.std.specs.Prelude.{◌≡◌};
+ghost use Rattle.std.specs.Prelude.{◌≡◌, Some};
 ghost use Rattle.sizing.specs.Words.{largest_bits, float_up_to, sizing_of};
 ghost use Rattle.template_rules.specs.Template.{template_of};
-ghost use Rattle.template_rules.specs.Explicit.{explicit_size_of};
-ghost use Rattle.template_rules.specs.declared.InnerSize.TheVariants.{Definite};
+ghost use Rattle.template_rules.specs.Explicit.{explicit_size_of, answered_size};
 ghost use Rattle.template_rules.specs.declared.AutoRepeatStrategy.TheVariants.{MaxRepetitionsThatDoNotOverflow};
 ghost use Rattle.explicit_size_bench.specs.Numbers.{numbers_of};
 
+use coordinates::Fault;
 use explicit_size::compute_explicit_grid_size_in_axis;
 use sizing::word::{length_of, sizing_of};
-use template_rules::{AutoRepeatStrategy, InnerSize};
+use template_rules::{AutoRepeatStrategy, ExplicitSize, Template};
 
 // The answer as numbers: the refusal, 0 where there is none, the repetitions and the explicit count.
 #[repr(C)]
-#[derive(Clone, Copy)]
+#[derive(Clone, Copy, Debug, PartialEq, Eq)]
 pub struct SizeNumbers {
     pub number: u32,
     pub repetitions: u32,
     pub explicit: u32,
+}
+
+// An answer as numbers.
+fn numbers_of(answer: Result<ExplicitSize, Fault>) -> SizeNumbers
+    ensures { result ≡ numbers_of (answered_size answer) }
+{
+    match answer {
+        Ok(size) => SizeNumbers {
+            number: 0,
+            repetitions: size.repetitions,
+            explicit: size.explicit,
+        },
+        Err(fault) => SizeNumbers {
+            number: u32::from(fault),
+            repetitions: 0,
+            explicit: 0,
+        },
+    }
 }
 
 // The explicit size of a template in an inner size, by rule max and without areas. Sizes are bits and words.
@@ -32,20 +50,18 @@ pub extern "C" fn explicit_size_in_axis(
     inner: u32,
     gap: u64,
 ) -> SizeNumbers
-    ensures { result ≡ numbers_of (explicit_size_of (Definite (float_up_to largest_bits inner)) MaxRepetitionsThatDoNotOverflow (sizing_of gap) 0 (template_of components.now minimums.now maximums.now)) }
+    ensures { result ≡ numbers_of (explicit_size_of (Some (float_up_to largest_bits inner)) MaxRepetitionsThatDoNotOverflow (sizing_of gap) 0 (template_of components.now minimums.now maximums.now)) }
 {
-    let size = compute_explicit_grid_size_in_axis(
+    let template = Template {
         components,
         minimums,
         maximums,
-        InnerSize::Definite(length_of(inner)),
+    };
+    numbers_of(compute_explicit_grid_size_in_axis(
+        template,
+        Some(length_of(inner)),
         AutoRepeatStrategy::MaxRepetitionsThatDoNotOverflow,
         sizing_of(gap),
         0,
-    );
-    SizeNumbers {
-        number: size.refusal.number,
-        repetitions: size.repetitions,
-        explicit: size.explicit,
-    }
+    ))
 }

@@ -2,9 +2,14 @@
 use mathlib.Core.Path.{◌≡◌, refl, sym, ◌∙◌}
 use mathlib.Core.Bool.{Bool, true, false, cond, ◌&&◌, false≢true}
 use mathlib.Core.List.{List}
-use Prim.Native.Nat.{ℕ, ◌+◌, ◌≤◌, ◌<◌}
+use Prim.Native.Nat.{ℕ, ◌+◌, ◌≤◌, ◌<◌, max}
 use native.Mathlib.Omega.{arith}
 use native.Mathlib.Nat.{mod-lt}
+use Rattle.std.specs.Prelude.{Option, Some, None, length}
+use Rattle.std.specs.List.{position, position_or_len}
+use Rattle.std.proofs.lemmas.List.Quantifiers.{position-Some}
+use Rattle.std.proofs.lemmas.List.Sums.{fails_before_first}
+use Rattle.std.proofs.lemmas.Option.{none-some}
 use lib.Dec.{leb, ltb}
 use borrow.Author.Tests.{ltb-true, ltb-false, lt-ltb, leb-true, leb-false}
 use Rattle.coordinates.specs.declared.axis.Axis.{Axis}
@@ -12,8 +17,8 @@ use Rattle.coordinates.specs.declared.axis.Axis.TheVariants.{Column, Row}
 use Rattle.free_cells.specs.declared.Lines.{Lines}
 use Rattle.free_cells.specs.declared.Rectangle.{Rectangle}
 use Rattle.free_cells.specs.Words.{lines_of, lines_word, rectangle_of, rectangle_in}
-use Rattle.free_cells.specs.Free.{Overlap, tracks_from, along, Clear, FirstInWay, FreeLine, FirstOr0, first, nowhere}
-use Rattle.free_cells.specs.Steps.{overlaps, end_along, NextEnd, nearer_end, at_least1}
+use Rattle.free_cells.specs.Free.{Overlap, tracks_from, along, Clear, FirstInWay, InWay, FreeLine, FirstOr0, first, nowhere}
+use Rattle.free_cells.specs.Steps.{overlaps, end_along, NextEnd, nearer_end}
 
 -- ---- the test
 
@@ -51,30 +56,23 @@ pub none_at_0 : (r : Rectangle) → Overlap (rectangle_of 0) r → ⊥
 unfolding rectangle_of lines_of
 none_at_0 r o = let h : r.columns.start < 0 = o.columns.after in omega arith
 
--- ---- in the way: the first of so many rectangles
+-- ---- in the way: the first of these rectangles
 
-module _ (words : List ℕ) (count : ℕ) (r : Rectangle) where
-  -- the first that was found
-  pub way-found : (i : ℕ) → i < count → ((j : ℕ) → j < i → Overlap (rectangle_in words j) r → ⊥) → overlaps (rectangle_in words i) r ≡ true
-      → FirstInWay words count r i
-  way-found i h before t = record { before = λ j w v o. before j w o; here = λ w. (h, overlaps_to (rectangle_in words i) r t) }
+abbrev hits : Rectangle → ℕ → Bool
+hits r w = overlaps (rectangle_of w) r
 
-  -- none was found
-  pub way-clear : (i : ℕ) → count ≤ i → ((j : ℕ) → j < i → Overlap (rectangle_in words j) r → ⊥) → FirstInWay words count r 256
-  way-clear i h before = record { before = λ j w v o. before j (omega arith) o; here = λ w. absurd (omega arith) }
-
--- what was passed and one more
-pub passed-more : (words : List ℕ) (r : Rectangle) (i : ℕ) → ((j : ℕ) → j < i → Overlap (rectangle_in words j) r → ⊥) → overlaps (rectangle_in words i) r ≡ false
-    → (j : ℕ) → j < i + 1 → Overlap (rectangle_in words j) r → ⊥
-passed-more words r i before f j w o = go (ltb j i) refl
+none-hits : (words : List ℕ) (r : Rectangle) → ◌≡◌ {A = Option ℕ} None (position (hits r) words) → Clear words (length words) r
+none-hits words r e j w o = go (ltb (position_or_len (hits r) words) (length words)) refl e
   where
-    go : (t : Bool) → ltb j i ≡ t → ⊥
-    go true e = before j (ltb-true j i e) o
-    go false e = let z : j ≡ i = omega (arith, ltb-false j i e) in apart (rectangle_in words i) r f (rw z at o)
+    go : (t : Bool) → ltb (position_or_len (hits r) words) (length words) ≡ t → ◌≡◌ {A = Option ℕ} None (cond t (Some (position_or_len (hits r) words)) None) → ⊥
+    go true q z = none-some (position_or_len (hits r) words) z
+    go false q z = apart (rectangle_in words j) r (fails_before_first (hits r) words j 0 (omega (arith, ltb-false (position_or_len (hits r) words) (length words) q, w))) o
 
--- nothing is in the way where the index is 256
-pub way-none : (words : List ℕ) (count : ℕ) (r : Rectangle) (i : ℕ) → count ≤ 256 → 256 ≤ i → FirstInWay words count r i → Clear words count r
-way-none words count r i few h f j w o = f.before j (omega arith) w o
+pub way_by : (words : List ℕ) (r : Rectangle) (found : Option ℕ) → found ≡ position (λ w. overlaps (rectangle_of w) r) words → InWay words (length words) r found
+way_by words r (Some i) e =
+    let p = position-Some (hits r) words i 0 (sym e) in
+    record { held = p.0; before = λ j w. apart (rectangle_in words j) r (p.2 j w); here = overlaps_to (rectangle_in words i) r p.1 }
+way_by words r None e = none-hits words r e
 
 -- ---- the next end of a row
 
@@ -135,36 +133,23 @@ module _ (words : List ℕ) (count : ℕ) (axis : Axis) (last from tracks : ℕ)
   abbrev pub NoneBefore : ℕ → Type 0
   NoneBefore at = (m : ℕ) → m < at → Here m → ⊥
 
-  pub line-begins : (at : ℕ) → at ≡ at_least1 from → NoneBefore at
-  line-begins at e m w h = go (leb 1 from) refl (e ∙ refl)
-    where
-      go : (t : Bool) → leb 1 from ≡ t → at ≡ cond t from 1 → ⊥
-      go true q z = omega (arith, h.reached)
-      go false q z = omega (arith, h.first)
-
-  pub line-at-least : (at : ℕ) → at ≡ at_least1 from → (1 ≤ at) × (from ≤ at)
-  line-at-least at e = go (leb 1 from) refl e
-    where
-      go : (t : Bool) → leb 1 from ≡ t → at ≡ cond t from 1 → (1 ≤ at) × (from ≤ at)
-      go true q z = (omega (arith, leb-true 1 from q), omega arith)
-      go false q z = (omega arith, omega (arith, leb-false 1 from q))
+  pub line-begins : (at : ℕ) → at ≡ max from 1 → NoneBefore at
+  line-begins at e m w h = omega (arith, h.reached, h.first)
 
   -- the jump to the end of what is in the way
-  pub line-jumps : (at i : ℕ) → NoneBefore at → i < 256 → FirstInWay words count (along axis (tracks_from at tracks) across) i
+  pub line-jumps : (at i : ℕ) → NoneBefore at → FirstInWay words count (along axis (tracks_from at tracks) across) i
       → NoneBefore (end_along axis (rectangle_in words i))
-  line-jumps at i none h f m w free = go (ltb m at) refl
+  line-jumps at i none f m w free = go (ltb m at) refl
     where
       go : (t : Bool) → ltb m at ≡ t → ⊥
       go true e = none m (ltb-true m at e) free
-      go false e = free.clear i (f.here h).0 (way_on axis (rectangle_in words i) at m tracks across (f.here h).1 (ltb-false m at e) w)
+      go false e = free.clear i f.held (way_on axis (rectangle_in words i) at m tracks across f.here (ltb-false m at e) w)
 
-  pub line-grows : (at i : ℕ) → i < 256 → FirstInWay words count (along axis (tracks_from at tracks) across) i → at < end_along axis (rectangle_in words i)
-  line-grows at i h f = way-past axis (rectangle_in words i) at tracks across (f.here h).1
+  pub line-grows : (at i : ℕ) → FirstInWay words count (along axis (tracks_from at tracks) across) i → at < end_along axis (rectangle_in words i)
+  line-grows at i f = way-past axis (rectangle_in words i) at tracks across f.here
 
-  pub line-found : (at i : ℕ) → count ≤ 256 → NoneBefore at → 1 ≤ at → from ≤ at → at + tracks ≤ last → 256 ≤ i
-      → FirstInWay words count (along axis (tracks_from at tracks) across) i → FirstOr0 Here at
-  line-found at i few none f g l h w =
-      first (record { first = f; reached = g; inside = l; clear = way-none words count (along axis (tracks_from at tracks) across) i few h w }) none
+  pub line-found : (at : ℕ) → NoneBefore at → 1 ≤ at → from ≤ at → at + tracks ≤ last → Clear words count (along axis (tracks_from at tracks) across) → FirstOr0 Here at
+  line-found at none f g l clear = first (record { first = f; reached = g; inside = l; clear = clear }) none
 
   pub line-nowhere : (at : ℕ) → NoneBefore at → last < at + tracks → FirstOr0 Here 0
   line-nowhere at none h = nowhere refl (λ m free. go m free (ltb m at) refl)

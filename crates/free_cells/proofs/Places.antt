@@ -7,10 +7,11 @@ use Prim.Native.Nat.{ℕ, ◌+◌, ◌≤◌, ◌<◌}
 use native.Mathlib.Omega.{arith}
 use lib.Dec.{ltb}
 use borrow.Author.Tests.{ltb-true, ltb-false}
+use Rattle.std.specs.Prelude.{Option, Some, None}
 use Rattle.coordinates.specs.declared.axis.Axis.TheVariants.{Column}
 use Rattle.free_cells.specs.declared.Size.{Size}
 use Rattle.free_cells.specs.declared.Place.{Place}
-use Rattle.free_cells.specs.Free.{tracks_from, area_at, Clear, FreeLine, FirstOr0, first, nowhere, Before, AtOrAfter, FreePlace, FirstPlace, earliest, no_place, no_place_of, last_row_line}
+use Rattle.free_cells.specs.Free.{tracks_from, area_at, Clear, FreeLine, FirstOr0, first, nowhere, First, Before, AtOrAfter, FreePlace, FirstPlace, earliest, no_place, no_place_of, Earliest, last_row_line}
 use Rattle.free_cells.specs.Steps.{NextEnd, InRow, Below}
 
 -- ---- row order
@@ -58,6 +59,11 @@ module _ (words : List ℕ) (count last : ℕ) (size : Size) where
       → FirstOr0 (FreeLine words count Column last from.column size.columns (tracks_from from.row size.rows)) c → FirstOr0 (InRow words count last size from) c
   in_row from c h w (first f none) = first (to_row from c h w f) (λ m l g. none m l (from_row from m g))
   in_row from c h w (nowhere e none) = nowhere e (λ m g. none m (from_row from m g))
+
+  pub row_first : (from : Place) (found : Option ℕ) → 1 ≤ from.row → from.row + size.rows ≤ last_row_line
+      → First (FreeLine words count Column last from.column size.columns (tracks_from from.row size.rows)) found → First (InRow words count last size from) found
+  row_first from (Some c) h w f = (f.0, in_row from c h w f.1)
+  row_first from None h w f = in_row from 0 h w f
 
   -- a row outside has no place
   pub outside-row : (from : Place) → ((c : ℕ) → InRow words count last size from c → ⊥) → FirstOr0 (InRow words count last size from) 0
@@ -152,3 +158,15 @@ module _ (words : List ℕ) (count last : ℕ) (size : Size) where
       go : FirstPlace (Below words count last size from.row) p → FirstPlace (FreePlace words count last size from) p
       go (earliest f g) = earliest (off p f) (λ q w r. g q w (on q r))
       go (no_place e g) = no_place e (λ q r. g q (on q r))
+
+  -- ---- the same of what a search answers
+
+  pub place_in_row : (from : Place) (c : ℕ) → First (InRow words count last size from) (Some c)
+      → Earliest (FreePlace words count last size from) (Some (record { row = from.row; column = c }))
+  place_in_row from c (out, nowhere e g) = absurd (out e)
+  place_in_row from c (out, first f g) = (λ z. omega (arith, f.row, z), place-in-row from c (first f g) out)
+
+  pub place_below : (from : Place) (found : Option Place) → First (InRow words count last size from) None → Earliest (Below words count last size from.row) found
+      → Earliest (FreePlace words count last size from) found
+  place_below from (Some p) h b = (b.0, place-below from p h b.1)
+  place_below from None h b = place-below from no_place_of h b

@@ -1,6 +1,6 @@
 -- Free cells beside placed rectangles (CSS Grid Level 1, 8.5: an item takes the cells of its area as soon as it is placed), and the first
 -- place that is free. Lines and tracks are numbered from 1.
-use Rattle.std.specs.Prelude.{ℕ, ◌+◌, ◌≤◌, ◌<◌, ◌≡◌, List, ◌⊎◌}
+use Rattle.std.specs.Prelude.{ℕ, ◌+◌, ◌≤◌, ◌<◌, ◌≡◌, List, ◌⊎◌, Option, Some, None}
 use Rattle.coordinates.specs.declared.axis.Axis.{Axis}
 use Rattle.coordinates.specs.declared.axis.Axis.TheVariants.{Column, Row}
 use Rattle.free_cells.specs.declared.Lines.{Lines}
@@ -45,10 +45,16 @@ area_at s p = record { columns = tracks_from p.column s.columns; rows = tracks_f
 abbrev pub Clear : List ℕ → ℕ → Rectangle → Type 0
 Clear words count r = (i : ℕ) → i < count → Overlap (rectangle_in words i) r → ⊥
 
--- the first rectangle that shares a cell, by its index; none is in the way where that is 256
+-- the first of these that shares a cell, by its index
 pub record FirstInWay (words : List ℕ) (count : ℕ) (r : Rectangle) (i : ℕ) : Type 0 where
-  pub before : (j : ℕ) → j < i → j < count → Overlap (rectangle_in words j) r → ⊥
-  pub here : i < 256 → (i < count) × Overlap (rectangle_in words i) r
+  pub held : i < count
+  pub before : (j : ℕ) → j < i → Overlap (rectangle_in words j) r → ⊥
+  pub here : Overlap (rectangle_in words i) r
+
+-- the first that is in the way, or none is
+abbrev pub InWay : List ℕ → ℕ → Rectangle → Option ℕ → Type 0
+InWay words count r (Some i) = FirstInWay words count r i
+InWay words count r None = Clear words count r
 
 -- ---- the first line along an axis at which so many tracks are free
 
@@ -63,6 +69,11 @@ pub record FreeLine (words : List ℕ) (count : ℕ) (axis : Axis) (last from tr
 pub data FirstOr0 (These : ℕ → Type 0) (n : ℕ) : Type 0 where
   first : These n → ((m : ℕ) → m < n → These m → ⊥) → FirstOr0 These n
   nowhere : n ≡ 0 → ((m : ℕ) → These m → ⊥) → FirstOr0 These n
+
+-- the same of a line that there is, or not
+abbrev pub First : (ℕ → Type 0) → Option ℕ → Type 0
+First These (Some n) = (n ≡ 0 → ⊥) × FirstOr0 These n
+First These None = FirstOr0 These 0
 
 -- ---- the first place in row order
 
@@ -94,3 +105,8 @@ no_place_of = record { row = 0; column = 0 }
 pub data FirstPlace (These : Place → Type 0) (p : Place) : Type 0 where
   earliest : These p → ((q : Place) → Before q p → These q → ⊥) → FirstPlace These p
   no_place : p ≡ no_place_of → ((q : Place) → These q → ⊥) → FirstPlace These p
+
+-- the same of a place that there is, or not
+abbrev pub Earliest : (Place → Type 0) → Option Place → Type 0
+Earliest These (Some p) = (p.row ≡ 0 → ⊥) × FirstPlace These p
+Earliest These None = FirstPlace These no_place_of

@@ -28,10 +28,6 @@ pub record NextEnd (words : List ℕ) (count row end : ℕ) : Type 0 where
   pub past : row < end
   pub least : (i : ℕ) → i < count → row < (rectangle_in words i).rows.end → end ≤ (rectangle_in words i).rows.end
 
--- at least 1
-abbrev pub at_least1 : ℕ → ℕ
-at_least1 n = cond (leb 1 n) n 1
-
 -- a column of a place's row, at or after the place
 abbrev pub InRow : List ℕ → ℕ → ℕ → Size → Place → ℕ → Type 0
 InRow words count last size from column = FreePlace words count last size from (record { row = from.row; column = column })

@@ -8,28 +8,28 @@ pub mod way;
 pub mod word;
 
 // Two lines of an axis, from 1: the tracks between them.
-#[derive(Clone, Copy)]
+#[derive(Clone, Copy, Debug, PartialEq, Eq)]
 pub struct Lines {
     pub start: u32,
     pub end: u32,
 }
 
 // A rectangle of cells.
-#[derive(Clone, Copy)]
+#[derive(Clone, Copy, Debug, PartialEq, Eq)]
 pub struct Rectangle {
     pub columns: Lines,
     pub rows: Lines,
 }
 
 // A size in tracks.
-#[derive(Clone, Copy)]
+#[derive(Clone, Copy, Debug, PartialEq, Eq)]
 pub struct Size {
     pub columns: u32,
     pub rows: u32,
 }
 
 // The place of a rectangle: the row and the column at which it starts.
-#[derive(Clone, Copy)]
+#[derive(Clone, Copy, Debug, PartialEq, Eq)]
 pub struct Place {
     pub row: u32,
     pub column: u32,

@@ -1,49 +1,44 @@
 // What is in the way.
-ghost use Rattle.std.specs.Prelude.{◌≡◌, ◌<◌, min};
-ghost use Rattle.free_cells.specs.Free.{FirstInWay};
+ghost use Rattle.std.specs.Prelude.{◌≡◌, ◌<◌, ◌&&◌, ltb, length, position};
+ghost use Rattle.free_cells.specs.Words.{rectangle_of};
+ghost use Rattle.free_cells.specs.Free.{InWay};
 ghost use Rattle.free_cells.specs.Steps.{overlaps, nearer_end, NextEnd};
 
-use crate::Rectangle;
-use crate::word::rectangle_of;
-
-// The most rectangles that are placed; no index is as large.
-pub const MOST_PLACED: usize = 256;
+use crate::{Lines, Rectangle};
 
 // More than any line of a rectangle.
 const NO_END: u32 = 65536;
 
-// Whether two rectangles share a cell: in both axes each starts before the other ends.
+// Whether two pairs of lines have a track in common: each starts before the other ends.
+fn meet(a: Lines, b: Lines) -> bool
+    ensures { result ≡ (ltb a.start b.end && ltb b.start a.end) }
+{
+    (a.start < b.end) & (b.start < a.end)
+}
+
+// Whether two rectangles share a cell.
+#[tactic(auto, unfolding(crate::specs::Steps::overlaps))]
 pub fn overlaps(a: Rectangle, b: Rectangle) -> bool
     ensures { result ≡ overlaps a b }
 {
-    let columns = (a.columns.start < b.columns.end) & (b.columns.start < a.columns.end);
-    let rows = (a.rows.start < b.rows.end) & (b.rows.start < a.rows.end);
-    columns & rows
+    meet(a.columns, b.columns) & meet(a.rows, b.rows)
 }
 
-// The smaller of a count and the most rectangles.
-pub fn at_most_all(count: u32) -> u32
-    ensures { result ≡ min count 256 }
+// The index of the first word whose rectangle shares a cell with a rectangle.
+fn first_overlap(words: &[u64], rectangle: Rectangle) -> Option<usize>
+    ensures { result ≡ position (λ w. overlaps (rectangle_of w) rectangle) words.now }
 {
-    if count < MOST_PLACED as u32 {
-        return count;
-    }
-    MOST_PLACED as u32
+    words
+        .iter()
+        .position(|word| overlaps(Rectangle::from(*word), rectangle))
 }
 
-// The index of the first of so many placed rectangles that shares a cell with a rectangle; 256 where none does.
-pub fn in_way(words: &[u64; MOST_PLACED], count: u32, rectangle: Rectangle) -> u32
-    ensures { FirstInWay words.now (min count 256) rectangle result }
+// The index of the first placed rectangle that is in the way of a rectangle.
+#[tactic(auto, using(crate::proofs::Cells::way_by))]
+pub fn in_way(words: &[u64], rectangle: Rectangle) -> Option<usize>
+    ensures { InWay words.now (length words.now) rectangle result }
 {
-    let held = at_most_all(count);
-    let mut i: u32 = 0;
-    while i < held {
-        if overlaps(rectangle_of(words[i as usize]), rectangle) {
-            return i;
-        }
-        i += 1;
-    }
-    MOST_PLACED as u32
+    first_overlap(words, rectangle)
 }
 
 // The smaller of two ends, of which the first counts where it lies past a row.
@@ -53,24 +48,17 @@ fn nearer_end(row: u32, end: u32, nearest: u32) -> u32
     if end <= row {
         return nearest;
     }
-    if end < nearest {
-        return end;
-    }
-    nearest
+    end.min(nearest)
 }
 
-// The least row line past a row at which one of so many rectangles ends; 65,536 where none does.
-pub(crate) fn next_end(words: &[u64; MOST_PLACED], count: u32, row: u32) -> u32
+// The least row line past a row at which a placed rectangle ends; 65,536 where none does.
+pub(crate) fn next_end(words: &[u64], row: u32) -> u32
     requires { row < 65536 }
-    ensures { NextEnd words.now (min count 256) row result }
+    ensures { NextEnd words.now (length words.now) row result }
 {
-    let held = at_most_all(count);
     let mut nearest = NO_END;
-    let mut i: u32 = 0;
-    while i < held {
-        let placed = rectangle_of(words[i as usize]);
-        nearest = nearer_end(row, placed.rows.end, nearest);
-        i += 1;
+    for word in words {
+        nearest = nearer_end(row, Rectangle::from(*word).rows.end, nearest);
     }
     nearest
 }

@@ -5,6 +5,7 @@ ghost use Rattle.free_cells.specs.Words.{lines_of, rectangle_of, lines_word, rec
 use crate::{Lines, Rectangle};
 
 // Two lines from the lower 32 bits of a word. Any word gives some.
+#[tactic(auto, unfolding(crate::specs::Words::lines_of))]
 pub fn lines_of(word: u64) -> Lines
     ensures { result ≡ lines_of word }
 {
@@ -15,15 +16,20 @@ pub fn lines_of(word: u64) -> Lines
 }
 
 // A rectangle from its word. Any word gives one.
-pub fn rectangle_of(word: u64) -> Rectangle
-    ensures { result ≡ rectangle_of word }
-{
-    let columns = lines_of(word);
-    let rows = lines_of(word / 0x1_0000_0000);
-    Rectangle { columns, rows }
+impl From<u64> for Rectangle {
+    ghost from_gives = { λ word rectangle. rectangle ≡ rectangle_of word };
+
+    // Its column lines stand in the lower 32 bits.
+    #[tactic(auto, unfolding(crate::specs::Words::rectangle_of))]
+    fn from(word: u64) -> Rectangle {
+        let columns = lines_of(word);
+        let rows = lines_of(word / 0x1_0000_0000);
+        Rectangle { columns, rows }
+    }
 }
 
 // Two lines in 32 bits.
+#[tactic(auto, unfolding(crate::specs::Words::lines_word))]
 pub fn lines_word(lines: Lines) -> u64
     ensures { result ≡ lines_word lines }
 {
@@ -31,10 +37,13 @@ pub fn lines_word(lines: Lines) -> u64
 }
 
 // The word of a rectangle.
-pub fn rectangle_word(columns: Lines, rows: Lines) -> u64
-    ensures { result ≡ rectangle_word (record { columns = columns; rows = rows }) }
-{
-    let low = lines_word(columns);
-    let high = lines_word(rows);
-    low + high * 0x1_0000_0000
+impl From<Rectangle> for u64 {
+    ghost from_gives = { λ rectangle word. word ≡ rectangle_word rectangle };
+
+    // Its column lines take the lower 32 bits.
+    fn from(rectangle: Rectangle) -> u64 {
+        let low = lines_word(rectangle.columns);
+        let high = lines_word(rectangle.rows);
+        low + high * 0x1_0000_0000
+    }
 }

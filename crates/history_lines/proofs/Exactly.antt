@@ -13,34 +13,32 @@ use Rattle.text.specs.Split.{before, same}
 use Rattle.text.specs.Places.{part_at}
 use Rattle.text.proofs.Cut.{Free}
 use Rattle.text.proofs.Which.{same_equal, same_self}
-use Rattle.history_lines.specs.declared.After.{After}
-use Rattle.history_lines.specs.declared.After.TheVariants.{Nothing as Nothing-as-After, At}
-use Rattle.history_lines.specs.declared.Found.TheVariants.{Nothing, Line}
 use Rattle.history_lines.specs.declared.HistoryLine.{HistoryLine}
 use Rattle.history_lines.specs.Decimal.{decimal}
 use Rattle.history_lines.specs.Lines.{history_line}
 use Rattle.history_lines.specs.Found.{after_text, ended_at, ended_after, line_at}
 use Rattle.history_lines.proofs.Steps.{line-length}
+use Rattle.std.specs.Prelude.{Option, Some, None}
 
 -- ---- a text that stands at a place
 
-pub same_at : (p q : ℕ) → At p ≡ At q → p ≡ q
+pub same_at : (p q : ℕ) → Some p ≡ Some q → p ≡ q
 same_at p q e = cc
 
-pub none-at : (q : ℕ) → Nothing-as-After ≡ At q → ⊥
+pub none-at : (q : ℕ) → None ≡ Some q → ⊥
 none-at q e = let z : ◌≡◌ {A = ℕ} 0 1 = cc in omega arith
 
-pub text_there : (t s : List ℕ) (p q : ℕ) → after_text t s p ≡ At q → (q ≡ p + length t) × (drop p s ≡ t ++ drop q s)
+pub text_there : (t s : List ℕ) (p q : ℕ) → after_text t s p ≡ Some q → (q ≡ p + length t) × (drop p s ≡ t ++ drop q s)
 unfolding after_text
 text_there t s p q e = go (same (take (length t) (drop p s)) t) refl e
   where
-    go : (b : Bool) → same (take (length t) (drop p s)) t ≡ b → cond b (At (p + length t)) Nothing-as-After ≡ At q → (q ≡ p + length t) × (drop p s ≡ t ++ drop q s)
+    go : (b : Bool) → same (take (length t) (drop p s)) t ≡ b → cond b (Some (p + length t)) None ≡ Some q → (q ≡ p + length t) × (drop p s ≡ t ++ drop q s)
     go true h k =
         let i : q ≡ p + length t = sym (same_at (p + length t) q k) in
         (i, sym (take-append-drop (length t) (drop p s)) ∙ rw (same_equal (take (length t) (drop p s)) t h, drop-drop (length t) p s, i))
     go false h k = absurd (none-at q k)
 
-pub text_here : (t s r : List ℕ) (p : ℕ) → drop p s ≡ t ++ r → after_text t s p ≡ At (p + length t)
+pub text_here : (t s r : List ℕ) (p : ℕ) → drop p s ≡ t ++ r → after_text t s p ≡ Some (p + length t)
 unfolding after_text
 text_here t s r p e = rw (e, take-append_seam t r, same_self t)
 
@@ -91,10 +89,10 @@ abbrev pub text_place : ℕ → List ℕ → ℕ → HistoryLine
 text_place n text p =
     record { text = record { offset = p + length (decimal n) + 1; length = length text }; after = p + length (history_line n text) }
 
-same_line : (l m : HistoryLine) → Line l ≡ Line m → l ≡ m
+same_line : (l m : HistoryLine) → Some l ≡ Some m → l ≡ m
 same_line l m e = cc
 
-none-line : (l : HistoryLine) → Nothing ≡ Line l → ⊥
+none-line : (l : HistoryLine) → None ≡ Some l → ⊥
 none-line l e = let z : ◌≡◌ {A = ℕ} 0 1 = cc in omega arith
 
 -- what is found at a place is a line that stands there
@@ -116,12 +114,12 @@ unfolding history_line
 regroup n t r = simp append_assoc
 
 module _ (n : ℕ) (s : List ℕ) (p : ℕ) where
-  ended-there : (start : ℕ) (line : HistoryLine) → start ≡ p + length (mark n) → drop p s ≡ mark n ++ drop start s → ended_at s start ≡ Line line → LineThere n s p line
+  ended-there : (start : ℕ) (line : HistoryLine) → start ≡ p + length (mark n) → drop p s ≡ mark n ++ drop start s → ended_at s start ≡ Some line → LineThere n s p line
   unfolding ended_at
   ended-there start line i e q = go (ltb (start + before 10 (drop start s)) (length s)) refl q
     where
       there : (k : ℕ) → Free 10 (take k (drop start s)) → start + k < length s → drop start s ≡ take k (drop start s) ++ (10 ∷ drop (k + 1) (drop start s))
-          → Line (record { text = record { offset = start; length = k }; after = start + k + 1 }) ≡ Line line → LineThere n s p line
+          → Some (record { text = record { offset = start; length = k }; after = start + k + 1 }) ≡ Some line → LineThere n s p line
       there k f less cut g =
           let l = same_line (record { text = record { offset = start; length = k }; after = start + k + 1 }) line g in
           let after : start + (k + 1) ≡ line.after = omega (arith, ap (λ (x : HistoryLine). x.after) l) in
@@ -137,19 +135,19 @@ module _ (n : ℕ) (s : List ℕ) (p : ℕ) where
           }
 
       go : (b : Bool) → ltb (start + before 10 (drop start s)) (length s) ≡ b
-          → cond b (Line (record { text = record { offset = start; length = before 10 (drop start s) }; after = start + before 10 (drop start s) + 1 })) Nothing ≡ Line line
+          → cond b (Some (record { text = record { offset = start; length = before 10 (drop start s) }; after = start + before 10 (drop start s) + 1 })) None ≡ Some line
           → LineThere n s p line
       go false h g = absurd (none-line line g)
       go true h g = there (before 10 (drop start s)) (before_free 10 (drop start s)) (ltb-true (start + before 10 (drop start s)) (length s) h)
           (before-cut 10 (drop start s) (omega (arith, length-drop start s, ltb-true (start + before 10 (drop start s)) (length s) h))) g
 
-  pub line-there : (line : HistoryLine) → line_at n s p ≡ Line line → LineThere n s p line
+  pub line-there : (line : HistoryLine) → line_at n s p ≡ Some line → LineThere n s p line
   unfolding line_at ended_after
   line-there line q = go (after_text (mark n) s p) refl q
     where
-      go : (x : After) → after_text (mark n) s p ≡ x → ended_after s x ≡ Line line → LineThere n s p line
-      go Nothing-as-After e h = absurd (none-line line h)
-      go (At start) e h = let m = text_there (mark n) s p start e in ended-there start line m.0 m.1 h
+      go : (x : Option ℕ) → after_text (mark n) s p ≡ x → ended_after s x ≡ Some line → LineThere n s p line
+      go None e h = absurd (none-line line h)
+      go (Some start) e h = let m = text_there (mark n) s p start e in ended-there start line m.0 m.1 h
 
   -- what stands at a place is found there
   module _ (t r : List ℕ) (stands : drop p s ≡ history_line n t ++ r) where
@@ -164,7 +162,7 @@ module _ (n : ℕ) (s : List ℕ) (p : ℕ) where
     pub line-rest : drop (p + length (history_line n t)) s ≡ r
     line-rest = rw (sym (drop-drop (length (history_line n t)) p s), stands, drop-append_seam (history_line n t) r)
 
-    pub line-here : Free 10 t → line_at n s p ≡ Line (text_place n t p)
+    pub line-here : Free 10 t → line_at n s p ≡ Some (text_place n t p)
     unfolding line_at ended_after ended_at
     line-here f =
         let o : p + length (mark n) ≡ p + length (decimal n) + 1 = omega (arith, mark-length n) in

@@ -8,14 +8,12 @@ use lib.Seq.{sets-eq, take_at, drop_at, take-append_seam, length-take-le}
 use borrow.Author.Tests.{le-leb}
 use Rattle.text.specs.Places.{part_at}
 use Rattle.text.proofs.Cut.{Free, AllFree}
-use Rattle.history_lines.specs.declared.After.TheVariants.{Nothing as Nothing-as-After, At}
-use Rattle.history_lines.specs.declared.Found.{Found}
-use Rattle.history_lines.specs.declared.Found.TheVariants.{Nothing, Line}
 use Rattle.history_lines.specs.declared.HistoryLine.{HistoryLine}
 use Rattle.history_lines.specs.Lines.{history_line, history_of}
 use Rattle.history_lines.specs.Found.{line_at, after_line, after_lines}
 use Rattle.history_lines.specs.Written.{bytes_after}
 use Rattle.history_lines.proofs.Exactly.{text_place, LineThere, line-there, line-text, line-rest, line-here, same_at, none-at}
+use Rattle.std.specs.Prelude.{Option, Some, None}
 
 -- ---- a line that was written
 
@@ -34,7 +32,7 @@ module _ (b line : List ℕ) (p : ℕ) (fits : p + length line ≤ length b) whe
   written-before = rw (written-eq) (take_at (take p b) (line ++ drop (p + length line) b) p head-length)
 
 module _ (n : ℕ) (text b : List ℕ) (p : ℕ) (fits : p + length (history_line n text) ≤ length b) where
-  pub found-written : Free 10 text → line_at n (bytes_after b p (history_line n text)) p ≡ Line (text_place n text p)
+  pub found-written : Free 10 text → line_at n (bytes_after b p (history_line n text)) p ≡ Some (text_place n text p)
   found-written f =
       line-here n (bytes_after b p (history_line n text)) p text (drop (p + length (history_line n text)) b) (written_stands b (history_line n text) p fits) f
 
@@ -66,40 +64,40 @@ lines-before k n s p q line l m =
     }
 
 -- lines are passed exactly where they stand
-pub walked : (k n : ℕ) (s : List ℕ) (p q : ℕ) → after_lines k n s p ≡ At q → Lines k n s p q
+pub walked : (k n : ℕ) (s : List ℕ) (p q : ℕ) → after_lines k n s p ≡ Some q → Lines k n s p q
 unfolding after_lines history_of
 walked zero n s p q e =
     let i = same_at p q e in
     record { texts = []; many = refl; free = tt; end = omega (arith, i); stands = ap (λ (j : ℕ). drop j s) i }
 walked (suc k) n s p q e = go (line_at n s p) refl (walked k (suc n) s) e
   where
-    go : (x : Found) → line_at n s p ≡ x → ((a z : ℕ) → after_lines k (suc n) s a ≡ At z → Lines k (suc n) s a z)
-        → after_line (after_lines k (suc n) s) x ≡ At q → Lines (suc k) n s p q
-    go Nothing h i g = absurd (none-at q g)
-    go (Line line) h i g = lines-before k n s p q line (line-there n s p line h) (i line.after q g)
+    go : (x : Option HistoryLine) → line_at n s p ≡ x → ((a z : ℕ) → after_lines k (suc n) s a ≡ Some z → Lines k (suc n) s a z)
+        → after_line (after_lines k (suc n) s) x ≡ Some q → Lines (suc k) n s p q
+    go None h i g = absurd (none-at q g)
+    go (Some line) h i g = lines-before k n s p q line (line-there n s p line h) (i line.after q g)
 
 pub passed : (texts : List (List ℕ)) (n : ℕ) (s : List ℕ) (p : ℕ) (r : List ℕ) → AllFree 10 texts → drop p s ≡ history_of n texts ++ r
-    → after_lines (length texts) n s p ≡ At (p + length (history_of n texts))
+    → after_lines (length texts) n s p ≡ Some (p + length (history_of n texts))
 unfolding after_lines history_of
-passed [] n s p r f e = ap At (omega arith)
+passed [] n s p r f e = ap Some (omega arith)
 passed (t ∷ ts) n s p r f e = go (passed ts (suc n) s (p + length (history_line n t)) r f.1)
   where
     there : drop p s ≡ history_line n t ++ (history_of (suc n) ts ++ r)
     there = e ∙ append_assoc (history_line n t) (history_of (suc n) ts) r
 
     go : (drop (p + length (history_line n t)) s ≡ history_of (suc n) ts ++ r
-        → after_lines (length ts) (suc n) s (p + length (history_line n t)) ≡ At (p + length (history_line n t) + length (history_of (suc n) ts)))
-        → after_line (after_lines (length ts) (suc n) s) (line_at n s p) ≡ At (p + length (history_line n t ++ history_of (suc n) ts))
+        → after_lines (length ts) (suc n) s (p + length (history_line n t)) ≡ Some (p + length (history_line n t) + length (history_of (suc n) ts)))
+        → after_line (after_lines (length ts) (suc n) s) (line_at n s p) ≡ Some (p + length (history_line n t ++ history_of (suc n) ts))
     go i =
         let z : p + length (history_line n t) + length (history_of (suc n) ts) ≡ p + length (history_line n t ++ history_of (suc n) ts) =
         omega (arith, length-append (history_line n t) (history_of (suc n) ts)) in
-        rw (line-here n s p t (history_of (suc n) ts ++ r) there f.0) (i (line-rest n s p t (history_of (suc n) ts ++ r) there) ∙ ap At z)
+        rw (line-here n s p t (history_of (suc n) ts ++ r) there f.0) (i (line-rest n s p t (history_of (suc n) ts ++ r) there) ∙ ap Some z)
 
 -- from the first byte on: the place after k lines is found exactly where the bytes begin with a history of k texts
-pub walked_exactly : (k : ℕ) (s : List ℕ) (q : ℕ) → after_lines k 1 s 0 ≡ At q → Lines k 1 s 0 q
+pub walked_exactly : (k : ℕ) (s : List ℕ) (q : ℕ) → after_lines k 1 s 0 ≡ Some q → Lines k 1 s 0 q
 walked_exactly k s q e = walked k 1 s 0 q e
 
-pub nothing-stands : (texts : List (List ℕ)) (s r : List ℕ) → AllFree 10 texts → s ≡ history_of 1 texts ++ r → after_lines (length texts) 1 s 0 ≡ Nothing-as-After → ⊥
+pub nothing-stands : (texts : List (List ℕ)) (s r : List ℕ) → AllFree 10 texts → s ≡ history_of 1 texts ++ r → after_lines (length texts) 1 s 0 ≡ None → ⊥
 nothing-stands texts s r f e q = none-at (0 + length (history_of 1 texts)) (sym q ∙ passed texts 1 s 0 r f e)
 
 -- ---- a new line after the first ones

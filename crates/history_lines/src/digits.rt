@@ -5,24 +5,22 @@ ghost use Rattle.history_lines.specs.Decimal.{decimal};
 ghost use Rattle.history_lines.specs.Decimal.{digit as Decimal·digit};
 ghost use Rattle.history_lines.specs.Found.{after_text};
 
-use crate::After;
-
 // The byte of a digit.
 fn digit(number: u64) -> u8
     requires { number < 10 }
     ensures { result ≡ Decimal·digit number }
 {
-    48 + number as u8
+    b'0' + number as u8
 }
 
 // How many digits a number has.
 pub(crate) fn digit_count(number: u64) -> usize
     ensures { result ≡ length (decimal number) }
 {
-    let mut count: usize = 1;
+    let mut count = 1;
     let mut left = number;
     while 10 <= left {
-        left = left / 10;
+        left /= 10;
         count += 1;
     }
     count
@@ -43,28 +41,22 @@ pub(crate) fn put_digits(bytes: &mut [u8], place: usize, number: u64) -> usize
 }
 
 // The place after a byte, where it stands at a place.
-pub(crate) fn after_byte(s: &[u8], place: usize, byte: u8) -> After
+pub(crate) fn after_byte(s: &[u8], place: usize, byte: u8) -> Option<usize>
     ensures { result ≡ after_text (byte ∷ []) s.now place }
 {
-    if s.len() <= place {
-        return After::Nothing;
+    match s.get(place) {
+        Some(found) if *found == byte => Some(place + 1),
+        _ => None,
     }
-    if s[place] != byte {
-        return After::Nothing;
-    }
-    After::At(place + 1)
 }
 
 // The place after the digits of a number, where they stand at a place.
-pub(crate) fn after_digits(s: &[u8], place: usize, number: u64) -> After
+pub(crate) fn after_digits(s: &[u8], place: usize, number: u64) -> Option<usize>
     ensures { result ≡ after_text (decimal number) s.now place }
 {
     if number < 10 {
         return after_byte(s, place, digit(number));
     }
-    let before = after_digits(s, place, number / 10);
-    match before {
-        After::Nothing => After::Nothing,
-        After::At(last) => after_byte(s, last, digit(number % 10)),
-    }
+    let last = after_digits(s, place, number / 10)?;
+    after_byte(s, last, digit(number % 10))
 }

@@ -10,23 +10,9 @@ pub use find::{after_lines, find_line, one_line};
 use text::Place;
 pub use write::{line_length, write_line};
 
-// A place after what was found or written.
-#[derive(Clone, Copy)]
-pub enum After {
-    Nothing,
-    At(usize),
-}
-
 // Where the text of a line lies, and where the line after it starts.
-#[derive(Clone, Copy)]
+#[derive(Clone, Copy, Debug, PartialEq, Eq)]
 pub struct HistoryLine {
     pub text: Place,
     pub after: usize,
-}
-
-// Whether a line stands at a place.
-#[derive(Clone, Copy)]
-pub enum Found {
-    Nothing,
-    Line(HistoryLine),
 }

@@ -4,7 +4,6 @@ ghost use Rattle.std.proofs.lemmas.List.Edits.{sets};
 ghost use Rattle.history_lines.specs.Lines.{history_line};
 ghost use Rattle.history_lines.specs.Written.{place_after, bytes_after};
 
-use crate::After;
 use crate::digits::{digit_count, put_digits};
 
 // How many bytes a line takes.
@@ -19,28 +18,22 @@ fn put_text(bytes: &mut [u8], place: usize, text: &[u8]) -> usize
     requires { place + length text.now ≤ length bytes.old }
     ensures { (result ≡ place + length text.now) × (bytes.new ≡ sets bytes.old place text.now) }
 {
-    let mut i: usize = 0;
-    while i < text.len() {
-        bytes[place + i] = text[i];
-        i += 1;
-    }
-    place + i
+    let end = place + text.len();
+    bytes[place..end].copy_from_slice(text);
+    end
 }
 
-// A line from a place on; where it does not fit, nothing is written.
-pub fn write_line(bytes: &mut [u8], place: usize, number: u64, text: &[u8]) -> After
+// A line from a place on, and the place after it; where it does not fit, nothing is written.
+pub fn write_line(bytes: &mut [u8], place: usize, number: u64, text: &[u8]) -> Option<usize>
     ensures answer { result ≡ place_after bytes.old place (history_line number text.now) }
     ensures bytes { bytes.new ≡ bytes_after bytes.old place (history_line number text.now) }
 {
-    if bytes.len() < place {
-        return After::Nothing;
-    }
-    if bytes.len() - place < line_length(number, text) {
-        return After::Nothing;
+    if bytes.len() < place || bytes.len() - place < line_length(number, text) {
+        return None;
     }
     let tab = put_digits(bytes, place, number);
-    bytes[tab] = 9;
+    bytes[tab] = b'\t';
     let end = put_text(bytes, tab + 1, text);
-    bytes[end] = 10;
-    After::At(end + 1)
+    bytes[end] = b'\n';
+    Some(end + 1)
 }

@@ -1,4 +1,5 @@
 -- An axis is answered its least resize where it can be asked, and is refused elsewhere; its count is CSS's at every size. Assumes nothing.
+use Rattle.std.specs.Prelude.{Some, Option, None}
 use Prim.Native.Nat.{ℕ, ◌≤◌, ◌<◌}
 use mathlib.Core.Path.{◌≡◌, refl, sym, ap, ◌∙◌, subst}
 use mathlib.Core.Logic.{⊎_elim}
@@ -19,20 +20,15 @@ use Rattle.template_rules.specs.Summary.{meaning_of, no_components}
 use Rattle.template_rules.specs.Repetitions.{repetitions_of}
 use Rattle.template_rules.specs.Explicit.{valid_of, template_size_of}
 use Rattle.template_rules.specs.Css.{Valid, Repetitions}
-use Rattle.template_rules.specs.declared.InnerSize.TheVariants.{Definite}
 use Rattle.template_rules.specs.declared.AutoRepeatStrategy.{AutoRepeatStrategy}
 use Rattle.template_rules.specs.declared.TemplateSize.{TemplateSize}
 use Rattle.template_rules.proofs.Valid.{valid_css, in_count, one_at_most, automatic_component}
 use Rattle.template_rules.proofs.Answer.{valid_repetitions_css, size-repeated}
 use Rattle.template_rules.proofs.Tests.{and_parts}
 use Rattle.explicit_size.specs.Repeat.{gathered_of, asks_of, repeats_automatically, repetitions_in}
-use Rattle.least_resize.specs.declared.WholeSize.{WholeSize}
-use Rattle.least_resize.specs.declared.WholeSize.TheVariants.{Pixels, Broken}
-use Rattle.least_resize.specs.declared.GapLength.{GapLength}
-use Rattle.least_resize.specs.declared.GapLength.TheVariants as Gap
 use Rattle.least_resize.specs.Search.{repetitions_at, least_resize}
 use Rattle.least_resize.specs.Whole.{IsPixels, whole_size_of}
-use Rattle.least_resize.specs.Answer.{size_now, length_of, refused_resize, resize_by, resize_answer}
+use Rattle.least_resize.specs.Answer.{size_now, length_of, refused_resize, resize_by, resize_answer, definite_number, bits_of_inner, inner_by}
 use Rattle.least_resize.specs.Asked.{Asked, ResizeAnswered, resize_found, resize_refused}
 use Rattle.least_resize.proofs.Least.{search-least}
 use Rattle.least_resize.proofs.Pixels.{whole_exactly}
@@ -63,7 +59,7 @@ asks_repeat cs e = go (leb (length cs) 64) refl e
     go false h f = absurd (true≢false (sym f))
 
 -- ---- the gap
-length-only : (gap : Sizing) (v : Float) → length_of gap ≡ Gap.Length v → gap ≡ Size.Length v
+length-only : (gap : Sizing) (v : Float) → length_of gap ≡ Some v → gap ≡ Size.Length v
 length-only (Size.Length w) v e = cc
 length-only (Size.Percent p) v e = cc
 length-only (Size.Fraction w) v e = cc
@@ -74,36 +70,46 @@ length-only (Size.FitContentLength w) v e = cc
 length-only (Size.FitContentPercent p) v e = cc
 
 -- ---- the size
-some_size : (definite inner n : ℕ) → size_now definite inner ≡ Pixels n → (definite ≡ 0 → ⊥) × IsPixels (float_up_to largest_bits inner) n
+some_size : (definite inner n : ℕ) → size_now definite inner ≡ Some n → (definite ≡ 0 → ⊥) × IsPixels (float_up_to largest_bits inner) n
 some_size definite inner n e = go (eqb definite 0) refl e
   where
-    other : Broken ≡ Pixels n → ⊥
+    other : None ≡ Some n → ⊥
     other e = let z : ◌≡◌ {A = ℕ} 0 1 = cc in omega arith
 
-    go : (t : Bool) → eqb definite 0 ≡ t → cond t Broken (whole_size_of (float_up_to largest_bits inner)) ≡ Pixels n → (definite ≡ 0 → ⊥) × IsPixels (float_up_to largest_bits inner) n
+    go : (t : Bool) → eqb definite 0 ≡ t → cond t None (whole_size_of (float_up_to largest_bits inner)) ≡ Some n → (definite ≡ 0 → ⊥) × IsPixels (float_up_to largest_bits inner) n
     go true h f = absurd (other f)
     go false h f = (eqb-false definite 0 h, (whole_exactly inner n).0 f)
 
-size-some : (definite inner n : ℕ) → (definite ≡ 0 → ⊥) → IsPixels (float_up_to largest_bits inner) n → size_now definite inner ≡ Pixels n
+size-some : (definite inner n : ℕ) → (definite ≡ 0 → ⊥) → IsPixels (float_up_to largest_bits inner) n → size_now definite inner ≡ Some n
 size-some definite inner n h p = rw (ne_eqb definite 0 h) ((whole_exactly inner n).1 p)
+
+-- an inner size that two numbers give is the one that they say
+pub inner-by : (definite inner : ℕ) (strategy : AutoRepeatStrategy) (gap : Sizing) (cs : List Component) (r : Option ℕ) → r ≡ inner_by definite inner
+    → resize_answer (definite_number r) (bits_of_inner r) strategy gap cs ≡ resize_answer definite inner strategy gap cs
+unfolding resize_answer
+inner-by definite inner strategy gap cs r e = ap (λ (s : Option ℕ). cond (repeats_automatically cs) (resize_by strategy (length_of gap) s cs) refused_resize) (go (eqb definite 0) refl)
+  where
+    go : (t : Bool) → eqb definite 0 ≡ t → size_now (definite_number r) (bits_of_inner r) ≡ size_now definite inner
+    go true h = rw (e, h)
+    go false h = rw (e, h)
 
 -- ---- the answer
 module _ (definite inner : ℕ) (strategy : AutoRepeatStrategy) (gap : Sizing) (cs : List Component) where
   asked-repeats : (size : ℕ) (between : Float) → Asked definite inner gap cs size between → repeats_automatically cs ≡ true
   asked-repeats size between a = let c = a.repeat in repeat_asks cs a.valid a.few (in_count cs c.0 c.1 c.2)
 
-  answered-by : (b : Bool) → repeats_automatically cs ≡ b → (l : GapLength) → length_of gap ≡ l → (s : WholeSize) → size_now definite inner ≡ s
+  answered-by : (b : Bool) → repeats_automatically cs ≡ b → (l : Option Float) → length_of gap ≡ l → (s : Option ℕ) → size_now definite inner ≡ s
       → ResizeAnswered definite inner strategy gap cs (cond b (resize_by strategy l s cs) refused_resize)
   answered-by false e l f s g = resize_refused (λ size between a. true≢false (sym (asked-repeats size between a) ∙ e))
-  answered-by true e Gap.Other f s g = resize_refused (λ size between a. other (sym (ap length_of a.apart) ∙ f))
+  answered-by true e None f s g = resize_refused (λ size between a. other (sym (ap length_of a.apart) ∙ f))
     where
-      other : {v : Float} → Gap.Length v ≡ Gap.Other → ⊥
+      other : {v : Float} → Some v ≡ None → ⊥
       other e = let z : ◌≡◌ {A = ℕ} 0 1 = cc in omega arith
-  answered-by true e (Gap.Length v) f Broken g = resize_refused (λ size between a. other (sym (size-some definite inner size a.sized a.pixels) ∙ g))
+  answered-by true e (Some v) f None g = resize_refused (λ size between a. other (sym (size-some definite inner size a.sized a.pixels) ∙ g))
     where
-      other : {n : ℕ} → Pixels n ≡ Broken → ⊥
+      other : {n : ℕ} → Some n ≡ None → ⊥
       other e = let z : ◌≡◌ {A = ℕ} 0 1 = cc in omega arith
-  answered-by true e (Gap.Length v) f (Pixels n) g =
+  answered-by true e (Some v) f (Some n) g =
       let q = asks_repeat cs e in
       let p = some_size definite inner n g in
       resize_found n v (least_resize (repetitions_at strategy v cs) n)
@@ -122,13 +128,13 @@ module _ (definite inner : ℕ) (strategy : AutoRepeatStrategy) (gap : Sizing) (
     one : automatic_count cs ≡ 1
     one = let c = a.repeat in one_repeat cs a.valid (in_count cs c.0 c.1 c.2)
 
-    count-is : repetitions_at strategy between cs s ≡ repetitions_of (Definite (whole32 s)) strategy (Size.Length between) (meaning_of (whole32 s) cs)
+    count-is : repetitions_at strategy between cs s ≡ repetitions_of (Some (whole32 s)) strategy (Size.Length between) (meaning_of (whole32 s) cs)
     unfolding repetitions_in gathered_of
     count-is =
-        ap (λ (t : Bool). (template_size_of (Definite (whole32 s)) strategy (Size.Length between) (cond t (meaning_of (whole32 s) cs) no_components)).repetitions) (le-leb (length cs) 64 a.few)
-        ∙ ap (λ (t : TemplateSize). t.repetitions) (size-repeated (Definite (whole32 s)) strategy (Size.Length between) 0 cs a.valid one)
+        ap (λ (t : Bool). (template_size_of (Some (whole32 s)) strategy (Size.Length between) (cond t (meaning_of (whole32 s) cs) no_components)).repetitions) (le-leb (length cs) 64 a.few)
+        ∙ ap (λ (t : TemplateSize). t.repetitions) (size-repeated (Some (whole32 s)) strategy (Size.Length between) 0 cs a.valid one)
 
-    pub count-css : Repetitions (Definite (whole32 s)) strategy (Size.Length between) cs (repetitions_at strategy between cs s)
+    pub count-css : Repetitions (Some (whole32 s)) strategy (Size.Length between) cs (repetitions_at strategy between cs s)
     count-css =
-        subst (Repetitions (Definite (whole32 s)) strategy (Size.Length between) cs) (sym count-is)
-        (valid_repetitions_css (Definite (whole32 s)) strategy (Size.Length between) cs a.valid one)
+        subst (Repetitions (Some (whole32 s)) strategy (Size.Length between) cs) (sym count-is)
+        (valid_repetitions_css (Some (whole32 s)) strategy (Size.Length between) cs a.valid one)

@@ -1,4 +1,5 @@
 -- What the search finds is the least resize, and there is one only. Assumes nothing.
+use Rattle.std.specs.Prelude.{Option, Some, None}
 use Prim.Native.Nat.{ℕ, zero, suc, ◌+◌, ◌-◌, ◌≤◌, ◌<◌}
 use mathlib.Core.Path.{◌≡◌, refl, sym, ap}
 use mathlib.Core.Logic.{◌⊎◌, inl, inr, ⊎_elim}
@@ -6,8 +7,6 @@ use mathlib.Core.Bool.{Bool, true, false, cond, not, ◌&&◌}
 use native.Mathlib.Omega.{arith}
 use borrow.Author.Tests.{le-leb, leb-true, ltb-true, ltb-false, eqb-true, eqb-false}
 use lib.Dec.{eqb, leb, ltb}
-use Rattle.least_resize.specs.declared.Resize.{Resize}
-use Rattle.least_resize.specs.declared.Resize.TheVariants.{Size, Nothing}
 use Rattle.least_resize.specs.Resize.{largest_size, apart, Before, Least, LeastResize}
 use Rattle.least_resize.specs.Search.{differs_from, at_distance, or_else, search_from, least_resize}
 
@@ -110,21 +109,21 @@ module _ (count : ℕ → ℕ) (size : ℕ) (small : size ≤ 65535) where
       all s t d a b e = omega arith
   search-from (suc k) d o e p = go (λ q. search-from k (d + 1) (omega arith) (omega arith) q) (differs (size + d)) refl
     where
-      next : Resize
+      next : Option ℕ
       next = search_from differs size (d + 1) k
 
       narrow : (Passed (d + 1) → LeastResize count size next) → differs (size + d) ≡ false → d ≤ size → (b : Bool) → differs (size - d) ≡ b
-          → LeastResize count size (or_else (cond b (Size (size - d)) Nothing) next)
+          → LeastResize count size (or_else (cond b (Some (size - d)) None) next)
       narrow rest f l true g = narrower-least d o l p f g
       narrow rest f l false g = rest (neither d p l f g)
 
       short : (Passed (d + 1) → LeastResize count size next) → differs (size + d) ≡ false → (b : Bool) → ltb size d ≡ b
-          → LeastResize count size (or_else (cond b Nothing (cond (differs (size - d)) (Size (size - d)) Nothing)) next)
+          → LeastResize count size (or_else (cond b None (cond (differs (size - d)) (Some (size - d)) None)) next)
       short rest f true g = rest (no-narrower d p (ltb-true size d g) f)
       short rest f false g = narrow rest f (ltb-false size d g) (differs (size - d)) refl
 
       go : (Passed (d + 1) → LeastResize count size next) → (b : Bool) → differs (size + d) ≡ b
-          → LeastResize count size (or_else (cond b (Size (size + d)) (cond (ltb size d) Nothing (cond (differs (size - d)) (Size (size - d)) Nothing))) next)
+          → LeastResize count size (or_else (cond b (Some (size + d)) (cond (ltb size d) None (cond (differs (size - d)) (Some (size - d)) None))) next)
       go rest true f = wider-least d p f
       go rest false f = short rest f (ltb size d) refl
 
@@ -160,8 +159,8 @@ module _ (count : ℕ → ℕ) (size : ℕ) where
           meet : (a b : ℕ) → b ≤ a → a ≤ b → a ≡ b
           meet a b h g = omega arith
 
-  pub least-unique : (r q : Resize) → LeastResize count size r → LeastResize count size q → r ≡ q
-  least-unique (Size s) (Size t) x y = ap Size (ordered s t x y)
-  least-unique (Size s) Nothing x y = absurd (x.differs (y s x.within))
-  least-unique Nothing (Size t) x y = absurd (y.differs (x t y.within))
-  least-unique Nothing Nothing x y = refl
+  pub least-unique : (r q : Option ℕ) → LeastResize count size r → LeastResize count size q → r ≡ q
+  least-unique (Some s) (Some t) x y = ap Some (ordered s t x y)
+  least-unique (Some s) None x y = absurd (x.differs (y s x.within))
+  least-unique None (Some t) x y = absurd (y.differs (x t y.within))
+  least-unique None None x y = refl

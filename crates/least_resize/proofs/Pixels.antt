@@ -1,4 +1,5 @@
 -- A whole size is found exactly where there is one. Assumes nothing.
+use Rattle.std.specs.Prelude.{Some, None}
 use Prim.Native.Nat.{ℕ, ◌*◌, ◌/◌, ◌≤◌, ◌<◌, min}
 use mathlib.Core.Path.{◌≡◌, refl, sym, ap, ◌∙◌, subst}
 use mathlib.Core.Logic.{◌↔◌}
@@ -18,7 +19,6 @@ use Rattle.sizing.proofs.Ranges.{length_bits}
 use Rattle.template_rules.specs.Whole.{floor_of, largest_count}
 use Rattle.template_rules.specs.Space.{whole32}
 use Rattle.template_rules.proofs.WholeNumbers.{Is, count-is}
-use Rattle.least_resize.specs.declared.WholeSize.TheVariants.{Pixels, Broken}
 use Rattle.least_resize.specs.Whole.{IsPixels, whole_size_of}
 
 -- ---- the f32 of an inner size: in range, and a value of the format
@@ -91,7 +91,7 @@ equal_self (fin true m e) n h = absurd (true≢false h.0)
 equal_self (fin false m e) n h = rw (eq-eqb (m * up e * down e) (m * up e * down e) refl)
 
 -- ---- a whole size is found exactly where there is one
-pub whole_exactly : (bits n : ℕ) → (whole_size_of (float_up_to largest_bits bits) ≡ Pixels n) ↔ IsPixels (float_up_to largest_bits bits) n
+pub whole_exactly : (bits n : ℕ) → (whole_size_of (float_up_to largest_bits bits) ≡ Some n) ↔ IsPixels (float_up_to largest_bits bits) n
 unfolding whole_size_of
 whole_exactly bits n = (found (eq (whole32 (floor_of x)) x) refl, back)
   where
@@ -101,13 +101,13 @@ whole_exactly bits n = (found (eq (whole32 (floor_of x)) x) refl, back)
     small : (k : ℕ) → k ≤ 65535 → k ≤ 16777216
     small k h = omega arith
 
-    inner : (k : ℕ) → Pixels k ≡ Pixels n → k ≡ n
+    inner : (k : ℕ) → Some k ≡ Some n → k ≡ n
     inner k e = cc
 
-    other : Broken ≡ Pixels n → ⊥
+    other : None ≡ Some n → ⊥
     other e = let z : ◌≡◌ {A = ℕ} 0 1 = cc in omega arith
 
-    found : (t : Bool) → eq (whole32 (floor_of x)) x ≡ t → cond t (Pixels (floor_of x)) Broken ≡ Pixels n → IsPixels x n
+    found : (t : Bool) → eq (whole32 (floor_of x)) x ≡ t → cond t (Some (floor_of x)) None ≡ Some n → IsPixels x n
     found true e h =
         let q : floor_of x ≡ n = inner (floor_of x) h in
         let l : n ≤ 65535 = size_le bits n (sym q) in
@@ -115,7 +115,7 @@ whole_exactly bits n = (found (eq (whole32 (floor_of x)) x) refl, back)
         record { within = l; same = value_unique binary32 x (whole32 n) n 1 n 1 (omega arith) (omega arith) (of_format bits) (of_int-fits binary32 (pos n)) i (count-is n (small n l)) refl }
     found false e h = absurd (other h)
 
-    back : IsPixels x n → cond (eq (whole32 (floor_of x)) x) (Pixels (floor_of x)) Broken ≡ Pixels n
+    back : IsPixels x n → cond (eq (whole32 (floor_of x)) x) (Some (floor_of x)) None ≡ Some n
     back p =
         let c : Is (whole32 n) n = count-is n (small n p.within) in
         let f : floor_of (whole32 n) ≡ n = floor_is (whole32 n) n c p.within in

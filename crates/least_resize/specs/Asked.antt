@@ -1,5 +1,5 @@
 -- Which axes can be asked, in the words of document 02, Req 12, and what they are answered.
-use Rattle.std.specs.Prelude.{ℕ, ◌≤◌, ◌≡◌, length, Float}
+use Rattle.std.specs.Prelude.{ℕ, ◌≤◌, ◌≡◌, length, Float, Option}
 use mathlib.Core.List.{List, Memᴰ}
 use Rattle.sizing.specs.Words.{float_up_to, largest_bits}
 use Rattle.sizing.specs.declared.Sizing.{Sizing}
@@ -7,7 +7,6 @@ use Rattle.sizing.specs.declared.Sizing.TheVariants.{Length}
 use Rattle.template_rules.specs.Template.{Component}
 use Rattle.template_rules.specs.Css.{Valid, Automatic}
 use Rattle.template_rules.specs.declared.AutoRepeatStrategy.{AutoRepeatStrategy}
-use Rattle.least_resize.specs.declared.Resize.{Resize}
 use Rattle.least_resize.specs.declared.ResizeAnswer.{ResizeAnswer}
 use Rattle.least_resize.specs.Resize.{LeastResize}
 use Rattle.least_resize.specs.Search.{repetitions_at}
@@ -25,6 +24,6 @@ pub record Asked (definite inner : ℕ) (gap : Sizing) (cs : List Component) (si
 
 -- the least resize of such an axis; any other "is refused by 3"
 pub data ResizeAnswered (definite inner : ℕ) (strategy : AutoRepeatStrategy) (gap : Sizing) (cs : List Component) : ResizeAnswer → Type 0 where
-  resize_found : (size : ℕ) (between : Float) (r : Resize) → Asked definite inner gap cs size between → LeastResize (repetitions_at strategy between cs) size r
+  resize_found : (size : ℕ) (between : Float) (r : Option ℕ) → Asked definite inner gap cs size between → LeastResize (repetitions_at strategy between cs) size r
       → ResizeAnswered definite inner strategy gap cs (found_resize r)
   resize_refused : ((size : ℕ) (between : Float) → Asked definite inner gap cs size between → ⊥) → ResizeAnswered definite inner strategy gap cs refused_resize

@@ -1,8 +1,6 @@
 -- The least resize that matters (document 02, Req 12): "the smallest whole-pixel change that alters the number of repetitions, wider before narrower
 -- at equal distance, over sizes 0 to 65,535". `count` is the number of repetitions at each size, `size` the size now.
-use Rattle.std.specs.Prelude.{ℕ, ◌+◌, ◌-◌, ◌≤◌, ◌<◌, ◌≡◌, ◌⊎◌}
-use Rattle.least_resize.specs.declared.Resize.{Resize}
-use Rattle.least_resize.specs.declared.Resize.TheVariants.{Size, Nothing}
+use Rattle.std.specs.Prelude.{ℕ, ◌+◌, ◌-◌, ◌≤◌, ◌<◌, ◌≡◌, ◌⊎◌, Option, Some, None}
 
 abbrev pub largest_size : ℕ
 largest_size = 65535
@@ -22,6 +20,6 @@ pub record Least (count : ℕ → ℕ) (size s : ℕ) : Type 0 where
   pub closer : (t : ℕ) → t ≤ largest_size → Before size t s → count t ≡ count size
 
 -- "or none exactly when no size in the range differs"
-abbrev pub LeastResize : (ℕ → ℕ) → ℕ → Resize → Type 0
-LeastResize count size (Size s) = Least count size s
-LeastResize count size Nothing = (t : ℕ) → t ≤ largest_size → count t ≡ count size
+abbrev pub LeastResize : (ℕ → ℕ) → ℕ → Option ℕ → Type 0
+LeastResize count size (Some s) = Least count size s
+LeastResize count size None = (t : ℕ) → t ≤ largest_size → count t ≡ count size

@@ -1,23 +1,27 @@
 // Percentages among the sizes of a template.
-ghost use Rattle.std.specs.Prelude.{◌≡◌};
+ghost use Rattle.std.specs.Prelude.{◌≡◌, eqb};
+ghost use Rattle.sizing.specs.Words.{sizing_of, kind_of};
 ghost use Rattle.least_resize.specs.Percentages.{has_percentage};
 
-use sizing::word::{kind_of, sizing_of};
+use sizing::Sizing;
+use sizing::word::sizing_of;
 
-// The kind of a percentage.
-const PERCENT: u32 = 1;
+// Whether the size of a word is a percentage.
+fn is_percentage(word: u64) -> bool
+    ensures { result ≡ eqb (kind_of (sizing_of word)) 1 }
+{
+    matches!(sizing_of(word), Sizing::Percent(_))
+}
 
 // Whether one of these sizes, minimums or maximums, is a percentage.
 #[tactic(auto, unfolding(crate::specs::Percentages::has_percentage))]
 pub fn has_percentage(sizes: &[u64]) -> bool
     ensures { result ≡ has_percentage sizes.now }
 {
-    let mut i = 0usize;
-    while i < sizes.len() {
-        if kind_of(sizing_of(sizes[i])) == PERCENT {
+    for word in sizes {
+        if is_percentage(*word) {
             return true;
         }
-        i += 1;
     }
     false
 }

@@ -1,36 +1,26 @@
 -- All line names of an axis in one run: what a run that is not refused needs, and what each leaves. Assumes nothing.
 use Prim.Native.Nat.{ℕ, ◌≤◌, ◌<◌}
-use mathlib.Core.Path.{◌≡◌, refl, sym, subst, ◌∙◌}
+use mathlib.Core.Path.{◌≡◌, refl, subst}
 use mathlib.Core.Bool.{Bool, true, false, cond}
 use mathlib.Core.List.{List}
 use native.Mathlib.Omega.{arith}
-use borrow.Author.Tests.{eq-eqb, ne_eqb, lt-ltb, le-ltb, ltb-false}
+use borrow.Author.Tests.{eq-eqb, ne_eqb, ltb-false}
 use lib.Dec.{ltb}
 use lib.ListN.{length, drop, length-take, length-drop}
-use Rattle.coordinates.specs.Refusals.{count, short}
+use Rattle.std.specs.Prelude.{Result, Ok, Err}
+use Rattle.coordinates.specs.Refusals.{number_of, count, short}
+use Rattle.coordinates.specs.declared.refusal.Fault.{Fault}
+use Rattle.track_rules.proofs.Answers.{fault_some}
 use Rattle.name_lists.specs.Lists.{lists, Written}
 use Rattle.name_lists.proofs.Counting.{few-lists}
 use Rattle.coordinates.specs.declared.axis.Axis.{Axis}
 use Rattle.axis_tables.specs.declared.AxisGrid.{AxisGrid}
 use Rattle.panel_tables.specs.Regions.{axis_words_in, first_word}
 use Rattle.panel_rules.specs.Calls.{entry_words_in}
-use Rattle.library_numbers.specs.declared.CountAnswer.{CountAnswer}
-use Rattle.library_numbers.specs.Answers.{counted, uncounted}
+use Rattle.library_numbers.specs.Answers.{answered_count}
 use Rattle.library_names.specs.Lists.{lists_refusal, written_lists}
 
 module _ (explicit bytes : ℕ) where
-  pub refused-explicit : 10000 < explicit → count ≡ lists_refusal explicit bytes
-  unfolding lists_refusal
-  refused-explicit h = rw (lt-ltb 10000 explicit h)
-
-  pub refused-short : explicit ≤ 10000 → bytes < 32768 → short ≡ lists_refusal explicit bytes
-  unfolding lists_refusal
-  refused-short h k = rw (le-ltb 10000 explicit h, lt-ltb bytes 32768 k)
-
-  pub refused-not : explicit ≤ 10000 → 32768 ≤ bytes → 0 ≡ lists_refusal explicit bytes
-  unfolding lists_refusal
-  refused-not h k = rw (le-ltb 10000 explicit h, le-ltb bytes 32768 k)
-
   -- what is not refused has few lines, and long stores
   pub unrefused : lists_refusal explicit bytes ≡ 0 → (explicit ≤ 10000) × (32768 ≤ bytes)
   unfolding lists_refusal
@@ -60,24 +50,26 @@ lists_fit a s words store =
     let all = few-lists (entry_words_in s (axis_words_in a words)) store s.size.explicit in
     omega (arith, few, all)
 
-module _ (s : AxisGrid) (words store : List ℕ) (bytes : ℕ) (lent entries : List ℕ) (known : entries ≡ entry_words_in s words)
-    (number : ℕ) (told : number ≡ lists_refusal s.size.explicit bytes) where
+module _ (s : AxisGrid) (words store : List ℕ) (bytes : ℕ) (lent entries : List ℕ) (known : entries ≡ entry_words_in s words) where
   -- what a run that is not refused may ask for
-  pub lists-asked : number ≡ 0 → length words ≤ 12480 → (s.size.explicit ≤ 10000) × ((length entries ≤ 4096) × (32768 ≤ bytes))
+  pub lists-asked : lists_refusal s.size.explicit bytes ≡ 0 → length words ≤ 12480 → (s.size.explicit ≤ 10000) × ((length entries ≤ 4096) × (32768 ≤ bytes))
   lists-asked z n =
       let k : length entries ≤ 4096 = rw known (few-entries s words n) in
-      let u = unrefused s.size.explicit bytes (sym told ∙ z) in
+      let u = unrefused s.size.explicit bytes z in
       (u.0, (k, u.1))
 
-  pub lists-refused : (answer : CountAnswer) → (number ≡ 0 → ⊥) → answer ≡ uncounted number → record { answer = answer; words = lent } ≡ written_lists s words store bytes lent
+  -- a refusal is its number, and nothing is written
+  pub lists-refused : (fault : Fault) → number_of fault ≡ lists_refusal s.size.explicit bytes → record { answer = answered_count (Err fault); words = lent } ≡ written_lists s words store bytes lent
   unfolding written_lists
-  lists-refused answer out a = rw (← told, ne_eqb number 0 out, a)
+  lists-refused fault e = rw (← e, ne_eqb (number_of fault) 0 (fault_some fault))
 
-  pub lists-written : (n : ℕ) (answer : CountAnswer) (after : List ℕ) → number ≡ 0 → Written lent 0 (lists s.size.explicit entries store) after n → answer ≡ counted n →
-      record { answer = answer; words = after } ≡ written_lists s words store bytes lent
+  -- else the answer is how many names are written
+  pub lists-written : (r : Result ℕ Fault) (after : List ℕ) → lists_refusal s.size.explicit bytes ≡ 0
+      → ((n : ℕ) × (r ≡ Ok n) × Written lent 0 (lists s.size.explicit entries store) after n)
+      → record { answer = answered_count r; words = after } ≡ written_lists s words store bytes lent
   unfolding written_lists
-  lists-written n answer after z w a =
+  lists-written r after z (n, e, w) =
       let v : Written lent 0 (lists s.size.explicit (entry_words_in s words) store) after n =
       subst (λ (l : List ℕ). Written lent 0 (lists s.size.explicit l store) after n) known w in
       let k : n ≡ length (lists s.size.explicit (entry_words_in s words) store) = omega (arith, v.counted) in
-      rw (eq-eqb (lists_refusal s.size.explicit bytes) 0 (sym told ∙ z), a, v.words, k)
+      rw (eq-eqb (lists_refusal s.size.explicit bytes) 0 z, e, v.words, k)

@@ -6,33 +6,37 @@ ghost use Rattle.std.specs.Prelude.{◌≡◌, ◌≤◌, length};
 ghost use Rattle.panel_tables.specs.Axes.{grid_in};
 ghost use Rattle.panel_tables.specs.Regions.{axis_words_in};
 ghost use Rattle.panel_rules.specs.Calls.{NameTables, name_tables_in, shorter_store, store_in, words_in};
+ghost use Rattle.coordinates.specs.Refusals.{refused_by};
+ghost use Rattle.library_numbers.specs.Answers.{answered_count};
 ghost use Rattle.library_numbers.specs.Records.{WrittenRun};
 ghost use Rattle.library_names.specs.Lists.{lists_refusal, written_lists};
 
 use axis_tables::AxisGrid;
 use axis_tables::layout::AXIS_BYTES;
-use coordinates::Axis;
-use coordinates::refusal::{COUNT, SHORT};
-use library_numbers::CountAnswer;
-use library_numbers::numbers::{counted, uncounted};
-use panel_names::store::{entries_of, smaller};
+use coordinates::{Axis, Fault};
+use name_entries::Names;
+use panel_names::store::entries_of;
 use panel_tables::Grid;
 use panel_tables::region::{PANEL_WORDS, axis_words};
 
 // The words of a run of line names: one for each entry that an axis can have.
 pub const LINE_NAME_RUN: usize = 4096;
 
-// What the lists are refused by.
-fn lists_refusal(explicit: u32, bytes: usize) -> u32
-    ensures { result ≡ lists_refusal explicit bytes }
+// The most explicit tracks.
+const MOST_TRACKS: u32 = 10000;
+
+// Whether the lists can be given.
+#[tactic(auto, unfolding(crate::specs::Lists::lists_refusal))]
+fn check_lists(explicit: u32, bytes: usize) -> Result<(), Fault>
+    ensures { refused_by result ≡ lists_refusal explicit bytes }
 {
-    if 10000 < explicit {
-        return COUNT;
+    if MOST_TRACKS < explicit {
+        return Err(Fault::Count);
     }
     if bytes < AXIS_BYTES {
-        return SHORT;
+        return Err(Fault::Short);
     }
-    0
+    Ok(())
 }
 
 // Writes the lists of one axis. `bytes` are those of the shorter store.
@@ -43,17 +47,16 @@ fn write_on(
     store: &[u8],
     bytes: usize,
     out: &mut [u64; LINE_NAME_RUN],
-) -> CountAnswer
+) -> Result<u64, Fault>
     requires { bytes ≤ length store.now }
-    ensures { record { answer = result; words = out.new } ≡ written_lists grid (axis_words_in axis words.now) store.now bytes out.old }
+    ensures { record { answer = answered_count result; words = out.new } ≡ written_lists grid (axis_words_in axis words.now) store.now bytes out.old }
 {
-    let entries = entries_of(grid, axis_words(words, axis));
-    let number = lists_refusal(grid.size.explicit, bytes);
-    if number != 0 {
-        return uncounted(number);
-    }
-    let listed = name_lists::detailed_line_names(entries, store, grid.size.explicit, out);
-    counted(listed.count)
+    check_lists(grid.size.explicit, bytes)?;
+    let names = Names {
+        entries: entries_of(grid, axis_words(words, axis)),
+        store,
+    };
+    name_lists::detailed_line_names(names, grid.size.explicit, out)
 }
 
 // Writes the lists of an axis of a panel. 4: an explicit count above 10,000; 10: a store below 32,768 bytes.
@@ -64,10 +67,10 @@ pub fn write_lists(
     rowstore: &[u8],
     axis: Axis,
     out: &mut [u64; LINE_NAME_RUN],
-) -> CountAnswer
-    ensures { record { answer = result; words = out.new } ≡ written_lists (grid_in grid axis) (words_in (name_tables_in words.now columnstore.now rowstore.now) axis) (store_in (name_tables_in words.now columnstore.now rowstore.now) axis) (shorter_store (name_tables_in words.now columnstore.now rowstore.now)) out.old }
+) -> Result<u64, Fault>
+    ensures { record { answer = answered_count result; words = out.new } ≡ written_lists (grid_in grid axis) (words_in (name_tables_in words.now columnstore.now rowstore.now) axis) (store_in (name_tables_in words.now columnstore.now rowstore.now) axis) (shorter_store (name_tables_in words.now columnstore.now rowstore.now)) out.old }
 {
-    let bytes = smaller(columnstore.len(), rowstore.len());
+    let bytes = columnstore.len().min(rowstore.len());
     match axis {
         Axis::Column => write_on(grid.columns, words, Axis::Column, columnstore, bytes, out),
         Axis::Row => write_on(grid.rows, words, Axis::Row, rowstore, bytes, out),

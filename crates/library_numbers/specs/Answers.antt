@@ -1,6 +1,7 @@
 -- The answers of the calls on a panel, as numbers. An axis is a number: 0 the columns, 1 the rows; any other is refused by 4.
-use Rattle.std.specs.Prelude.{ℕ, ◌-◌, min, Bool, true, false, cond, leb}
-use Rattle.coordinates.specs.Refusals.{name, count}
+use Rattle.std.specs.Prelude.{ℕ, ◌-◌, min, Bool, true, false, cond, leb, Result, Ok, Err}
+use Rattle.coordinates.specs.declared.refusal.Fault.{Fault}
+use Rattle.coordinates.specs.Refusals.{number_of, name, count}
 use Rattle.name_rules.specs.Css.{Bytes}
 use Rattle.name_entries.specs.declared.NameEntry.{NameEntry}
 use Rattle.name_entries.specs.Names.{is_name}
@@ -11,8 +12,9 @@ use Rattle.panel_tables.specs.declared.Panel.{Panel}
 use Rattle.panel_tables.specs.Axes.{grid_in}
 use Rattle.coordinates.specs.Axes.{axis_number, axis_of}
 use Rattle.sheet_rules.specs.Panels.{Tables}
+use Rattle.sheet_rules.specs.Answers as Read
 use Rattle.sheet_rules.specs.Read.{SheetRead, DisplayRead}
-use Rattle.panel_rules.specs.declared.PlacementAnswer.{PlacementAnswer}
+use Rattle.panel_rules.specs.Placing.{PlacementAnswer}
 use Rattle.axis_tables.specs.declared.AxisSize.{AxisSize}
 use Rattle.panel_rules.specs.Calls.{NameTables, EnteredName, enter_name, explicit_size, line_count_in, axis_tracks}
 use Rattle.library_numbers.specs.declared.SheetAnswer.{SheetAnswer}
@@ -29,40 +31,26 @@ is_axis n = leb n 1
 
 -- ---- `palgwern_read_sheet` and `palgwern_display_sheet`
 
+abbrev pub sheet_answer : Read.SheetAnswer → SheetAnswer
+sheet_answer a = record { number = a.refusal.number; line = a.refusal.line; earlier = a.earlier; later = a.later; panel = a.panel }
+
 -- the answer, and everything lent
 pub record SheetNumbers : Type 0 where
   pub answer : SheetAnswer
   pub tables : Tables
 
 unfoldable pub sheet_numbers : SheetRead → SheetNumbers
-sheet_numbers s =
-    record {
-      answer = record {
-        number = s.answer.refusal.number;
-        line = s.answer.refusal.line;
-        earlier = s.answer.earlier;
-        later = s.answer.later;
-        panel = s.answer.panel;
-      };
-      tables = s.tables;
-    }
+sheet_numbers s = record { answer = sheet_answer s.answer; tables = s.tables }
+
+abbrev pub display_answer : Read.DisplayAnswer → DisplayAnswer
+display_answer a = record { number = a.refusal.number; line = a.refusal.line; earlier = a.earlier; later = a.later; grid = a.grid }
 
 pub record DisplayNumbers : Type 0 where
   pub answer : DisplayAnswer
   pub tables : Tables
 
 unfoldable pub display_numbers : DisplayRead → DisplayNumbers
-display_numbers s =
-    record {
-      answer = record {
-        number = s.answer.refusal.number;
-        line = s.answer.refusal.line;
-        earlier = s.answer.earlier;
-        later = s.answer.later;
-        grid = s.answer.grid;
-      };
-      tables = s.tables;
-    }
+display_numbers s = record { answer = display_answer s.answer; tables = s.tables }
 
 -- ---- `palgwern_enter_name`
 
@@ -98,6 +86,11 @@ counted n = record { number = 0; count = n }
 
 abbrev pub uncounted : ℕ → CountAnswer
 uncounted n = record { number = n; count = 0 }
+
+-- the numbers and values of what a call that counts answers
+abbrev pub answered_count : Result ℕ Fault → CountAnswer
+answered_count (Ok n) = counted n
+answered_count (Err fault) = uncounted (number_of fault)
 
 unfoldable pub line_count_of : Grid → ℕ → CountAnswer
 line_count_of g axis = cond (is_axis axis) (counted (line_count_in g (axis_of axis))) (uncounted count)

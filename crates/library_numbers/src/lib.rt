@@ -5,6 +5,7 @@
 pub mod axis;
 pub mod numbers;
 pub mod part;
+pub mod sheet;
 
 use panel_tables::{Grid, Panel};
 

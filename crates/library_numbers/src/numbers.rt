@@ -1,29 +1,29 @@
 // Answers and records as numbers.
-ghost use Rattle.std.specs.Prelude.{◌≡◌};
+ghost use Rattle.std.specs.Prelude.{◌≡◌, Ok};
 ghost use Rattle.name_resolver.specs.Placements.{resolved_kind_of, resolved_number_of};
-ghost use Rattle.library_numbers.specs.Answers.{counted, mark_number, uncounted, placement_numbers};
-ghost use Rattle.track_rules.specs.Numbers.{kind_number, source_number};
+ghost use Rattle.panel_rules.specs.Placing.{answered_placement};
+ghost use Rattle.library_numbers.specs.Answers.{answered_count, placement_numbers};
 ghost use Rattle.library_numbers.specs.Records.{size_word};
 
 use crate::{CountAnswer, PlacementNumbers};
-use coordinates::axis::axis_number;
+use coordinates::Fault;
 use name_resolver::NonNamedGridPlacement;
-use panel_rules::PlacementAnswer;
+use panel_rules::PlacedLine;
 use sizing::Sizing;
-use track_rules::{GridTrackKind, TrackSource};
 
-// A count.
-pub fn counted(count: u64) -> CountAnswer
-    ensures { result ≡ counted count }
-{
-    CountAnswer { number: 0, count }
-}
+impl From<Result<u64, Fault>> for CountAnswer {
+    ghost from_gives = { λ counted answer. answer ≡ answered_count counted };
 
-// A refusal in place of a count.
-pub fn uncounted(number: u32) -> CountAnswer
-    ensures { result ≡ uncounted number }
-{
-    CountAnswer { number, count: 0 }
+    // The answer as numbers, for programs in C.
+    fn from(counted: Result<u64, Fault>) -> CountAnswer {
+        match counted {
+            Ok(count) => CountAnswer { number: 0, count },
+            Err(fault) => CountAnswer {
+                number: u32::from(fault),
+                count: 0,
+            },
+        }
+    }
 }
 
 // The kind of an end of a placement.
@@ -43,64 +43,47 @@ fn end_number(end: NonNamedGridPlacement) -> i32
 {
     match end {
         NonNamedGridPlacement::Auto => 0,
-        NonNamedGridPlacement::Line(line) => line.0 as i32,
-        NonNamedGridPlacement::Span(span) => span as i32,
+        NonNamedGridPlacement::Line(line) => i32::from(line.0),
+        NonNamedGridPlacement::Span(span) => i32::from(span),
     }
-}
-
-// The number of a mark.
-fn mark_number(held: bool) -> u32
-    ensures { result ≡ mark_number held }
-{
-    if held {
-        return 1;
-    }
-    0
 }
 
 // A resolved placement.
-pub fn placement_numbers(answer: PlacementAnswer) -> PlacementNumbers
-    ensures { result ≡ placement_numbers answer }
+#[tactic(auto, unfolding(crate::specs::Answers::placement_numbers))]
+fn placed_numbers(placed: PlacedLine) -> PlacementNumbers
+    ensures { result ≡ placement_numbers (answered_placement (Ok placed)) }
 {
-    let refusal = answer.refusal;
-    let axis = answer.axis;
-    let line = answer.line;
-    let held = answer.held;
-    let start = line.start;
-    let end = line.end;
+    let line = placed.line;
+    let held = placed.held;
     PlacementNumbers {
-        number: refusal.number,
-        axis: axis_number(axis),
-        startkind: end_kind(start),
-        startnumber: end_number(start),
-        endkind: end_kind(end),
-        endnumber: end_number(end),
-        startheld: mark_number(held.start),
-        endheld: mark_number(held.end),
+        number: 0,
+        axis: u32::from(placed.axis),
+        startkind: end_kind(line.start),
+        startnumber: end_number(line.start),
+        endkind: end_kind(line.end),
+        endnumber: end_number(line.end),
+        startheld: u32::from(held.start),
+        endheld: u32::from(held.end),
     }
 }
 
-// The number of a record's kind.
-pub fn kind_number(kind: GridTrackKind) -> u64
-    ensures { result ≡ kind_number kind }
+// A placement that is resolved or refused.
+#[tactic(auto, unfolding(crate::specs::Answers::placement_numbers))]
+pub fn placement_numbers(answer: Result<PlacedLine, Fault>) -> PlacementNumbers
+    ensures { result ≡ placement_numbers (answered_placement answer) }
 {
-    match kind {
-        GridTrackKind::Track => 0,
-        GridTrackKind::Gutter => 1,
-    }
-}
-
-// The number of a record's source.
-pub fn source_number(source: TrackSource) -> u64
-    ensures { result ≡ source_number source }
-{
-    match source {
-        TrackSource::Negative => 0,
-        TrackSource::Template => 1,
-        TrackSource::Automatic => 2,
-        TrackSource::Area => 3,
-        TrackSource::Positive => 4,
-        TrackSource::Gutter => 5,
+    match answer {
+        Ok(placed) => placed_numbers(placed),
+        Err(fault) => PlacementNumbers {
+            number: u32::from(fault),
+            axis: 0,
+            startkind: 0,
+            startnumber: 0,
+            endkind: 0,
+            endnumber: 0,
+            startheld: 0,
+            endheld: 0,
+        },
     }
 }
 
@@ -108,5 +91,5 @@ pub fn source_number(source: TrackSource) -> u64
 pub fn size_word(size: Sizing) -> u64
     ensures { result ≡ size_word size }
 {
-    sizing::word::size_word(sizing::word::kind_of(size), sizing::word::bits_of(size))
+    sizing::word::size_word(size.kind(), sizing::word::bits_of(size))
 }

@@ -1,5 +1,7 @@
 // Where a name lies in the store of its axis.
-ghost use Rattle.std.specs.Prelude.{◌≡◌, ◌-◌, min};
+ghost use Rattle.std.specs.Prelude.{◌≡◌};
+ghost use Rattle.std.specs.Option.{unwrap_or};
+ghost use Rattle.name_entries.specs.LineEntries.{no_entry};
 ghost use Rattle.name_entries.specs.LineNames.{of_axis};
 ghost use Rattle.library_numbers.specs.Answers.{name_part};
 
@@ -17,33 +19,19 @@ pub fn store_length(axis: Axis, columns: usize, rows: usize) -> usize
     }
 }
 
-// The smaller of two counts.
-fn smaller(a: u32, b: usize) -> u32
-    ensures { result ≡ min a b }
+// The part of a store of so many bytes that holds an entry's name, cut where the store ends; an empty one where there is no entry.
+pub fn name_part(bytes: usize, entry: Option<NameEntry>) -> NameAnswer
+    ensures { result ≡ name_part bytes (unwrap_or entry no_entry) }
 {
-    if b < a as usize {
-        return b as u32;
-    }
-    a
-}
-
-// What is left after so many.
-fn left_after(count: usize, first: u32) -> usize
-    ensures { result ≡ count - first }
-{
-    if count < first as usize {
-        return 0;
-    }
-    count - first as usize
-}
-
-// The part of a store of so many bytes that holds an entry's name.
-pub fn name_part(bytes: usize, entry: NameEntry) -> NameAnswer
-    ensures { result ≡ name_part bytes entry }
-{
+    let shown = entry.unwrap_or(NameEntry {
+        line: 0,
+        offset: 0,
+        length: 0,
+    });
+    let left = bytes.saturating_sub(shown.offset as usize);
     NameAnswer {
         number: 0,
-        offset: smaller(entry.offset, bytes),
-        length: smaller(entry.length, left_after(bytes, entry.offset)),
+        offset: (shown.offset as usize).min(bytes) as u32,
+        length: (shown.length as usize).min(left) as u32,
     }
 }

@@ -24,18 +24,6 @@ sets_on l place (x ∷ a) b =
     let e : suc place + length a ≡ place + suc (length a) = omega arith in
     sets_on (set l place x) (suc place) a b ∙ ap (λ (n : ℕ). sets (sets (set l place x) (suc place) a) n b) e
 
--- the places of a record's words
-pub second-place : (l : List ℕ) (place k : ℕ) → place + 3 ≤ length l → place + 1 < length (set l place k)
-second-place l place k h = rw (length-set l place k) (omega arith)
-
-pub third_place : (l : List ℕ) (place k low : ℕ) → place + 3 ≤ length l → place + 2 < length (set (set l place k) (place + 1) low)
-third_place l place k low h = rw (length-set (set l place k) (place + 1) low, length-set l place k) (omega arith)
-
--- its words one by one
-pub put_three : (l : List ℕ) (place kind source : ℕ) (closed : Bool) (low high k m n : ℕ) → k ≡ kind + cond closed 2 0 + 4 * source → m ≡ cond closed 0 low → n ≡ cond closed 0 high →
-    set (set (set l place k) (place + 1) m) (place + 2) n ≡ sets l place (record_numbers kind source closed low high)
-put_three l place kind source closed low high k m n e f g = rw (e, f, g, add-one place, add-two place)
-
 -- two records are a pair
 pub put_two : (l once twice : List ℕ) (place : ℕ) (a b : List ℕ) → length a ≡ 3 → once ≡ sets l place a → twice ≡ sets once (place + 3) b → twice ≡ sets l place (a ++ b)
 put_two l once twice place a b three e f =

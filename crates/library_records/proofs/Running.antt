@@ -1,4 +1,4 @@
--- The records one after the other: which there are, which fit, and the words that the loop leaves. Assumes nothing.
+-- The records one after the other: how many there are, and the words that the loop leaves. Assumes nothing.
 use Prim.Native.Nat.{ℕ, zero, suc, ◌+◌, ◌*◌, ◌-◌, ◌/◌, ◌%◌, ◌≤◌, ◌<◌, min}
 use mathlib.Core.Path.{◌≡◌, refl, sym, ap, ap₂, subst, ◌∙◌}
 use mathlib.Core.Logic.{⊎_elim}
@@ -6,8 +6,8 @@ use mathlib.Core.Bool.{Bool, true, false, ◌||◌}
 use mathlib.Core.List.{List, [], ◌∷◌, ◌++◌, append_assoc}
 use native.Mathlib.Nat.{add_assoc}
 use native.Mathlib.Omega.{arith}
-use borrow.Author.Tests.{le-leb, lt-leb, eq-eqb, ne_eqb}
-use lib.Dec.{ltb, leb, eqb}
+use borrow.Author.Tests.{eq-eqb, ne_eqb}
+use lib.Dec.{leb, eqb}
 use lib.ListN.{length}
 use lib.Seq.{sets}
 use Rattle.sizing.specs.declared.MinMax.{MinMax}
@@ -16,13 +16,12 @@ use Rattle.sizing.specs.declared.Sizing.TheVariants.{Length}
 use Rattle.sizing.specs.Words.{zero32}
 use Rattle.sizing.proofs.Bits.{bits_back}
 use Rattle.template_rules.specs.Template.{Component, template_of}
-use Rattle.coordinates.specs.Refusals.{count, short}
 use Rattle.track_rules.specs.declared.GridTrack.{GridTrack}
 use Rattle.track_rules.specs.declared.GridTrackKind.{GridTrackKind}
 use Rattle.track_rules.specs.declared.GridTrackKind.TheVariants.{Track, Gutter}
 use Rattle.track_rules.specs.declared.TrackSource.{TrackSource}
 use Rattle.track_rules.specs.declared.TrackSource.TheVariants as Source
-use Rattle.track_rules.specs.declared.RecordAnswer.{RecordAnswer}
+use Rattle.track_rules.specs.Tracks.{RecordAnswer}
 use Rattle.track_rules.specs.Records.{tracks_in, records_in, item_at, closed_by}
 use Rattle.track_rules.specs.declared.AxisTracks.{AxisTracks}
 use Rattle.track_rules.specs.declared.Plan.{Plan}
@@ -39,46 +38,10 @@ use Rattle.axis_tables.specs.Runs.{part_of}
 use Rattle.track_run.specs.Steps.{state_record}
 use Rattle.panel_rules.specs.Calls.{axis_tracks, template_in, spares_in}
 use Rattle.panel_calls.proofs.Carried.{carried-answer}
-use Rattle.library_numbers.proofs.RecordKinds.{kind_small, source_small}
 use Rattle.library_records.specs.Pairs.{record_numbers, joined, axis_pair, record_at}
 use Rattle.library_records.proofs.Pairs.{joined-none, joined-one, three-runs}
 use Rattle.track_rules.specs.Numbers.{kind_number, source_number}
-use Rattle.library_numbers.specs.Records.{size_word, record_words, run_words, run_refusal, run_count}
-
--- ---- which records there are and fit
-
-module _ (s : AxisGrid) (tracks : ℕ) (known : tracks ≡ tracks_in (axis_tracks s)) where
-  pub all-records : 2 * tracks + 1 ≡ records_in (axis_tracks s)
-  all-records = ap (λ (n : ℕ). 2 * n + 1) known
-
-  module _ (items lent first : ℕ) where
-    pub refused-first : 2 * tracks + 1 ≤ first → count ≡ run_refusal s items lent first
-    unfolding run_refusal
-    refused-first h = rw (le-leb (records_in (axis_tracks s)) first (subst (λ (n : ℕ). n ≤ first) all-records h))
-
-    pub refused-short : first < 2 * tracks + 1 → (ltb items tracks || ltb lent 3) ≡ true → short ≡ run_refusal s items lent first
-    unfolding run_refusal
-    refused-short h e =
-        rw (lt-leb (records_in (axis_tracks s)) first (subst (λ (n : ℕ). first < n) all-records h), ap (λ (n : ℕ). ltb items n || ltb lent 3) (sym known) ∙ e)
-
-    pub refused-not : first < 2 * tracks + 1 → (ltb items tracks || ltb lent 3) ≡ false → 0 ≡ run_refusal s items lent first
-    unfolding run_refusal
-    refused-not h e =
-        rw (lt-leb (records_in (axis_tracks s)) first (subst (λ (n : ℕ). first < n) all-records h), ap (λ (n : ℕ). ltb items n || ltb lent 3) (sym known) ∙ e)
-
-  pub count-all : (lent first : ℕ) → 2 * tracks + 1 - first < lent / 3 → 2 * tracks + 1 - first ≡ run_count s lent first
-  unfolding run_count
-  count-all lent first h = smaller-last (lent / 3) (2 * tracks + 1 - first) (records_in (axis_tracks s) - first) (ap (λ (n : ℕ). n - first) all-records) h
-    where
-      smaller-last : (a b n : ℕ) → b ≡ n → b < a → b ≡ min a n
-      smaller-last a b n e h = omega arith
-
-  pub count-fit : (lent first : ℕ) → lent / 3 ≤ 2 * tracks + 1 - first → lent / 3 ≡ run_count s lent first
-  unfolding run_count
-  count-fit lent first h = smaller-first (lent / 3) (2 * tracks + 1 - first) (records_in (axis_tracks s) - first) (ap (λ (n : ℕ). n - first) all-records) h
-    where
-      smaller-first : (a b n : ℕ) → b ≡ n → a ≤ b → a ≡ min a n
-      smaller-first a b n e h = omega arith
+use Rattle.library_numbers.specs.Records.{size_word, record_words, run_words}
 
 -- there are at most 60,001 records
 pub few_records : (s : AxisGrid) → records_in (axis_tracks s) ≤ 60001
@@ -221,12 +184,6 @@ edge_words a p cs sp item u r (suc i) e = rw e (go (eqb (suc i % 2) 0))
 pub first_words : (a : AxisTracks) (cs : List Component) (sp : List MinMax) (items : List ℕ) (index : ℕ) → index ≡ 0 → record_numbers 1 5 true 0 0 ≡ words_at a cs sp items index
 first_words a cs sp items index e = rw e (gutter_words a.gap true ∙ ap record_words (sym (record_first a cs sp (item_at items))))
 
-pub kind_fits : (kind : GridTrackKind) (n : ℕ) → n ≡ kind_number kind → n ≤ 1
-kind_fits kind n e = omega (arith, e, kind_small kind)
-
-pub source_fits : (source : TrackSource) (n : ℕ) → n ≡ source_number source → n ≤ 5
-source_fits source n e = omega (arith, e, source_small source)
-
 -- a record of an axis's state, by what is carried to it
 pub record_written : (s : AxisGrid) (words items : List ℕ) (p : Plan) (index : ℕ) (a : AxisTracks) (ws : List ℕ) (u : Cursor) (r : GridTrack) (k from low high : ℕ) (lent after : List ℕ) (place : ℕ) →
     p ≡ plan_of (axis_tracks s) (template_in s words) (item_at items) → a ≡ axis_tracks s → ws ≡ part_of words 0 s.template.components → u ≡ cursor_at a (word_totals a.repetitions ws) ((index - 1) / 2) →
@@ -264,3 +221,12 @@ run_words_lem s words items first (suc n) h k =
     (ap₂ (λ (r : GridTrack) (l : List ℕ). record_words r ++ l)
     (sym (state-record (axis_tracks s) (template_in s words) (item_at items) (spares_in s words) first) ∙ ap (λ (r : RecordAnswer). r.track) (carried-answer s words items first (omega arith) k))
     (run_words_lem s words items (suc first) n (omega arith) k))
+
+-- the number of a source is at most 5
+pub source_fits : (source : TrackSource) (n : ℕ) → n ≡ source_number source → n ≤ 5
+source_fits Source.Negative n e = omega (arith, e)
+source_fits Source.Template n e = omega (arith, e)
+source_fits Source.Automatic n e = omega (arith, e)
+source_fits Source.Area n e = omega (arith, e)
+source_fits Source.Positive n e = omega (arith, e)
+source_fits Source.Gutter n e = omega (arith, e)

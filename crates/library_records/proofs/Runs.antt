@@ -8,11 +8,12 @@ use borrow.Author.Tests.{eq-eqb, ne_eqb, leb-false, ltb-false}
 use lib.Dec.{leb, ltb}
 use lib.ListN.{length}
 use lib.Seq.{sets}
-use Rattle.coordinates.specs.Refusals.{count, short}
+use Rattle.coordinates.specs.Refusals.{number_of, count, short}
 use Rattle.track_rules.specs.Records.{tracks_in, records_in}
+use Rattle.track_rules.proofs.Answers.{fault_some}
 use Rattle.axis_tables.specs.declared.AxisGrid.{AxisGrid}
 use Rattle.panel_rules.specs.Calls.{axis_tracks}
-use Rattle.library_numbers.specs.declared.CountAnswer.{CountAnswer}
+use Rattle.coordinates.specs.declared.refusal.Fault.{Fault}
 use Rattle.library_numbers.specs.Answers.{counted, uncounted}
 use Rattle.library_numbers.specs.Records.{run_words, run_refusal, run_count, written_run}
 
@@ -39,13 +40,13 @@ unfolding run_count
 count_fits s lent first n h e = (omega (arith, h, e), omega (arith, e))
 
 module _ (s : AxisGrid) (words items : List ℕ) (first : ℕ) (lent : List ℕ) where
-  pub run-refused : (number : ℕ) (answer : CountAnswer) → number ≡ run_refusal s (length items) (length lent) first → (number ≡ 0 → ⊥) → answer ≡ uncounted number →
-      record { answer = answer; words = lent } ≡ written_run s words items first lent
+  pub run-refused : (fault : Fault) → number_of fault ≡ run_refusal s (length items) (length lent) first →
+      record { answer = uncounted (number_of fault); words = lent } ≡ written_run s words items first lent
   unfolding written_run
-  run-refused number answer e out a = rw (← e, ne_eqb number 0 out, a)
+  run-refused fault e = rw (← e, ne_eqb (number_of fault) 0 (fault_some fault))
 
-  pub run-written : (n : ℕ) (answer : CountAnswer) (after : List ℕ) → run_refusal s (length items) (length lent) first ≡ 0 → n ≡ run_count s (length lent) first →
-      answer ≡ counted n → after ≡ sets lent 0 (run_words s words items first n) →
-      record { answer = answer; words = after } ≡ written_run s words items first lent
+  pub run-written : (n : ℕ) (after : List ℕ) → run_refusal s (length items) (length lent) first ≡ 0 → n ≡ run_count s (length lent) first →
+      after ≡ sets lent 0 (run_words s words items first n) →
+      record { answer = counted n; words = after } ≡ written_run s words items first lent
   unfolding written_run
-  run-written n answer after z e a w = rw (eq-eqb (run_refusal s (length items) (length lent) first) 0 z, a, w, e)
+  run-written n after z e w = rw (eq-eqb (run_refusal s (length items) (length lent) first) 0 z, w, e)

@@ -7,8 +7,9 @@ use mathlib.Core.Logic.{◌⊎◌, inl, inr, ⊎_elim}
 use mathlib.Core.Bool.{Bool, true, false, cond, ◌&&◌}
 use mathlib.Core.List.{List, [], ◌∷◌}
 use lib.Dec.{eqb}
-use lib.ListN.{length, get_or, drop, length-drop, drop_of_length-le}
-use lib.Seq.{drop-cons, get_or-drop}
+use lib.ListN.{length, get_or, take, drop, length-take, length-drop, drop_of_length-le}
+use lib.Seq.{drop-cons}
+use Rattle.std.proofs.lemmas.List.{get_or-take, get_or-drop}
 use borrow.Author.Tests.{eqb-true}
 use Rattle.template_rules.specs.declared.RepetitionCount.TheVariants.{Single, Count, AutoFill, AutoFit}
 use Rattle.template_rules.specs.declared.GridTemplateComponent.{GridTemplateComponent}
@@ -41,13 +42,21 @@ singles_here first ws k n h some =
     let e : n ≡ suc (n - 1) = omega arith in
     ap₂ (singles_of first) (drop-cons ws k 0 h) e ∙ singles_cons first (get_or ws k 0) (drop (suc k) ws) (n - 1)
 
+-- the words of a row, as a part of their own
+module _ (ws : List ℕ) (k left : ℕ) where
+  pub row-length : (most : ℕ) → most ≡ min (length ws - k) left → length (take (k + most - k) (drop k ws)) ≡ most
+  row-length most e = omega (arith, e, length-take (k + most - k) (drop k ws), length-drop k ws)
+
+  pub row-here : (i most : ℕ) → most ≡ min (length ws - k) left → i < length (take (k + most - k) (drop k ws)) →
+      (i < most) × (get_or (take (k + most - k) (drop k ws)) i 0 ≡ get_or ws (k + i) 0)
+  row-here i most e h =
+      let less : i < most = omega (arith, h, row-length most e) in
+      (less, get_or-take (k + most - k) (drop k ws) i 0 (omega arith) ∙ get_or-drop k ws i 0)
+
 -- a turn of the count, and its ends
 module _ (ws : List ℕ) (k first left : ℕ) where
   abbrev pub rest : ℕ → ℕ
   rest i = i + singles_of (first + i) (drop (k + i) ws) (left - i)
-
-  pub count_first : rest 0 ≡ singles_of first (drop k ws) left
-  count_first = let e : left - 0 ≡ left = omega arith in rw (add-zero first, add-zero k, e) (zero-add (singles_of first (drop k ws) left))
 
   pub count-stops : (i most : ℕ) (b : Bool) → most ≡ min (length ws - k) left → i < most → b ≡ single_at (first + i) (get_or ws (k + i) 0) → b ≡ false → i ≡ rest i
   count-stops i most b m h e f =
@@ -110,14 +119,6 @@ single_repeated place w e =
 module _ (place w : ℕ) (x : GridTemplateComponent) (b : Bool) (e : x ≡ component_of w) (f : b ≡ is_single x.count) where
   kind-known : b ≡ is_single (component_of w).count
   kind-known = f ∙ ap (λ (y : GridTemplateComponent). is_single y.count) e
-
-  pub single-yes : b ≡ true → eqb x.first place ≡ single_at place w
-  unfolding single_at
-  single-yes t = ap (λ (y : GridTemplateComponent). eqb y.first place) e ∙ ap (λ (z : Bool). z && eqb (component_of w).first place) (sym t ∙ kind-known)
-
-  pub single-no : b ≡ false → false ≡ single_at place w
-  unfolding single_at
-  single-no t = ap (λ (z : Bool). z && eqb (component_of w).first place) (sym t ∙ kind-known)
 
 -- so many are there
 pub singles_fit : (first : ℕ) (ws : List ℕ) (n : ℕ) → (singles_of first ws n ≤ n) × (singles_of first ws n ≤ length ws)

@@ -30,13 +30,6 @@ range_word word b e t =
     sym
     (ap₂ size_word_of (ap (λ (n : ℕ). kind_of (sizing_of n)) (sym w) ∙ back.0) (ap (λ (n : ℕ). bits_of (sizing_of n)) (sym w) ∙ back.1) ∙ w)
 
--- the place after the last is the first
-pub next_first : (inner length : ℕ) → inner + 1 ≡ length → 0 ≡ (inner + 1) % length
-next_first inner length e = rw e (sym (mod_self length))
-
-pub next-inner : (inner length : ℕ) → inner < length → (inner + 1 ≡ length → ⊥) → inner + 1 ≡ (inner + 1) % length
-next-inner inner length h k = sym (mod-eq_of_lt (omega arith))
-
 -- one place further
 pub further : (inner next offset i length : ℕ) → inner ≡ (offset + i) % length → next ≡ (inner + 1) % length → next ≡ (offset + (i + 1)) % length
 further inner next offset i length e f =

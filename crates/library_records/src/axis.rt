@@ -12,8 +12,8 @@ use crate::template::write_template;
 use crate::{Gutters, Stretch};
 use axis_tables::AxisGrid;
 use panel_calls::axis_track::axis_tracks;
-use panel_calls::part::{spare_maximums_of, spare_minimums_of};
-use track_record::count::{before_end, past_end};
+use panel_calls::part::spares_on;
+use track_record::count::before_end;
 use track_rules::Plan;
 
 // What the gutters of an axis share.
@@ -44,15 +44,14 @@ pub(crate) fn write_pairs(
     let negative = counts.negative_implicit as u64;
     let end = negative + plan.written as u64;
     let gutters = gutters_of(grid, plan);
-    let minimums = spare_minimums_of(grid, tables);
-    let maximums = spare_maximums_of(grid, tables);
+    let spares = spares_on(grid, tables);
     let before = before_end(negative, tracks.first as u64, tracks.count);
     let early = Stretch {
         first: tracks.first,
         count: before,
         place: tracks.place,
     };
-    write_negative(minimums, maximums, items, negative, gutters, early, words);
+    write_negative(spares, items, negative, gutters, early, words);
     let first = tracks.first + before;
     let written = before_end(end, first as u64, tracks.count - before);
     let middle = Stretch {
@@ -60,7 +59,7 @@ pub(crate) fn write_pairs(
         count: written,
         place: tracks.place + 6 * before,
     };
-    let offset = past_end(negative, first as u64);
+    let offset = (first as u64).saturating_sub(negative);
     write_template(grid, tables, items, offset, gutters, middle, words);
     let next = first + written;
     let late = Stretch {
@@ -68,9 +67,7 @@ pub(crate) fn write_pairs(
         count: tracks.count - before - written,
         place: tracks.place + 6 * (before + written),
     };
-    let passed = past_end(end, next as u64);
+    let passed = (next as u64).saturating_sub(end);
     let explicit = negative + counts.explicit as u64;
-    write_positive(
-        minimums, maximums, items, explicit, passed, gutters, late, words,
-    );
+    write_positive(spares, items, explicit, passed, gutters, late, words);
 }

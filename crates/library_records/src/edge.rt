@@ -8,13 +8,13 @@ ghost use Rattle.library_records.specs.Pairs.{joined, record_at};
 
 use crate::Stretch;
 use crate::axis::write_pairs;
-use crate::pair::{GUTTER, GUTTER_SOURCE, put_record};
+use crate::pair::put_record;
+use crate::size::word_of;
 use axis_tables::AxisGrid;
-use library_numbers::numbers::{kind_number, size_word, source_number};
 use panel_calls::axis_track::{axis_tracks, carried_on, plan_on};
-use panel_calls::part::components_of;
+use panel_calls::part::template_on;
 use track_record::rule::cursor_at;
-use track_rules::{Plan, TrackWalk};
+use track_rules::{GridTrackKind, Plan, TrackSource, TrackWalk};
 
 // Writes record `index` at a place.
 fn write_record(
@@ -31,22 +31,17 @@ fn write_record(
     ensures { words.new ≡ sets words.old place (record_at grid tables.now items.now index) }
 {
     let axis = axis_tracks(grid);
-    let cursor = cursor_at(components_of(grid, tables), axis, index as u64);
+    let cursor = cursor_at(template_on(grid, tables).components, axis, index as u64);
     let at = TrackWalk { axis, plan, cursor };
     let track = carried_on(grid, tables, items, at, index);
-    let kind = track.kind;
-    let source = track.source;
-    let size = track.size;
-    let minimum = size.min;
-    let maximum = size.max;
     put_record(
         words,
         place,
-        kind_number(kind),
-        source_number(source),
+        track.kind,
+        track.source,
         track.collapsed,
-        size_word(minimum),
-        size_word(maximum),
+        word_of(track.size.min),
+        word_of(track.size.max),
     );
 }
 
@@ -68,7 +63,8 @@ fn write_edge(
         return;
     }
     if records.first == 0 {
-        put_record(words, records.place, GUTTER, GUTTER_SOURCE, true, 0, 0);
+        let (kind, source) = (GridTrackKind::Gutter, TrackSource::Gutter);
+        put_record(words, records.place, kind, source, true, 0, 0);
         return;
     }
     write_record(
@@ -86,13 +82,7 @@ fn write_edge(
 fn head_count(first: usize, count: usize) -> usize
     ensures { result ≡ min (1 - first % 2) count }
 {
-    if first % 2 == 1 {
-        return 0;
-    }
-    if count == 0 {
-        return 0;
-    }
-    1
+    count.min(1 - first % 2)
 }
 
 // Writes `count` records of an axis from `first` on.

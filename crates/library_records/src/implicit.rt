@@ -9,15 +9,14 @@ use crate::part::write_part;
 use crate::{Gutters, Stretch};
 use track_record::Repeated;
 use track_record::count::before_end;
-use track_rules::TrackSource;
+use track_rules::{SpareSizes, TrackSource};
 
 // The word of an auto size.
 const AUTO: u64 = 0x3_0000_0000;
 
 // Writes a stretch of tracks with the gutters after them: the spare sizes from `offset` on, auto where there are none.
 pub(crate) fn write_spares(
-    spare_minimums: &[u64],
-    spare_maximums: &[u64],
+    spares: SpareSizes,
     items: &[u8],
     source: TrackSource,
     offset: u64,
@@ -27,12 +26,12 @@ pub(crate) fn write_spares(
 )
     requires count_bound { tracks.first + tracks.count < 4294967296 }
     requires count_in_bounds { tracks.place + 6 * tracks.count ≤ length words.old }
-    ensures { words.new ≡ sets words.old tracks.place (joined (spare_pair source (spares_of spare_minimums.now spare_maximums.now) items.now offset tracks.first gutters) tracks.first tracks.count) }
+    ensures { words.new ≡ sets words.old tracks.place (joined (spare_pair source (spares_of spares.entry.minimums.now spares.entry.maximums.now) items.now offset tracks.first gutters) tracks.first tracks.count) }
 {
     if tracks.count == 0 {
         return;
     }
-    let length = spare_minimums.len() as u64;
+    let length = spares.minimums.len() as u64;
     if length == 0 {
         let auto = [AUTO; 1];
         let part = Repeated {
@@ -51,8 +50,8 @@ pub(crate) fn write_spares(
         fit: false,
     };
     write_part(
-        spare_minimums,
-        spare_maximums,
+        spares.minimums,
+        spares.maximums,
         items,
         part,
         offset,
@@ -67,15 +66,15 @@ fn first_spare(spares: usize, negative: u64) -> u64
     ensures { result ≡ spares - negative % spares }
 {
     if spares == 0 {
-        return 0;
+        0
+    } else {
+        spares as u64 - negative % spares as u64
     }
-    spares as u64 - negative % spares as u64
 }
 
 // Writes a stretch of the tracks before the grid, of which there are `negative`, with the gutters after them.
 pub(crate) fn write_negative(
-    spare_minimums: &[u64],
-    spare_maximums: &[u64],
+    spares: SpareSizes,
     items: &[u8],
     negative: u64,
     gutters: Gutters,
@@ -84,15 +83,14 @@ pub(crate) fn write_negative(
 )
     requires count_bound { tracks.first + tracks.count < 4294967296 }
     requires count_in_bounds { tracks.place + 6 * tracks.count ≤ length words.old }
-    ensures { words.new ≡ sets words.old tracks.place (joined (spare_pair Negative (spares_of spare_minimums.now spare_maximums.now) items.now (length spare_minimums.now - negative % length spare_minimums.now + tracks.first) tracks.first gutters) tracks.first tracks.count) }
+    ensures { words.new ≡ sets words.old tracks.place (joined (spare_pair Negative (spares_of spares.entry.minimums.now spares.entry.maximums.now) items.now (length spares.entry.minimums.now - negative % length spares.entry.minimums.now + tracks.first) tracks.first gutters) tracks.first tracks.count) }
 {
     if tracks.count == 0 {
         return;
     }
-    let offset = first_spare(spare_minimums.len(), negative) + tracks.first as u64;
+    let offset = first_spare(spares.minimums.len(), negative) + tracks.first as u64;
     write_spares(
-        spare_minimums,
-        spare_maximums,
+        spares,
         items,
         TrackSource::Negative,
         offset,
@@ -104,8 +102,7 @@ pub(crate) fn write_negative(
 
 // Writes a stretch of the tracks after those of the template, with the gutters after them: those before `end` only an area makes.
 pub(crate) fn write_positive(
-    spare_minimums: &[u64],
-    spare_maximums: &[u64],
+    spares: SpareSizes,
     items: &[u8],
     end: u64,
     offset: u64,
@@ -116,7 +113,7 @@ pub(crate) fn write_positive(
     requires offset_bound { offset < 4294967296 }
     requires count_bound { tracks.first + tracks.count < 4294967296 }
     requires count_in_bounds { tracks.place + 6 * tracks.count ≤ length words.old }
-    ensures { words.new ≡ sets words.old tracks.place (joined (positive_pair (spares_of spare_minimums.now spare_maximums.now) items.now end offset tracks.first gutters) tracks.first tracks.count) }
+    ensures { words.new ≡ sets words.old tracks.place (joined (positive_pair (spares_of spares.entry.minimums.now spares.entry.maximums.now) items.now end offset tracks.first gutters) tracks.first tracks.count) }
 {
     let areas = before_end(end, tracks.first as u64, tracks.count);
     let early = Stretch {
@@ -125,8 +122,7 @@ pub(crate) fn write_positive(
         place: tracks.place,
     };
     write_spares(
-        spare_minimums,
-        spare_maximums,
+        spares,
         items,
         TrackSource::Area,
         offset,
@@ -140,8 +136,7 @@ pub(crate) fn write_positive(
         place: tracks.place + 6 * areas,
     };
     write_spares(
-        spare_minimums,
-        spare_maximums,
+        spares,
         items,
         TrackSource::Positive,
         offset + areas as u64,

@@ -7,14 +7,13 @@ ghost use Rattle.std.proofs.lemmas.List.Edits.{sets};
 ghost use Rattle.track_rules.specs.Records.{tracks_in, records_in};
 ghost use Rattle.panel_tables.specs.Axes.{grid_in};
 ghost use Rattle.panel_tables.specs.Regions.{axis_words_in};
+ghost use Rattle.coordinates.specs.Refusals.{refused_by};
 ghost use Rattle.panel_rules.specs.Calls.{axis_tracks};
+ghost use Rattle.library_numbers.specs.Answers.{answered_count};
 ghost use Rattle.library_numbers.specs.Records.{run_words, run_refusal, run_count, WrittenRun, written_run};
 
 use axis_tables::AxisGrid;
-use coordinates::Axis;
-use coordinates::refusal::{COUNT, SHORT};
-use library_numbers::CountAnswer;
-use library_numbers::numbers::{counted, uncounted};
+use coordinates::{Axis, Fault};
 use panel_calls::axis_track::axis_tracks;
 use panel_tables::Grid;
 use panel_tables::axis::grid_in;
@@ -33,6 +32,9 @@ mod taken;
 mod template;
 
 use edge::write_axis;
+
+// The words of a record.
+const RECORD_WORDS: usize = 3;
 
 // What all gutters share: the word of the gap, and one past the last open track.
 #[derive(Clone, Copy)]
@@ -83,30 +85,29 @@ fn write_records(
     write_axis(grid, tables, items, first, count, words);
 }
 
-// What a run is refused by.
-fn run_refusal(grid: AxisGrid, items: usize, lent: usize, first: u32) -> u32
-    ensures { result ≡ run_refusal grid items lent first }
+// Whether a run may be written.
+#[tactic(auto, unfolding(library_numbers::specs::Records::run_refusal))]
+fn check_run(grid: AxisGrid, items: usize, lent: usize, first: u32) -> Result<(), Fault>
+    ensures { refused_by result ≡ run_refusal grid items lent first }
 {
     let tracks = track_count(axis_tracks(grid));
     if 2 * tracks + 1 <= first {
-        return COUNT;
+        return Err(Fault::Count);
     }
-    if (items < tracks as usize) | (lent < 3) {
-        return SHORT;
+    if items < tracks as usize || lent < RECORD_WORDS {
+        return Err(Fault::Short);
     }
-    0
+    Ok(())
 }
 
 // How many records are written from one that there is.
+#[tactic(auto, unfolding(library_numbers::specs::Records::run_count))]
 fn run_count(grid: AxisGrid, lent: usize, first: u32) -> usize
     requires { first ≤ records_in (axis_tracks grid) }
     ensures { result ≡ run_count grid lent first }
 {
-    let left = (2 * track_count(axis_tracks(grid)) + 1 - first) as usize;
-    if left < lent / 3 {
-        return left;
-    }
-    lent / 3
+    let left = 2 * track_count(axis_tracks(grid)) + 1 - first;
+    (left as usize).min(lent / RECORD_WORDS)
 }
 
 // Writes the records of one axis from `first` on.
@@ -116,19 +117,17 @@ fn write_on(
     items: &[u8],
     first: u32,
     words: &mut [u64],
-) -> CountAnswer
-    ensures { record { answer = result; words = words.new } ≡ written_run grid tables.now items.now first words.old }
+) -> Result<u64, Fault>
+    ensures { record { answer = answered_count result; words = words.new } ≡ written_run grid tables.now items.now first words.old }
 {
-    let number = run_refusal(grid, items.len(), words.len(), first);
-    if number != 0 {
-        return uncounted(number);
-    }
+    check_run(grid, items.len(), words.len(), first)?;
     let count = run_count(grid, words.len(), first);
     write_records(grid, tables, items, first as usize, count, words);
-    counted(count as u64)
+    Ok(count as u64)
 }
 
-// Writes the records of an axis of a panel from `first` on, as many as there are and as fit.
+// Writes the records of an axis of a panel from `first` on, as many as there are and as fit. Refuses a first record that there is not by 4,
+// and then fewer than N item bytes, and words for no record, by 10.
 pub fn write_run(
     grid: Grid,
     words: &[u64; PANEL_WORDS],
@@ -136,9 +135,14 @@ pub fn write_run(
     items: &[u8],
     first: u32,
     records: &mut [u64],
-) -> CountAnswer
-    ensures { record { answer = result; words = records.new } ≡ written_run (grid_in grid axis) (axis_words_in axis words.now) items.now first records.old }
+) -> Result<u64, Fault>
+    ensures { record { answer = answered_count result; words = records.new } ≡ written_run (grid_in grid axis) (axis_words_in axis words.now) items.now first records.old }
 {
-    let own = grid_in(grid, axis);
-    write_on(own, axis_words(words, axis), items, first, records)
+    write_on(
+        grid_in(grid, axis),
+        axis_words(words, axis),
+        items,
+        first,
+        records,
+    )
 }

@@ -13,9 +13,10 @@ fn inner_of(offset: u64, length: u64) -> u64
     ensures { result ≡ offset % length }
 {
     if offset < length {
-        return offset;
+        offset
+    } else {
+        offset % length
     }
-    offset % length
 }
 
 // The place after one, among so many that repeat.
@@ -23,10 +24,7 @@ fn next_of(inner: u64, length: u64) -> u64
     requires { inner < length }
     ensures { result ≡ (inner + 1) % length }
 {
-    if inner + 1 == length {
-        return 0;
-    }
-    inner + 1
+    if inner + 1 == length { 0 } else { inner + 1 }
 }
 
 // Writes a stretch of tracks with the gutters after them: the sizes of tracks that repeat, from `offset` on.
@@ -46,24 +44,16 @@ pub(crate) fn write_part(
     requires count_in_bounds { tracks.place + 6 * tracks.count ≤ length words.old }
     ensures { words.new ≡ sets words.old tracks.place (joined (part_pair minimums.now maximums.now items.now part offset tracks.first gutters) tracks.first tracks.count) }
 {
-    let count = tracks.count;
-    if count == 0 {
+    if tracks.count == 0 {
         return;
     }
-    let length = part.length;
-    let size = part.first;
-    let source = part.source;
-    let fit = part.fit;
-    let first = tracks.first;
-    let place = tracks.place;
-    let mut inner = inner_of(offset, length);
-    let mut i: usize = 0;
-    while i < count {
+    let mut inner = inner_of(offset, part.length);
+    for done in 0..tracks.count {
         let track = PlacedTrack {
-            number: (first + i) as u64,
-            size: size + inner,
-            source,
-            fit,
+            number: (tracks.first + done) as u64,
+            size: part.first + inner,
+            source: part.source,
+            fit: part.fit,
         };
         put_pair(
             minimums,
@@ -72,9 +62,8 @@ pub(crate) fn write_part(
             track,
             gutters,
             words,
-            place + 6 * i,
+            tracks.place + 6 * done,
         );
-        inner = next_of(inner, length);
-        i += 1;
+        inner = next_of(inner, part.length);
     }
 }

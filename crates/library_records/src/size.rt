@@ -4,25 +4,30 @@ ghost use Rattle.sizing.specs.Words.{sizing_of};
 ghost use Rattle.library_records.specs.Pairs.{word_of};
 
 use sizing::Sizing;
+use sizing::range::word_in_range;
+use sizing::word::sizing_of;
+
+// The word of the largest length.
+const LARGEST_LENGTH: u64 = 0x477f_ff00;
 
 // The word of a size.
 pub(crate) fn word_of(size: Sizing) -> u64
     ensures { result ≡ word_of size }
 {
-    sizing::word::size_word(sizing::word::kind_of(size), sizing::word::bits_of(size))
+    sizing::word::size_word(size.kind(), sizing::word::bits_of(size))
 }
 
 // The word of the size that a word gives: one in range is its own.
 fn kept_word(word: u64) -> u64
     ensures { result ≡ word_of (sizing_of word) }
 {
-    if word <= 0x477f_ff00 {
+    if word <= LARGEST_LENGTH {
         return word;
     }
-    if sizing::range::value_in_range((word / 0x1_0000_0000) as u32, (word % 0x1_0000_0000) as u32) {
+    if word_in_range(word) {
         return word;
     }
-    word_of(sizing::word::sizing_of(word))
+    word_of(sizing_of(word))
 }
 
 // The word of the size at a place of a table.

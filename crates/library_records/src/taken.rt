@@ -1,37 +1,23 @@
 // Which tracks of a template are written next: those of a component, or single ones in a row.
 ghost use Rattle.std.specs.Prelude.{◌≡◌, ◌+◌, ◌≤◌, ◌<◌, length, get_or, drop};
-ghost use Rattle.library_records.specs.Parts.{is_single, single_at, singles_of, singles_at, component_part, part_at};
+ghost use Rattle.library_records.specs.Parts.{single_at, singles_of, singles_at, component_part, part_at};
 
 use crate::TemplatePart;
 use template_rules::RepetitionCount;
+use template_rules::component::component_of;
 use track_record::Repeated;
 use track_record::component::repeated_of;
-use track_record::count::{before_end, past_end};
+use track_record::count::before_end;
 use track_record::cursor::total;
 use track_rules::{Cursor, TrackSource};
 
-// Whether a component is one track alone.
-fn is_single(count: RepetitionCount) -> bool
-    ensures { result ≡ is_single count }
-{
-    match count {
-        RepetitionCount::Single => true,
-        RepetitionCount::Count(_) => false,
-        RepetitionCount::AutoFill => false,
-        RepetitionCount::AutoFit => false,
-    }
-}
-
 // Whether a component is one track alone, its size at a place of the tables.
+#[tactic(auto, unfolding(crate::specs::Parts::single_at))]
 fn single_at(word: u64, place: u64) -> bool
     ensures { result ≡ single_at place word }
 {
-    let component = template_rules::component::component_of(word);
-    let count = component.count;
-    if is_single(count) {
-        return component.first == place;
-    }
-    false
+    let component = component_of(word);
+    matches!(component.count, RepetitionCount::Single) && component.first == place
 }
 
 // How many components in a row are single tracks, their sizes one after the other from `first` on; at most `left`.
@@ -42,14 +28,12 @@ fn single_count(components: &[u64], component: usize, first: u64, left: usize) -
     ensures { result ≡ singles_of first (drop component components.now) left }
 {
     let most = before_end(components.len() as u64, component as u64, left);
-    let mut run: usize = 0;
-    while run < most {
-        if !single_at(components[component + run], first + run as u64) {
+    for (run, word) in components[component..component + most].iter().enumerate() {
+        if !single_at(*word, first + run as u64) {
             return run;
         }
-        run += 1;
     }
-    run
+    most
 }
 
 // How many single tracks in a row start at a cursor, at most `left`.
@@ -61,27 +45,25 @@ fn singles_at(components: &[u64], at: Cursor, left: usize) -> usize
     if at.offset != 0 {
         return 0;
     }
-    let component = at.component;
-    let part = repeated_of(components[component]);
-    single_count(components, component, part.first, left)
+    let part = repeated_of(components[at.component]);
+    single_count(components, at.component, part.first, left)
 }
 
 // The tracks of a component at a cursor, at most `left` of them.
+#[tactic(auto, unfolding(crate::specs::Parts::component_part))]
 fn component_part(word: u64, repetitions: u32, at: Cursor, left: usize) -> TemplatePart
     requires { at.component < 18446744073709551615 }
     ensures { result ≡ component_part repetitions word at left }
 {
     let tracks = total(word, repetitions);
     let count = before_end(tracks, at.offset, left);
-    let repeated = repeated_of(word);
-    let after = Cursor {
-        component: at.component + 1,
-        offset: past_end(tracks, at.offset),
-    };
     TemplatePart {
-        repeated,
+        repeated: repeated_of(word),
         count,
-        after,
+        after: Cursor {
+            component: at.component + 1,
+            offset: at.offset.saturating_sub(tracks),
+        },
     }
 }
 

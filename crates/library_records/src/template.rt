@@ -10,7 +10,7 @@ use crate::part::write_part;
 use crate::taken::part_at;
 use crate::{Gutters, Stretch};
 use axis_tables::AxisGrid;
-use panel_calls::part::{components_of, maximums_of, minimums_of};
+use panel_calls::part::template_on;
 use track_rules::Cursor;
 
 // Writes a stretch of tracks with the gutters after them: those of the template from its track `offset` on.
@@ -28,31 +28,31 @@ pub(crate) fn write_template(
     requires count_in_bounds { tracks.place + 6 * tracks.count ≤ length words.old }
     ensures { words.new ≡ sets words.old tracks.place (joined (template_pair (word_totals grid.size.repetitions (part_of tables.now 0 grid.template.components)) (template_in grid tables.now) items.now offset tracks.first gutters) tracks.first tracks.count) }
 {
-    let components = components_of(grid, tables);
-    let minimums = minimums_of(grid, tables);
-    let maximums = maximums_of(grid, tables);
-    let mut component: usize = 0;
-    let mut at = offset;
+    let template = template_on(grid, tables);
+    let mut at = Cursor {
+        component: 0,
+        offset,
+    };
     let mut done: usize = 0;
     while done < tracks.count {
-        let cursor = Cursor {
-            component,
-            offset: at,
-        };
         let left = tracks.count - done;
-        let part = part_at(components, grid.size.repetitions, cursor, left);
-        let repeated = part.repeated;
-        let after = part.after;
+        let part = part_at(template.components, grid.size.repetitions, at, left);
         let stretch = Stretch {
             first: tracks.first + done,
             count: part.count,
             place: tracks.place + 6 * done,
         };
         write_part(
-            minimums, maximums, items, repeated, at, gutters, stretch, words,
+            template.minimums,
+            template.maximums,
+            items,
+            part.repeated,
+            at.offset,
+            gutters,
+            stretch,
+            words,
         );
-        component = after.component;
-        at = after.offset;
+        at = part.after;
         done += part.count;
     }
 }

@@ -1,21 +1,19 @@
 -- Where a line lies, in the three sentences of document 02, and which axes have no definite size. Assumes nothing.
+use Rattle.std.specs.Prelude.{Float, Option, Some, None}
 use mathlib.Core.Path.{◌≡◌, refl, ap, ◌∙◌}
 use Prim.Native.Nat.{ℕ, zero, suc, ◌+◌, ◌-◌, ◌*◌, ◌/◌, ◌<◌, min}
 use native.Mathlib.Omega.{arith}
 use mathlib.Core.Bool.{Bool, true, false, ◌&&◌, true≢false}
 use mathlib.Core.List.{List, [], ◌∷◌}
 use lib.ListN.{length, get_or}
-use Rattle.sizing.specs.declared.DefiniteSize.{DefiniteSize}
-use Rattle.sizing.specs.declared.DefiniteSize.TheVariants.{Definite, Indefinite}
 use Rattle.sizing.specs.Definite.{is_definite}
 use Rattle.sizing.specs.Sums.{sum_from}
-use Rattle.template_rules.specs.declared.InnerSize.{InnerSize}
 use Rattle.track_rules.specs.declared.GridTrack.{GridTrack}
 use Rattle.line_positions.specs.Positions.{record_value_in, all_definite, start_of, tracks_among, LinesLie, SomeIndefinite}
 use Rattle.line_positions.proofs.Walk.{start-next}
 
 -- the one formula is the three sentences
-pub lines_lie : (inner : InnerSize) (records : List GridTrack) → LinesLie inner records
+pub lines_lie : (inner : Option Float) (records : List GridTrack) → LinesLie inner records
 unfolding start_of sum_from
 lines_lie inner records =
     record {
@@ -38,11 +36,11 @@ lines_lie inner records =
 
 -- ---- sizes that are not definite
 
-told : (v : DefiniteSize) → is_definite v ≡ false → v ≡ Indefinite
-told (Definite x) h = absurd (true≢false h)
-told Indefinite h = refl
+told : (v : Option Float) → is_definite v ≡ false → v ≡ None
+told (Some x) h = absurd (true≢false h)
+told None h = refl
 
-module _ (inner : InnerSize) (d : GridTrack) where
+module _ (inner : Option Float) (d : GridTrack) where
   some : (records : List GridTrack) → all_definite inner records ≡ false → SomeIndefinite inner records d
   unfolding all_definite
   some [] h = absurd (true≢false h)
@@ -58,7 +56,7 @@ module _ (inner : InnerSize) (d : GridTrack) where
           least : (n : ℕ) → 0 < suc n
           least n = omega arith
 
-  none-at : (records : List GridTrack) (i : ℕ) → i < length records → record_value_in inner (get_or records i d) ≡ Indefinite → all_definite inner records ≡ false
+  none-at : (records : List GridTrack) (i : ℕ) → i < length records → record_value_in inner (get_or records i d) ≡ None → all_definite inner records ≡ false
   unfolding all_definite
   none-at [] i h e = absurd (none i h)
     where

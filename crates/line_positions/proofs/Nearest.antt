@@ -1,4 +1,5 @@
 -- The nearest line: none is nearer, none lower is as near, and there is one. Assumes nothing.
+use Rattle.std.specs.Prelude.{Option}
 use mathlib.Core.Path.{◌≡◌, refl, sym, subst}
 use mathlib.Core.Logic.{⊎_elim}
 use Prim.Native.Nat.{ℕ, zero, suc, ◌≤◌, ◌<◌}
@@ -9,7 +10,6 @@ use lib.Dec.{T}
 use lib.Ieee.{Float, lt, le}
 use Rattle.sizing.specs.Words.{largest_bits, float_up_to}
 use Rattle.sizing.proofs.Operations.{nonneg}
-use Rattle.template_rules.specs.declared.InnerSize.{InnerSize}
 use Rattle.track_rules.specs.declared.GridTrack.{GridTrack}
 use Rattle.track_rules.proofs.Lists.{lt_or_ge}
 use Rattle.line_positions.specs.Positions.{tracks_among, position_of, distance_of, nearest_among, nearest_of, Nearest, InRange}
@@ -55,7 +55,7 @@ module _ (position : ℕ → Float) (x : Float) (fine : (k : ℕ) → T (nonneg 
       clash true a b = true≢false b
       clash false a b = a
 
-module _ (inner : InnerSize) (records : List GridTrack) (ranges : InRange inner records) (bits : ℕ) where
+module _ (inner : Option Float) (records : List GridTrack) (ranges : InRange inner records) (bits : ℕ) where
   fine : (k : ℕ) → T (nonneg (distance_of (position_of inner records k) (float_up_to largest_bits bits)))
   fine k =
       distance_nonneg (position_of inner records k) (float_up_to largest_bits bits) (position-fits inner records ranges k) (pixel_fits bits) (position-finite inner records ranges k) (pixel_finite bits)

@@ -1,4 +1,5 @@
 -- Positions of lines are finite, and none is less than the one before. Assumes nothing.
+use Rattle.std.specs.Prelude.{Option, Some, None}
 use mathlib.Core.Path.{◌≡◌, refl, sym, subst, ◌∙◌}
 use mathlib.Core.Logic.{⊎_elim}
 use Prim.Native.Nat.{ℕ, zero, suc, ◌+◌, ◌*◌, ◌≤◌, ◌<◌, min}
@@ -21,8 +22,6 @@ use Rattle.sizing.proofs.Patterns.{bits_value}
 use Rattle.sizing.proofs.Ranges.{length_bits}
 use Rattle.sizing.proofs.Sums.{sum_one_more}
 use Rattle.sizing.proofs.Running.{Small, Smalls, track-small, sum_fits, sum_finite, sum_never_falls}
-use Rattle.template_rules.specs.declared.InnerSize.{InnerSize}
-use Rattle.template_rules.specs.declared.InnerSize.TheVariants as Inner
 use Rattle.track_rules.specs.declared.GridTrack.{GridTrack}
 use Rattle.track_rules.specs.Tracks.{zero_grid_track}
 use Rattle.track_rules.proofs.Lists.{lt_or_ge}
@@ -66,15 +65,15 @@ only_in_range (FitContentPercent p) h = tt
 zero_in_range : T (up_to largest_length zero32)
 zero_in_range = subst T (sym (length_bits 0)) tt
 
-value-small : (inner : InnerSize) (r : GridTrack) → InnerInRange inner → T (sizing_in_range r.size.min) → T (sizing_in_range r.size.max) → Small (or_zero (record_value_in inner r))
-value-small (Inner.Definite x) r h p q = track-small r.size x p q h
-value-small Inner.Indefinite r h p q =
+value-small : (inner : Option Float) (r : GridTrack) → InnerInRange inner → T (sizing_in_range r.size.min) → T (sizing_in_range r.size.max) → Small (or_zero (record_value_in inner r))
+value-small (Some x) r h p q = track-small r.size x p q h
+value-small None r h p q =
     let low = r.size.min in
     let high = r.size.max in
     let s = track-small (record { min = only_length low; max = only_length high }) zero32 (only_in_range low p) (only_in_range high q) zero_in_range in
     rw (only-is low zero32, only-is high zero32) at s
 
-values_small : (inner : InnerSize) (records : List GridTrack) → InnerInRange inner → SizesInRange records → Smalls (values_of inner records)
+values_small : (inner : Option Float) (records : List GridTrack) → InnerInRange inner → SizesInRange records → Smalls (values_of inner records)
 unfolding values_of
 values_small inner [] h s = tt
 values_small inner (r ∷ rs) h s = (value-small inner r h s.0 s.1, values_small inner rs h s.2)
@@ -98,16 +97,16 @@ take-small (suc i) (x ∷ xs) s = (s.0, take-small i xs s.1)
 
 -- ---- where a record starts
 
-pub start_fits : (inner : InnerSize) (records : List GridTrack) (i : ℕ) → T (fits binary32 (start_of inner records i))
+pub start_fits : (inner : Option Float) (records : List GridTrack) (i : ℕ) → T (fits binary32 (start_of inner records i))
 unfolding start_of
 start_fits inner records i = sum_fits (take i (values_of inner records)) zero32 (of_bits-fits binary32 0)
 
-length_values : (inner : InnerSize) (records : List GridTrack) → length (values_of inner records) ≡ length records
+length_values : (inner : Option Float) (records : List GridTrack) → length (values_of inner records) ≡ length records
 unfolding values_of
 length_values inner [] = refl
 length_values inner (r ∷ rs) = rw (length_values inner rs)
 
-module _ (inner : InnerSize) (records : List GridTrack) (ranges : InRange inner records) where
+module _ (inner : Option Float) (records : List GridTrack) (ranges : InRange inner records) where
   few-first : (i : ℕ) → length (take i (values_of inner records)) < 16777216
   few-first i = let few = ranges.few in omega (arith, length-take i (values_of inner records), length_values inner records)
 

@@ -1,4 +1,5 @@
 -- What one walk over the records gathers is what is defined over all of them. Assumes nothing.
+use Rattle.std.specs.Prelude.{Option}
 use Prim.Native.Nat.{ℕ, zero, suc, ◌+◌, ◌*◌, ◌/◌, ◌%◌, ◌≤◌, ◌<◌, min}
 use native.Mathlib.Omega.{arith}
 use native.Mathlib.Numerals.{add-one}
@@ -14,7 +15,6 @@ use borrow.Author.Tests.{eq-eqb, ne_eqb, lt-ltb, le-ltb}
 use Rattle.sizing.specs.Words.{zero32}
 use Rattle.sizing.specs.Sums.{sum_from}
 use Rattle.sizing.specs.Definite.{is_definite, or_zero}
-use Rattle.template_rules.specs.declared.InnerSize.{InnerSize}
 use Rattle.track_rules.specs.declared.GridTrack.{GridTrack}
 use Rattle.track_rules.proofs.Lists.{lt_or_ge}
 use Rattle.line_positions.specs.declared.PixelSpan.{PixelSpan}
@@ -24,7 +24,7 @@ use Rattle.line_positions.specs.Steps.{nearer_than, one_more, line_met, line_at,
 
 -- ---- one record more
 
-module _ (inner : InnerSize) where
+module _ (inner : Option Float) where
   sum-next : (t : Float) (records : List GridTrack) (i : ℕ) (d : GridTrack) → i < length records
       → sum_from t (take (suc i) (values_of inner records)) ≡ add binary32 (sum_from t (take i (values_of inner records))) (or_zero (record_value_in inner (get_or records i d)))
   unfolding sum_from values_of
@@ -121,7 +121,7 @@ module _ (span : PixelSpan) (position : ℕ → Float) where
 
 -- ---- the walk
 
-module _ (span : PixelSpan) (inner : InnerSize) (records : List GridTrack) where
+module _ (span : PixelSpan) (inner : Option Float) (records : List GridTrack) where
   abbrev last : ℕ
   last = 2 * tracks_among records
 

@@ -1,4 +1,5 @@
 -- The lines within a span of pixels are those between two counts: positions never fall. Assumes nothing.
+use Rattle.std.specs.Prelude.{Option}
 use mathlib.Core.Path.{◌≡◌, refl, sym, subst}
 use mathlib.Core.Logic.{⊎_elim}
 use Prim.Native.Nat.{ℕ, zero, suc, ◌≤◌, ◌<◌}
@@ -9,7 +10,6 @@ use lib.Dec.{T}
 use lib.Ieee.{Float, lt, le}
 use Rattle.sizing.specs.Words.{largest_bits, float_up_to}
 use Rattle.sizing.proofs.Operations.{nonneg}
-use Rattle.template_rules.specs.declared.InnerSize.{InnerSize}
 use Rattle.track_rules.specs.declared.GridTrack.{GridTrack}
 use Rattle.track_rules.proofs.Lists.{lt_or_ge}
 use Rattle.line_positions.specs.Positions.{tracks_among, position_of, Within, count_of, lines_before, lines_up_to, InRange}
@@ -71,7 +71,7 @@ module _ (test : ℕ → Bool) (falls : (j k : ℕ) → j ≤ k → T (test k) �
       rw (uncounted (test n) (count_of test n) (λ s. t (subst (λ (i : ℕ). T (test i)) (sym e) s))) (omega arith))
       (lt_or_ge k n)
 
-module _ (inner : InnerSize) (records : List GridTrack) (ranges : InRange inner records) where
+module _ (inner : Option Float) (records : List GridTrack) (ranges : InRange inner records) where
   abbrev at : ℕ → Float
   at k = position_of inner records k
 

@@ -1,11 +1,9 @@
 -- What one walk over the records of an axis gathers, record by record.
-use Rattle.std.specs.Prelude.{ℕ, zero, suc, ◌+◌, ◌*◌, ◌/◌, ◌%◌, Bool, true, cond, ◌&&◌, ◌||◌, List, eqb, ltb, take, Float}
+use Rattle.std.specs.Prelude.{ℕ, zero, suc, ◌+◌, ◌*◌, ◌/◌, ◌%◌, Bool, true, cond, ◌&&◌, ◌||◌, List, eqb, ltb, take, Float, Option}
 use Rattle.std.specs.Float.{binary32}
 use Rattle.std.specs.Float.Ieee.{add, lt, le}
-use Rattle.sizing.specs.declared.DefiniteSize.{DefiniteSize}
 use Rattle.sizing.specs.Words.{zero32}
 use Rattle.sizing.specs.Definite.{is_definite, or_zero}
-use Rattle.template_rules.specs.declared.InnerSize.{InnerSize}
 use Rattle.track_rules.specs.declared.GridTrack.{GridTrack}
 use Rattle.line_positions.specs.declared.PixelSpan.{PixelSpan}
 use Rattle.line_positions.specs.declared.LineWalk.{LineWalk}
@@ -40,12 +38,12 @@ abbrev pub line_at : ℕ → ℕ → Bool
 line_at last index = eqb (index % 2) 1 || eqb index last
 
 -- the record that starts there is passed
-unfoldable pub record_passed : LineWalk → DefiniteSize → LineWalk
+unfoldable pub record_passed : LineWalk → Option Float → LineWalk
 record_passed at value =
     record { start = add binary32 at.start (or_zero value); definite = at.definite && is_definite value; nearest = at.nearest; distance = at.distance; below = at.below; upto = at.upto }
 
 -- record `index`, the last being 2N: the line that lies at its start, and then what it measures
-unfoldable pub position_step : PixelSpan → InnerSize → LineWalk → ℕ → ℕ → GridTrack → LineWalk
+unfoldable pub position_step : PixelSpan → Option Float → LineWalk → ℕ → ℕ → GridTrack → LineWalk
 unfolding line_met record_passed
 position_step span inner at last index r = record_passed (cond (line_at last index) (line_met span at (index / 2)) at) (record_value_in inner r)
 
@@ -80,7 +78,7 @@ gathered span position start definite met =
       upto = count_of (λ k. le (position k) span.high) met;
     }
 
-unfoldable pub walked_to : PixelSpan → InnerSize → List GridTrack → ℕ → LineWalk
+unfoldable pub walked_to : PixelSpan → Option Float → List GridTrack → ℕ → LineWalk
 unfolding all_definite start_of nearest_among count_of
 walked_to span inner records i =
     gathered span (position_of inner records) (start_of inner records i) (all_definite inner (take i records)) (lines_met (2 * tracks_among records) i)

@@ -6,7 +6,7 @@ pub mod measure;
 pub mod step;
 
 // A span of pixels, by the positions of its ends; a cursor is a span of one position.
-#[derive(Clone, Copy)]
+#[derive(Clone, Copy, Debug, PartialEq)]
 pub struct PixelSpan {
     pub low: f32,
     pub high: f32,
@@ -14,7 +14,7 @@ pub struct PixelSpan {
 
 // What is gathered of the records so far: where the next one starts, whether each has a definite size, the line nearest to the low
 // end of a span and its distance, how many lines lie before the span, and how many at its high end or before.
-#[derive(Clone, Copy)]
+#[derive(Clone, Copy, Debug, PartialEq)]
 pub struct LineWalk {
     pub start: f32,
     pub definite: bool,

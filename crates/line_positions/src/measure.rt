@@ -2,44 +2,35 @@
 ghost use Rattle.std.specs.Prelude.{◌≡◌};
 ghost use Rattle.line_positions.specs.Positions.{length_alone, definite_in, record_value_in};
 
-use sizing::{DefiniteSize, Sizing};
-use template_rules::InnerSize;
+use sizing::Sizing;
+use sizing::definite::{definite_value, raised};
 use track_rules::GridTrack;
 
 // A length; no other kind is definite where there is no inner size.
-fn length_alone(size: Sizing) -> DefiniteSize
+fn length_alone(size: Sizing) -> Option<f32>
     ensures { result ≡ length_alone size }
 {
     match size {
-        Sizing::Length(v) => DefiniteSize::Definite(v),
-        Sizing::Percent(_) => DefiniteSize::Indefinite,
-        Sizing::Fraction(_) => DefiniteSize::Indefinite,
-        Sizing::Auto => DefiniteSize::Indefinite,
-        Sizing::MinContent => DefiniteSize::Indefinite,
-        Sizing::MaxContent => DefiniteSize::Indefinite,
-        Sizing::FitContentLength(_) => DefiniteSize::Indefinite,
-        Sizing::FitContentPercent(_) => DefiniteSize::Indefinite,
+        Sizing::Length(v) => Some(v),
+        _ => None,
     }
 }
 
 // A length, or a percentage of the inner size where there is one.
-pub fn definite_in(size: Sizing, inner: InnerSize) -> DefiniteSize
+pub fn definite_in(size: Sizing, inner: Option<f32>) -> Option<f32>
     ensures { result ≡ definite_in inner size }
 {
     match inner {
-        InnerSize::Definite(x) => sizing::definite::definite_value(size, x),
-        InnerSize::Indefinite => length_alone(size),
+        Some(x) => definite_value(size, x),
+        None => length_alone(size),
     }
 }
 
 // What a record measures.
-pub fn record_value(track: GridTrack, inner: InnerSize) -> DefiniteSize
+pub fn record_value(track: GridTrack, inner: Option<f32>) -> Option<f32>
     ensures { result ≡ record_value_in inner track }
 {
-    let size = track.size;
-    let largest = size.max;
-    let smallest = size.min;
-    let maximum = definite_in(largest, inner);
-    let minimum = definite_in(smallest, inner);
-    sizing::definite::raised(maximum, minimum)
+    let maximum = definite_in(track.size.max, inner);
+    let minimum = definite_in(track.size.min, inner);
+    raised(maximum, minimum)
 }

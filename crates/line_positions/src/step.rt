@@ -5,8 +5,6 @@ ghost use Rattle.line_positions.specs.Steps.{nearer_than, one_more, line_met, li
 
 use crate::measure::record_value;
 use crate::{LineWalk, PixelSpan};
-use sizing::DefiniteSize;
-use template_rules::InnerSize;
 use track_rules::GridTrack;
 
 // The f32 difference of two positions.
@@ -20,73 +18,44 @@ pub fn distance(a: f32, b: f32) -> f32
 pub fn nearer(line: u32, distance: f32, least: f32) -> bool
     ensures { result ≡ nearer_than line distance least }
 {
-    if line == 0 {
-        return true;
-    }
-    distance < least
+    line == 0 || distance < least
 }
 
 // One more where a test holds; the largest number stays.
 fn one_more(test: bool, n: u32) -> u32
     ensures { result ≡ one_more test n }
 {
-    if !test {
-        return n;
-    }
-    if n < 0xffff_ffff {
-        return n + 1;
-    }
-    n
+    if test { n.saturating_add(1) } else { n }
 }
 
 // A line is met where the walk stands.
+#[tactic(auto, unfolding(crate::specs::Steps::line_met))]
 fn line_met(span: PixelSpan, at: LineWalk, line: u32) -> LineWalk
     ensures { result ≡ line_met span at line }
 {
     let from = distance(at.start, span.low);
     let below = one_more(at.start < span.low, at.below);
     let upto = one_more(at.start <= span.high, at.upto);
+    let met = LineWalk { below, upto, ..at };
     if nearer(line, from, at.distance) {
         return LineWalk {
-            start: at.start,
-            definite: at.definite,
             nearest: line,
             distance: from,
-            below,
-            upto,
+            ..met
         };
     }
-    LineWalk {
-        start: at.start,
-        definite: at.definite,
-        nearest: at.nearest,
-        distance: at.distance,
-        below,
-        upto,
-    }
+    met
 }
 
 // The record that starts there is passed.
-fn record_passed(at: LineWalk, value: DefiniteSize) -> LineWalk
+#[tactic(auto, unfolding(crate::specs::Steps::record_passed))]
+fn record_passed(at: LineWalk, value: Option<f32>) -> LineWalk
     ensures { result ≡ record_passed at value }
 {
-    match value {
-        DefiniteSize::Definite(v) => LineWalk {
-            start: at.start + v,
-            definite: at.definite,
-            nearest: at.nearest,
-            distance: at.distance,
-            below: at.below,
-            upto: at.upto,
-        },
-        DefiniteSize::Indefinite => LineWalk {
-            start: at.start + 0.0,
-            definite: false,
-            nearest: at.nearest,
-            distance: at.distance,
-            below: at.below,
-            upto: at.upto,
-        },
+    LineWalk {
+        start: at.start + value.unwrap_or(0.0),
+        definite: at.definite && value.is_some(),
+        ..at
     }
 }
 
@@ -94,10 +63,7 @@ fn record_passed(at: LineWalk, value: DefiniteSize) -> LineWalk
 fn is_line_at(last: u32, index: u32) -> bool
     ensures { result ≡ line_at last index }
 {
-    if index % 2 == 1 {
-        return true;
-    }
-    index == last
+    index % 2 == 1 || index == last
 }
 
 // Before the first record.
@@ -115,9 +81,10 @@ pub fn begin() -> LineWalk
 }
 
 // Record `index` of records up to `last`: the line that lies at its start, and then what it measures.
+#[tactic(auto, unfolding(crate::specs::Steps::position_step))]
 pub fn position_step(
     span: PixelSpan,
-    inner: InnerSize,
+    inner: Option<f32>,
     at: LineWalk,
     last: u32,
     index: u32,

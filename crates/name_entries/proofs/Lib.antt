@@ -1,7 +1,6 @@
 -- Laws of the name store: what an accepted entry tells (Accepted), entries as words (Entering), and what the names of a line are (Shown).
 pub mod Booleans
 pub mod Same
-pub mod Parts
 pub mod Graphic
 pub mod Sets
 pub mod Accepted

@@ -1,13 +1,16 @@
 -- Steps over the entries of a table, as a loop takes them.
 use mathlib.Core.Path.{◌≡◌, refl, sym, ap, ◌∙◌}
-use mathlib.Core.Bool.{Bool, true, false, cond, ◌||◌, ◌&&◌}
+use mathlib.Core.Bool.{Bool, true, false, cond, ◌&&◌}
 use mathlib.Core.List.{List, [], ◌∷◌, ◌++◌, map}
 use Prim.Native.Nat.{ℕ, zero, suc, ◌+◌, ◌-◌, ◌≤◌, ◌<◌}
 use native.Mathlib.Numerals.{add-one}
 use native.Mathlib.Omega.{arith}
 use lib.Dec.{leb}
 use lib.ListN.{length, get_or, take, drop, drop_of_length-le, get_or-map}
-use lib.Seq.{drop-cons, take-suc, take_all, get_or-take, length-take-le}
+use lib.Seq.{drop-cons, take-suc}
+use Rattle.std.proofs.lemmas.Grind.{common_steps}
+use Rattle.std.specs.Prelude.{Some, None, min}
+use Rattle.std.specs.List.{slice_get}
 use Rattle.name_rules.specs.Css.{Bytes, Entry}
 use Rattle.name_rules.specs.Rule.{any}
 use Rattle.name_entries.specs.declared.NameEntry.{NameEntry}
@@ -27,22 +30,17 @@ module _ (entries store : List ℕ) (i : ℕ) (h : i < length entries) where
   pub more-entries : entries_of (take (i + 1) entries) store ≡ entries_of (take i entries) store ++ (entry_at entries store i ∷ [])
   more-entries = rw (add-one i, take-suc entries i 0 h, entries-append, entries_cons, entries_nil)
 
-module _ (p : Entry → Bool) (entries store : List ℕ) (end i : ℕ) where
-  pub any_next : i < end → end ≤ length entries
-      → any p (entries_of (drop i (take end entries)) store) ≡ (p (entry_at entries store i) || any p (entries_of (drop (i + 1) (take end entries)) store))
-  any_next h g = rw (rest-entries (take end entries) store i (rw (length-take-le end entries g) h), get_or-take end entries i 0 h)
-
-  pub any-end : end ≤ i → end ≤ length entries → any p (entries_of (drop i (take end entries)) store) ≡ false
-  any-end h g =
-      let short : length (take end entries) ≤ i = rw (length-take-le end entries g) h in
-      rw (drop_of_length-le (take end entries) short, entries_nil)
+-- a test of the words' entries
+pub any_words : (p : Entry → Bool) (store words : List ℕ) → any (λ (w : ℕ). p (named_entry store (entry_of w))) words ≡ any p (entries_of words store)
+any_words p store [] = rw (entries_nil store)
+any_words p store (w ∷ words) = rw (entries_cons w words store, any_words p store words)
 
 -- the entries that are still to be shown at place i
 abbrev pub shown_from : ℕ → List ℕ → List ℕ → ℕ → List NameEntry
 shown_from line entries store i = entries_after line store (take i entries) (drop i entries)
 
 module _ (line : ℕ) (entries store : List ℕ) where
-  pub shown-end : (i left : ℕ) → length entries ≤ i → get_or (shown_from line entries store i) left no_entry ≡ no_entry
+  pub shown-end : (i left : ℕ) → length entries ≤ i → slice_get (shown_from line entries store i) left ≡ None
   unfolding entries_after
   shown-end i left h = rw (drop_of_length-le entries h)
 
@@ -54,16 +52,16 @@ module _ (line : ℕ) (entries store : List ℕ) where
     shown-step = rw (drop-cons entries i 0 h, add-one i, take-suc entries i 0 h)
 
     pub shown-hit : (left : ℕ) → shows line (entries_of (take i entries) store) (entry_at entries store i) ≡ true → left ≡ 0
-        → get_or (shown_from line entries store i) left no_entry ≡ entry_of (get_or entries i 0)
+        → slice_get (shown_from line entries store i) left ≡ Some (entry_of (get_or entries i 0))
     shown-hit left e z = rw (z, shown-step, e)
 
     pub shown-over : (left : ℕ) → shows line (entries_of (take i entries) store) (entry_at entries store i) ≡ true → (left ≡ 0 → ⊥)
-        → get_or (shown_from line entries store i) left no_entry ≡ get_or (shown_from line entries store (i + 1)) (left - 1) no_entry
+        → slice_get (shown_from line entries store i) left ≡ slice_get (shown_from line entries store (i + 1)) (left - 1)
     shown-over zero e out = absurd (out refl)
     shown-over (suc left) e out = let s : suc left - 1 ≡ left = omega arith in rw (shown-step, e, s)
 
     pub shown-miss : (left : ℕ) → shows line (entries_of (take i entries) store) (entry_at entries store i) ≡ false
-        → get_or (shown_from line entries store i) left no_entry ≡ get_or (shown_from line entries store (i + 1)) left no_entry
+        → slice_get (shown_from line entries store i) left ≡ slice_get (shown_from line entries store (i + 1)) left
     shown-miss left e = rw (shown-step, e)
 
 -- ---- the names that entries show
@@ -100,5 +98,5 @@ module _ (line : ℕ) (store : List ℕ) where
       ∙ ap (λ (l : List Bytes). get_or l place []) (explicit-if (leb 1 line && leb line (explicit + 1)) words)
 
 -- past the end all entries are before
-pub all-before : (words : List ℕ) (place : ℕ) → length words < place → take (length words) words ≡ take place words
-all-before words place h = take_all (length words) words (omega arith) ∙ sym (take_all place words (omega arith))
+pub all_before : (words : List ℕ) (place : ℕ) → take (min place (length words)) words ≡ take place words
+all_before words place = grind (arith, common_steps)

@@ -3,16 +3,22 @@
 
 #![tactic(auto)]
 
-pub mod bytes;
 pub mod enter;
 pub mod entry;
 pub mod line_names;
 pub mod name;
 
 // An entry: its line, counted from 1, and where the bytes of its name lie in the store.
-#[derive(Clone, Copy)]
+#[derive(Clone, Copy, Debug, PartialEq, Eq)]
 pub struct NameEntry {
     pub line: u32,
     pub offset: u32,
     pub length: u32,
+}
+
+// The names of an axis: its entries as words, and the store that holds their bytes.
+#[derive(Clone, Copy)]
+pub struct Names<'a> {
+    pub entries: &'a [u64],
+    pub store: &'a [u8],
 }

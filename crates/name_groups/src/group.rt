@@ -3,11 +3,11 @@ ghost use Rattle.std.specs.Prelude.{◌≡◌, ◌≤◌};
 ghost use Rattle.name_groups.specs.Groups.{group_at, group_part, key_group};
 ghost use Rattle.name_groups.specs.Keys.{joined_key};
 
-use crate::key::{FEW_KEYS, Grouping, MANY_KEYS, joined_key};
-use name_lines::suffix::AreaEdge;
+use crate::key::{Grouping, joined_key};
+use name_lines::GridAreaEnd;
 
 // Where the entries of a group lie, and whether they list the lines of one name.
-#[derive(Clone, Copy)]
+#[derive(Clone, Copy, Debug, PartialEq, Eq)]
 pub struct Group {
     pub first: usize,
     pub end: usize,
@@ -19,23 +19,23 @@ fn group_at(index: &[u64], keys: usize, key: usize) -> Group
     requires { keys ≤ 1024 }
     ensures { result ≡ key_group keys index.now key }
 {
-    if index.len() <= key {
-        return Group {
+    match index.get(key) {
+        Some(word) => Group {
+            first: keys + (word % 0x1_0000) as usize,
+            end: keys + (word / 0x1_0000 % 0x1_0000) as usize,
+            listed: word / 0x1_0000_0000 == 0,
+        },
+        None => Group {
             first: 0,
             end: 0,
             listed: false,
-        };
-    }
-    let word = index[key];
-    Group {
-        first: keys + (word % 0x1_0000) as usize,
-        end: keys + (word / 0x1_0000 % 0x1_0000) as usize,
-        listed: word / 0x1_0000_0000 == 0,
+        },
     }
 }
 
 // The group in which the entries of a name in two parts are kept: all entries where they are kept together.
-pub fn group_of(index: &[u64], grouping: Grouping, stem: &[u8], edge: AreaEdge) -> Group
+#[tactic(auto, unfolding(crate::specs::Groups::group_at))]
+pub fn group_of(index: &[u64], grouping: Grouping, stem: &[u8], edge: Option<GridAreaEnd>) -> Group
     ensures { result ≡ group_at grouping index.now (joined_key grouping stem.now edge) }
 {
     match grouping {
@@ -44,20 +44,21 @@ pub fn group_of(index: &[u64], grouping: Grouping, stem: &[u8], edge: AreaEdge) 
             end: index.len(),
             listed: false,
         },
-        Grouping::Few => group_at(index, FEW_KEYS, joined_key(grouping, stem, edge)),
-        Grouping::Many => group_at(index, MANY_KEYS, joined_key(grouping, stem, edge)),
+        Grouping::Few | Grouping::Many => group_at(
+            index,
+            grouping.key_count(),
+            joined_key(grouping, stem, edge),
+        ),
     }
 }
 
 // The entries of a group, cut where they end.
+#[tactic(auto, unfolding(crate::specs::Groups::group_part))]
 pub fn group_part(index: &[u64], group: Group) -> &[u64]
     ensures { result.now ≡ group_part index.now group }
 {
-    let first = group.first;
-    let end = group.end;
-    let last = index.len();
-    if (end < first) | (last < end) {
-        return &index[last..last];
+    match index.get(group.first..group.end) {
+        Some(part) => part,
+        None => &[],
     }
-    &index[first..end]
 }

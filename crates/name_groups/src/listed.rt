@@ -4,8 +4,8 @@ ghost use Rattle.name_rules.specs.Rule.{eq_bytes};
 ghost use Rattle.name_entries.specs.Entries.{entry_of, name_in};
 ghost use Rattle.name_groups.specs.Listed.{lists_next};
 
-use name_entries::bytes::same_bytes;
-use name_entries::entry::{entry_of, name_in};
+use name_entries::NameEntry;
+use name_entries::entry::name_in;
 
 // The last line whose names are looked at.
 const LAST_LINE: u32 = 20000;
@@ -14,22 +14,14 @@ const LAST_LINE: u32 = 20000;
 fn same_name(store: &[u8], a: u64, b: u64) -> bool
     ensures { result ≡ eq_bytes (name_in store.now (entry_of a)) (name_in store.now (entry_of b)) }
 {
-    if a / 0x1_0000 == b / 0x1_0000 {
-        return true;
-    }
-    same_bytes(name_in(store, entry_of(a)), name_in(store, entry_of(b)))
+    a / 0x1_0000 == b / 0x1_0000
+        || name_in(store, NameEntry::from(a)) == name_in(store, NameEntry::from(b))
 }
 
 // Whether an entry has the first one's name on a line after one.
 pub(crate) fn lists_next(store: &[u8], first: u64, line: u32, word: u64) -> bool
     ensures { result ≡ lists_next store.now (name_in store.now (entry_of first)) line word }
 {
-    let entry = entry_of(word);
-    if entry.line <= line {
-        return false;
-    }
-    if LAST_LINE < entry.line {
-        return false;
-    }
-    same_name(store, word, first)
+    let entry = NameEntry::from(word);
+    line < entry.line && entry.line <= LAST_LINE && same_name(store, word, first)
 }

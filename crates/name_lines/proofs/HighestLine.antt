@@ -15,8 +15,9 @@ use Rattle.name_entries.specs.Entries.{entry_of, entries_of}
 use Rattle.name_lines.specs.Areas.{edge_in, areas_of, edged?, edged_by, bears_joined, sought_in}
 use Rattle.name_lines.specs.HighestLine.{highest_entry, higher_edge, highest_edge, highest_line}
 use Rattle.name_lines.specs.Suffixes.{tail_of}
-use Rattle.name_lines.specs.declared.suffix.AreaEdge.{AreaEdge}
-use Rattle.name_lines.specs.declared.suffix.AreaEdge.TheVariants.{Start, End, Neither}
+use Rattle.std.specs.Prelude.{Option, Some, None}
+use Rattle.name_lines.specs.declared.GridAreaEnd.{GridAreaEnd}
+use Rattle.name_lines.specs.declared.GridAreaEnd.TheVariants.{Start, End}
 
 -- the words from i on
 pub entry-step : (n : ℕ) (words : List ℕ) (i : ℕ) → i < length words
@@ -68,13 +69,13 @@ edges_past axis end n (w ∷ ws) names store nm number h =
     rw (ne_eqb (edge_in axis end w) number (λ e. omega (arith, edge_from axis (higher_edge axis n w) ws)))
     (edges_past axis end (higher_edge axis n w) ws (drop 1 names) store nm number h)
 
-edged_past : (axis : Axis) (n : ℕ) (words names store : List ℕ) (nm : Bytes) (sought : AreaEdge) (number : ℕ) → highest_edge axis n words < number
+edged_past : (axis : Axis) (n : ℕ) (words names store : List ℕ) (nm : Bytes) (sought : Option GridAreaEnd) (number : ℕ) → highest_edge axis n words < number
     → edged_by (areas_of axis words names store) nm sought number ≡ false
-edged_past axis n words names store nm Start number h = edges_past axis start n words names store nm number h
-edged_past axis n words names store nm End number h = edges_past axis end n words names store nm number h
-edged_past axis n words names store nm Neither number h = refl
+edged_past axis n words names store nm (Some Start) number h = edges_past axis start n words names store nm number h
+edged_past axis n words names store nm (Some End) number h = edges_past axis end n words names store nm number h
+edged_past axis n words names store nm None number h = refl
 
-pub sought_past : (axis : Axis) (entries store edges areas areastore : List ℕ) (stem : Bytes) (sought : AreaEdge) (l : ℕ) → highest_line axis entries edges ≤ l
+pub sought_past : (axis : Axis) (entries store edges areas areastore : List ℕ) (stem : Bytes) (sought : Option GridAreaEnd) (l : ℕ) → highest_line axis entries edges ≤ l
     → sought_in axis entries store edges areas areastore stem sought l ≡ false
 unfolding highest_line sought_in bears_joined
 sought_past axis entries store edges areas areastore stem sought l h =

@@ -2,17 +2,20 @@
 use mathlib.Core.Path.{◌≡◌, refl, sym, ◌∙◌, ap}
 use mathlib.Core.Bool.{Bool, true, false, cond, ◌&&◌}
 use mathlib.Core.List.{[], ◌∷◌, ◌++◌}
+use mathlib.Core.Logic.{◌⊎◌, inl, inr, ⊎_elim}
+use native.Mathlib.Decide.{dec_lt}
 use Prim.Native.Nat.{ℕ, ◌+◌, ◌-◌, ◌≤◌, ◌<◌}
 use native.Mathlib.Omega.{arith}
-use borrow.Author.Tests.{le-leb, lt-leb, leb-true, eqb-true, eq-eqb}
+use borrow.Author.Tests.{le-leb, lt-leb, eqb-true, eq-eqb}
 use lib.Dec.{eqb, leb}
-use lib.ListN.{length, take, drop, get_or, length-append, length-take, length-drop, take-append-drop}
-use lib.Seq.{take_all, get_or-append-add}
+use lib.ListN.{length, take, drop, get_or, length-append, length-drop, take-append-drop}
+use lib.Seq.{get_or-append-add}
 use Rattle.name_rules.specs.Css.{Bytes, start, end, suffix}
 use Rattle.name_rules.specs.Rule.{eq_bytes}
 use Rattle.name_lines.specs.Suffixes.{ends_with, edge_of, stem_of}
-use Rattle.name_lines.specs.declared.suffix.AreaEdge.{AreaEdge}
-use Rattle.name_lines.specs.declared.suffix.AreaEdge.TheVariants.{Start, End, Neither}
+use Rattle.std.specs.Prelude.{Option, Some, None}
+use Rattle.name_lines.specs.declared.GridAreaEnd.{GridAreaEnd}
+use Rattle.name_lines.specs.declared.GridAreaEnd.TheVariants.{Start, End}
 
 pub never : {X : Type 0} → ◌≡◌ {A = Bool} false true → X
 never e = absurd (let z : ◌≡◌ {A = ℕ} 0 1 = cc in omega arith)
@@ -48,20 +51,22 @@ same_test true b f g = sym (f refl)
 same_test false true f g = g refl
 same_test false false f g = refl
 
--- what `&name[at..]` is
-pub tail_all : (n : Bytes) (at : ℕ) → take (length n - at) (drop at n) ≡ drop at n
-tail_all n at = take_all (length n - at) (drop at n) (rw length-drop (omega arith))
+bytes_sym : (a b : Bytes) → eq_bytes a b ≡ eq_bytes b a
+bytes_sym a b =
+    same_test (eq_bytes a b) (eq_bytes b a) (λ h. rw (eq_bytes_lem a b h) (bytes_eq b)) (λ h. rw (eq_bytes_lem b a h) (bytes_eq a))
 
--- a name that is too short, or long enough
-pub ends_short : (n s : Bytes) → length n < length s → ends_with n s ≡ false
-ends_short n s h = rw (lt-leb (length s) (length n) h)
+-- what `ends_with` on slices says
+pub ends_tail : (n s : Bytes) → eq_bytes s (drop (length n - length s) n) ≡ ends_with n s
+ends_tail n s = ⊎_elim (λ (g : length n < length s). short g) (λ (g : length s ≤ length n). whole g) (split (length n) (length s))
+  where
+    split : (k m : ℕ) → (k < m) ⊎ (m ≤ k)
+    split k m = elim (dec_lt k m) [ yes g ↦ inl g | no g ↦ inr (omega arith) ]
 
-pub ends_tail : (n s : Bytes) → length s ≤ length n
-    → eq_bytes (take (length n - (length n - length s)) (drop (length n - length s) n)) s ≡ ends_with n s
-ends_tail n s h = rw (le-leb (length s) (length n) h, tail_all n (length n - length s))
+    short : length n < length s → eq_bytes s (drop (length n - length s) n) ≡ ends_with n s
+    short g = rw (lt-leb (length s) (length n) g) (bytes-differ s (drop (length n - length s) n) (λ e. omega (arith, ap length e, length-drop (length n - length s) n)))
 
-pub ends_length : (n s : Bytes) → ends_with n s ≡ true → length s ≤ length n
-ends_length n s h = leb-true (length s) (length n) (both (leb (length s) (length n)) _ h).0
+    whole : length s ≤ length n → eq_bytes s (drop (length n - length s) n) ≡ ends_with n s
+    whole g = rw (le-leb (length s) (length n) g) (bytes_sym s (drop (length n - length s) n))
 
 -- a name that ends in a suffix is its stem and the suffix
 pub ends_stem : (n s : Bytes) → ends_with n s ≡ true → n ≡ take (length n - length s) n ++ s
@@ -92,27 +97,15 @@ stems a b s =
     (λ h. rw (cancel a b s (eq_bytes_lem (a ++ s) (b ++ s) h)) (bytes_eq b))
     (λ h. rw (eq_bytes_lem a b h) (bytes_eq (b ++ s)))
 
--- a name shorter than the stem is not joined; any other is compared part by part
-pub joined-short : (n a s : Bytes) → length n < length a → eq_bytes n (a ++ s) ≡ false
-joined-short n a s h = bytes-differ n (a ++ s) (λ e. omega (arith, ap length e, length-append a s))
+-- a name that ends in the tail is compared before it; any other is not joined
+pub joined : (n a s : Bytes) → eq_bytes (drop (length n - length s) n) s ≡ true → eq_bytes (take (length n - length s) n) a ≡ eq_bytes n (a ++ s)
+joined n a s h =
+    let e : n ≡ take (length n - length s) n ++ s = ends_stem n s (sym (ends_tail n s) ∙ bytes_sym s (drop (length n - length s) n) ∙ h) in
+    sym (stems (take (length n - length s) n) a s) ∙ ap (λ (t : Bytes). eq_bytes t (a ++ s)) (sym e)
 
-and_assoc : (a b c : Bool) → (a && (b && c)) ≡ ((a && b) && c)
-and_assoc true b c = refl
-and_assoc false b c = refl
-
-parts : (a b c d : Bytes) → length a ≡ length c → eq_bytes (a ++ b) (c ++ d) ≡ (eq_bytes a c && eq_bytes b d)
-parts [] b [] d e = refl
-parts [] b (y ∷ c) d e = absurd (omega arith)
-parts (x ∷ a) b [] d e = absurd (omega arith)
-parts (x ∷ a) b (y ∷ c) d e = rw (parts a b c d (omega arith)) (and_assoc (eqb x y) (eq_bytes a c) (eq_bytes b d))
-
-pub joined-parts : (n a s : Bytes) → length a ≤ length n
-    → eq_bytes n (a ++ s) ≡ (eq_bytes (take (length a - 0) (drop 0 n)) a && eq_bytes (take (length n - length a) (drop (length a) n)) s)
-joined-parts n a s h =
-    let z : length a - 0 ≡ length a = omega arith in
-    let l : length (take (length a) n) ≡ length a = rw length-take (omega arith) in
-    rw (z, tail_all n (length a))
-    (ap (λ (t : Bytes). eq_bytes t (a ++ s)) (sym (take-append-drop (length a) n)) ∙ parts (take (length a) n) (drop (length a) n) a s l)
+pub not_joined : (n a s : Bytes) → eq_bytes (drop (length n - length s) n) s ≡ false → eq_bytes n (a ++ s) ≡ false
+not_joined n a s h =
+    bytes-differ n (a ++ s) (λ e. let q : ends_with n s ≡ true = rw e (ends_joined a s) in never (sym h ∙ bytes_sym (drop (length n - length s) n) s ∙ ends_tail n s ∙ q))
 
 pub and_no : (a : Bool) → (a && false) ≡ false
 and_no true = refl
@@ -136,16 +129,16 @@ pub not-joined : (a n s : Bytes) → ends_with n s ≡ false → eq_bytes (a ++ 
 not-joined a n s h = bytes-differ (a ++ s) n (λ e. let q : ends_with n s ≡ true = rw (← e) (ends_joined a s) in never (sym h ∙ q))
 
 -- what a name is made of, by the edge that it stands for
-abbrev pub MadeOf : Bytes → AreaEdge → Type 0
-MadeOf n Start = stem_of n Start ++ suffix start ≡ n
-MadeOf n End = stem_of n End ++ suffix end ≡ n
-MadeOf n Neither = (ends_with n (suffix start) ≡ false) × (ends_with n (suffix end) ≡ false)
+abbrev pub MadeOf : Bytes → Option GridAreaEnd → Type 0
+MadeOf n (Some Start) = stem_of n (Some Start) ++ suffix start ≡ n
+MadeOf n (Some End) = stem_of n (Some End) ++ suffix end ≡ n
+MadeOf n None = (ends_with n (suffix start) ≡ false) × (ends_with n (suffix end) ≡ false)
 
 pub made_of : (n : Bytes) → MadeOf n (edge_of n)
 unfolding edge_of
 made_of n = go (ends_with n (suffix start)) (ends_with n (suffix end)) refl refl
   where
-    go : (a b : Bool) → ends_with n (suffix start) ≡ a → ends_with n (suffix end) ≡ b → MadeOf n (cond a Start (cond b End Neither))
+    go : (a b : Bool) → ends_with n (suffix start) ≡ a → ends_with n (suffix end) ≡ b → MadeOf n (cond a (Some Start) (cond b (Some End) None))
     go true b e f = sym (ends_stem n (suffix start) e)
     go false true e f = sym (ends_stem n (suffix end) f)
     go false false e f = (e, f)

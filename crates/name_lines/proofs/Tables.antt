@@ -13,13 +13,14 @@ use Rattle.coordinates.specs.declared.axis.Axis.{Axis}
 use Rattle.name_rules.specs.Css.{Bytes, Side, start, end, suffix, edge, Entry, Area}
 use Rattle.name_rules.specs.Rule.{any, eq_bytes, written?, drawn?}
 use Rattle.name_entries.specs.Entries.{entry_of, name_in, named_entry, entries_of}
-use Rattle.name_lines.specs.Areas.{edge_in, area_of, areas_of, edged?, bears, bears_in, bears_joined, sought_in}
+use Rattle.name_lines.specs.Areas.{side_of, edge_in, area_of, areas_of, edged?, bears, bears_in, bears_joined, sought_in}
 use Rattle.name_lines.specs.Marks.{Adds, lies_in}
-use Rattle.name_lines.specs.Suffixes.{ends_with, edge_of, side_edge, stem_of}
-use Rattle.name_lines.specs.declared.suffix.AreaEdge.{AreaEdge}
-use Rattle.name_lines.specs.declared.suffix.AreaEdge.TheVariants.{Start, End, Neither}
+use Rattle.name_lines.specs.Suffixes.{ends_with, edge_of, side_edge, stem_of, tail_of}
 use Rattle.name_lines.proofs.Marking.{or_false, mark-both, mark-same, mark_if, mark-not, mark-outside}
 use Rattle.name_lines.proofs.Suffixes.{stems, other_ends, bytes-differ, not-joined, and_no, MadeOf, made_of}
+use Rattle.std.specs.Prelude.{Option, Some, None}
+use Rattle.name_lines.specs.declared.GridAreaEnd.{GridAreaEnd}
+use Rattle.name_lines.specs.declared.GridAreaEnd.TheVariants.{Start, End}
 
 -- the entries from i on
 pub entries-step : (p : Entry → Bool) (words store : List ℕ) (i : ℕ) → i < length words
@@ -69,8 +70,8 @@ edge-line axis w n store start = refl
 edge-line axis w n store end = refl
 
 -- an edge of an area that lies in the tables
-module _ (ms : List ℕ) (low : ℕ) (axis : Axis) (w n : ℕ) (store : List ℕ) (s : Side) (nm : Bytes) where
-  pub edge-marked : (after : List ℕ) (line : ℕ) → line ≡ edge_in axis s w → eq_bytes (name_in store (entry_of n)) nm ≡ true → Adds ms after (λ k. eqb line (suc (low + k)))
+module _ (ms : List Bool) (low : ℕ) (axis : Axis) (w n : ℕ) (store : List ℕ) (s : Side) (nm : Bytes) where
+  pub edge-marked : (after : List Bool) (line : ℕ) → line ≡ edge_in axis s w → eq_bytes (name_in store (entry_of n)) nm ≡ true → Adds ms after (λ k. eqb line (suc (low + k)))
       → Adds ms after (λ k. edged? nm s (suc (low + k)) (area_of axis w n store))
   edge-marked after line e yea f =
       mark_if ms after low (edge (area_of axis w n store) s) (eq_bytes (name_in store (entry_of n)) nm) yea (rw (e ∙ edge-line axis w n store s) at f)
@@ -102,10 +103,10 @@ joined-name : (book : List Entry) (areas : List Area) (nm : Bytes) (number : ℕ
 unfolding bears_joined
 joined-name book areas nm number = go (edge_of nm) (made_of nm)
   where
-    go : (e : AreaEdge) → MadeOf nm e → bears_joined book areas (stem_of nm e) e number ≡ bears book areas nm number
-    go Start m = bears-edge book areas (stem_of nm Start) start number ∙ ap (λ (l : Bytes). bears book areas l number) m
-    go End m = bears-edge book areas (stem_of nm End) end number ∙ ap (λ (l : Bytes). bears book areas l number) m
-    go Neither m =
+    go : (e : Option GridAreaEnd) → MadeOf nm e → bears_joined book areas (stem_of nm e) e number ≡ bears book areas nm number
+    go (Some Start) m = bears-edge book areas (stem_of nm (Some Start)) start number ∙ ap (λ (l : Bytes). bears book areas l number) m
+    go (Some End) m = bears-edge book areas (stem_of nm (Some End)) end number ∙ ap (λ (l : Bytes). bears book areas l number) m
+    go None m =
         rw (take_all (length nm - 0) nm (omega arith), append-nil nm)
         (or_false (any (written? nm number) book) ∙ bears-plain book areas nm number m.0 m.1)
 
@@ -122,16 +123,15 @@ module _ (axis : Axis) (entries store edges areas areastore : List ℕ) where
   sought-name nm l = joined-name (entries_of entries store) (areas_of axis edges areas areastore) nm (suc l)
 
 -- marks of a name in two parts, by its edge
-module _ (axis : Axis) (entries store edges areas areastore : List ℕ) (stem : Bytes) (low : ℕ) (sought : AreaEdge) where
-  pub mark-side : (a b c : List ℕ) (s : Side) → sought ≡ side_edge s
-      → Adds a b (λ k. any (written? (stem ++ suffix s) (suc (low + k))) (entries_of entries store))
-      → Adds b c (λ k. any (edged? stem s (suc (low + k))) (areas_of axis edges areas areastore))
+module _ (axis : Axis) (entries store edges areas areastore : List ℕ) (stem : Bytes) (low : ℕ) (sought : Option GridAreaEnd) where
+  pub mark-side : (a b c : List Bool) (side : GridAreaEnd) → sought ≡ Some side
+      → Adds a b (λ k. any (written? (stem ++ tail_of (Some side)) (suc (low + k))) (entries_of entries store))
+      → Adds b c (λ k. any (edged? stem (side_of side) (suc (low + k))) (areas_of axis edges areas areastore))
       → Adds a c (λ k. sought_in axis entries store edges areas areastore stem sought (low + k))
   unfolding sought_in bears_joined
-  mark-side a b c start e f g = rw e (mark-both a b c _ _ f g)
-  mark-side a b c end e f g = rw e (mark-both a b c _ _ f g)
+  mark-side a b c side e f g = rw e (mark-both a b c _ _ f g)
 
-  pub mark-plain : (a b : List ℕ) → sought ≡ Neither
+  pub mark-plain : (a b : List Bool) → sought ≡ None
       → Adds a b (λ k. any (written? (stem ++ []) (suc (low + k))) (entries_of entries store))
       → Adds a b (λ k. sought_in axis entries store edges areas areastore stem sought (low + k))
   unfolding sought_in bears_joined

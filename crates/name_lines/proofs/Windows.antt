@@ -11,7 +11,7 @@ use Rattle.name_lines.proofs.Marking.{fresh}
 use Rattle.name_lines.proofs.Walk.{or_else, seek-alike, back-alike, seek_unmarked, back_unmarked, seek-split, back-split}
 
 -- a window of n marks from low on shows the lines that were marked
-module _ (n low e m : ℕ) (ms : List ℕ) (p : ℕ → Bool) (f : Adds (replicate n 0) ms (λ k. p (low + k))) (h : e - low ≤ n) where
+module _ (n low e m : ℕ) (ms : List Bool) (p : ℕ → Bool) (f : Adds (replicate n false) ms (λ k. p (low + k))) (h : e - low ≤ n) where
   shows : (j : ℕ) → low ≤ j → j < low + (e - low) → marked ms (j - low) ≡ p j
   shows j a b = let q : low + (j - low) ≡ j = omega arith in fresh n ms (λ k. p (low + k)) f (j - low) (omega arith) ∙ ap p q
 

@@ -1,5 +1,5 @@
 -- The drawn areas of a panel as lent tables: a word of edges and a word of where the name lies for each area, and the bytes of the names.
-use Rattle.std.specs.Prelude.{ℕ, suc, ◌/◌, ◌%◌, Bool, false, ◌&&◌, ◌||◌, List, [], ◌∷◌, ◌++◌, eqb, get_or, drop}
+use Rattle.std.specs.Prelude.{ℕ, suc, ◌/◌, ◌%◌, Bool, false, ◌&&◌, ◌||◌, List, [], ◌∷◌, ◌++◌, eqb, get_or, drop, Option, Some, None}
 use Rattle.coordinates.specs.declared.axis.Axis.{Axis}
 use Rattle.coordinates.specs.declared.axis.Axis.TheVariants.{Column, Row}
 use Rattle.name_rules.specs.Css.{Bytes, Side, start, end, Entry, Area, edge, AxisNames}
@@ -7,8 +7,6 @@ use Rattle.name_rules.specs.Rule.{any, eq_bytes, written?, drawn?}
 use Rattle.name_entries.specs.Entries.{entry_of, name_in, entries_of}
 use Rattle.name_lines.specs.declared.GridAreaEnd.{GridAreaEnd}
 use Rattle.name_lines.specs.declared.GridAreaEnd.TheVariants.{Start, End}
-use Rattle.name_lines.specs.declared.suffix.AreaEdge.{AreaEdge}
-use Rattle.name_lines.specs.declared.suffix.AreaEdge.TheVariants as Sought
 use Rattle.name_lines.specs.Suffixes.{tail_of}
 
 -- the end that is placed
@@ -55,16 +53,15 @@ abbrev pub edged? : Bytes → Side → ℕ → Area → Bool
 edged? nm s number a = eqb (edge a s) number && eq_bytes a.name nm
 
 -- whether a line is the edge sought of an area of a name
-abbrev pub edged_by : List Area → Bytes → AreaEdge → ℕ → Bool
-edged_by areas nm Sought.Start number = any (edged? nm start number) areas
-edged_by areas nm Sought.End number = any (edged? nm end number) areas
-edged_by areas nm Sought.Neither number = false
+abbrev pub edged_by : List Area → Bytes → Option GridAreaEnd → ℕ → Bool
+edged_by areas nm (Some side) number = any (edged? nm (side_of side) number) areas
+edged_by areas nm None number = false
 
 -- whether a line bears a name in two parts: a stem, and the suffix of an edge
-unfoldable pub bears_joined : List Entry → List Area → Bytes → AreaEdge → ℕ → Bool
+unfoldable pub bears_joined : List Entry → List Area → Bytes → Option GridAreaEnd → ℕ → Bool
 bears_joined book areas stem sought number = any (written? (stem ++ tail_of sought) number) book || edged_by areas stem sought number
 
 -- the same for origin-zero line l, by the lent tables
-unfoldable pub sought_in : Axis → List ℕ → List ℕ → List ℕ → List ℕ → List ℕ → Bytes → AreaEdge → ℕ → Bool
+unfoldable pub sought_in : Axis → List ℕ → List ℕ → List ℕ → List ℕ → List ℕ → Bytes → Option GridAreaEnd → ℕ → Bool
 sought_in axis entries store edges areas areastore stem sought l =
     bears_joined (entries_of entries store) (areas_of axis edges areas areastore) stem sought (suc l)

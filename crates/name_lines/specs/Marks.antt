@@ -1,17 +1,15 @@
--- Marks of the lines of a window, a byte for each, as the search reads them.
-use Rattle.std.specs.Prelude.{◌≡◌, Bool, ◌&&◌, ◌||◌, List, ℕ, zero, suc, ◌+◌, ◌-◌, ◌<◌, min, eqb, ltb, length, get_or}
+-- Marks of the lines of a window, as the search reads them.
+use Rattle.std.specs.Prelude.{◌≡◌, Bool, false, ◌&&◌, ◌||◌, List, ℕ, zero, suc, ◌+◌, ◌-◌, ◌<◌, min, ltb, length, get_or, Result, Ok, Err}
 use Rattle.name_rules.specs.Rule.{Seek, at, left, onward, seek}
-use Rattle.name_lines.specs.declared.Found.{Found}
-use Rattle.name_lines.specs.declared.Found.TheVariants.{At, Left}
 use Rattle.name_lines.specs.declared.Way.{Way}
 use Rattle.name_lines.specs.declared.Way.TheVariants.{Up, Down}
 
 -- place k of the window is marked
-abbrev pub marked : List ℕ → ℕ → Bool
-marked ms k = eqb (get_or ms k 0) 1
+abbrev pub marked : List Bool → ℕ → Bool
+marked ms k = get_or ms k false
 
 -- the marks after those places were marked too at which p holds
-pub record Adds (before after : List ℕ) (p : ℕ → Bool) : Type 0 where
+pub record Adds (before after : List Bool) (p : ℕ → Bool) : Type 0 where
   pub kept : length after ≡ length before
   pub places : (k : ℕ) → k < length before → marked after k ≡ (marked before k || p k)
 
@@ -20,9 +18,9 @@ abbrev pub lies_in : ℕ → ℕ → ℕ → Bool
 lies_in low count number = ltb low number && ltb (number - low - 1) count
 
 -- the answer of a search
-abbrev pub seek_of : Found → Seek
-seek_of (At l) = at l
-seek_of (Left m) = left m
+abbrev pub seek_of : Result ℕ ℕ → Seek
+seek_of (Ok l) = at l
+seek_of (Err m) = left m
 
 -- pass over m marked numbers among the k from f on, the last first, and answer the next
 unfoldable pub back : (ℕ → Bool) → ℕ → ℕ → ℕ → Seek

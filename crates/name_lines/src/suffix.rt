@@ -1,102 +1,62 @@
 // Names in two parts: a stem, and `-start`, `-end` or nothing.
 ghost use Rattle.name_rules.specs.Rule.{eq_bytes};
-ghost use Rattle.name_lines.specs.Areas.{side_of};
-ghost use Rattle.name_lines.specs.Suffixes.{edge_of, ends_with, side_edge, stem_of, tail_of};
+ghost use Rattle.name_lines.specs.Suffixes.{edge_of, stem_of, tail_of};
 ghost use Rattle.name_entries.specs.Entries.{entry_of, name_in};
-ghost use Rattle.std.specs.Prelude.{length, ◌++◌, ◌≡◌};
+ghost use Rattle.std.specs.Prelude.{◌++◌, ◌≡◌};
 
 use crate::GridAreaEnd;
-use name_entries::{bytes, entry};
+use name_entries::{NameEntry, entry};
 
-// The edge of an area that a name stands for.
-#[derive(Clone, Copy)]
-pub enum AreaEdge {
-    Start,
-    End,
-    Neither,
-}
-
-// Whether the name ends in the bytes of the suffix.
-fn ends_with(name: &[u8], suffix: &[u8]) -> bool
-    ensures { result ≡ ends_with name.now suffix.now }
-{
-    let n = name.len();
-    if n < suffix.len() {
-        return false;
-    }
-    let at = n - suffix.len();
-    bytes::same_bytes(&name[at..], suffix)
-}
-
-// `split_area_edge_name`: whether a name ends in `-start` or `-end`.
-pub fn edge_of(name: &[u8]) -> AreaEdge
+// `split_area_edge_name`: the edge of an area that a name stands for, where it ends in `-start` or `-end`.
+#[tactic(auto, unfolding(crate::specs::Suffixes::edge_of), using(crate::proofs::Suffixes::ends_tail))]
+pub fn edge_of(name: &[u8]) -> Option<GridAreaEnd>
     ensures { result ≡ edge_of name.now }
 {
-    if ends_with(name, b"-start") {
-        return AreaEdge::Start;
+    if name.ends_with(b"-start") {
+        return Some(GridAreaEnd::Start);
     }
-    if ends_with(name, b"-end") {
-        return AreaEdge::End;
+    if name.ends_with(b"-end") {
+        return Some(GridAreaEnd::End);
     }
-    AreaEdge::Neither
+    None
 }
 
-// The edge at an end of a placement.
-pub fn edge_at(end: GridAreaEnd) -> AreaEdge
-    ensures { result ≡ side_edge (side_of end) }
-{
-    match end {
-        GridAreaEnd::Start => AreaEdge::Start,
-        GridAreaEnd::End => AreaEdge::End,
-    }
-}
-
-// How many bytes stand after the stem.
-fn tail_length(edge: AreaEdge) -> usize
-    ensures { result ≡ length (tail_of edge) }
+// The bytes after the stem.
+fn tail_of(edge: Option<GridAreaEnd>) -> &'static [u8]
+    ensures { result.now ≡ tail_of edge }
 {
     match edge {
-        AreaEdge::Start => 6,
-        AreaEdge::End => 4,
-        AreaEdge::Neither => 0,
+        Some(GridAreaEnd::Start) => b"-start",
+        Some(GridAreaEnd::End) => b"-end",
+        None => b"",
     }
 }
 
 // The part of a name before the suffix of an edge.
-pub fn stem_of(name: &[u8], edge: AreaEdge) -> &[u8]
+pub fn stem_of(name: &[u8], edge: Option<GridAreaEnd>) -> &[u8]
     ensures { result.now ≡ stem_of name.now edge }
 {
-    let n = name.len();
-    let tail = tail_length(edge);
-    if n < tail {
-        return &name[0..0];
-    }
-    let at = n - tail;
-    &name[0..at]
+    &name[..name.len().saturating_sub(tail_of(edge).len())]
 }
 
-// Whether the name is the stem followed by the tail. A name of another length is told without a look at its bytes.
+// Whether the name is the stem followed by the tail.
+#[tactic(auto, using(crate::proofs::Suffixes::joined, crate::proofs::Suffixes::not_joined))]
 pub fn is_joined(name: &[u8], stem: &[u8], tail: &[u8]) -> bool
     ensures { result ≡ eq_bytes name.now (stem.now ++ tail.now) }
 {
-    let at = stem.len();
-    if name.len() < at {
-        return false;
+    match name.strip_suffix(tail) {
+        Some(front) => front == stem,
+        None => false,
     }
-    if !bytes::same_bytes(&name[at..], tail) {
-        return false;
-    }
-    bytes::same_bytes(&name[0..at], stem)
 }
 
 // Whether an entry has the name that is the stem followed by the suffix of the edge.
-pub fn has_name(store: &[u8], word: u64, stem: &[u8], edge: AreaEdge) -> bool
+pub fn has_name(store: &[u8], word: u64, stem: &[u8], edge: Option<GridAreaEnd>) -> bool
     ensures { result ≡ eq_bytes (name_in store.now (entry_of word)) (stem.now ++ tail_of edge) }
 {
-    let name = entry::name_in(store, entry::entry_of(word));
-    match edge {
-        AreaEdge::Start => is_joined(name, stem, b"-start"),
-        AreaEdge::End => is_joined(name, stem, b"-end"),
-        AreaEdge::Neither => is_joined(name, stem, b""),
-    }
+    is_joined(
+        entry::name_in(store, NameEntry::from(word)),
+        stem,
+        tail_of(edge),
+    )
 }

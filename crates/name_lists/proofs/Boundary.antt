@@ -1,7 +1,7 @@
 -- Entries that ascend, parted where the lines pass one: behind the boundary lie the entries of the lines from one on, and those of a
 -- line stand together there.
 use mathlib.Core.Path.{◌≡◌, refl, sym, ◌∙◌, ap}
-use mathlib.Core.Bool.{Bool, true, false, cond, ◌&&◌}
+use mathlib.Core.Bool.{Bool, true, false, cond}
 use mathlib.Core.List.{List, [], ◌∷◌, map}
 use Prim.Native.Nat.{ℕ, suc, ◌+◌, ◌-◌, ◌≤◌, ◌<◌}
 use native.Mathlib.Omega.{arith}
@@ -10,14 +10,10 @@ use lib.Dec.{eqb, leb}
 use lib.ListN.{length, take, drop, length-drop}
 use lib.Seq.{drop-drop}
 use Rattle.name_entries.specs.Entries.{entry_of}
+use Rattle.name_entries.proofs.Booleans.{both}
 use Rattle.name_lists.specs.Lists.{part_word, line_words, on_line}
 use Rattle.name_lists.specs.Ascending.{ascends_from, ascends, count_up_to}
 use Rattle.name_lists.proofs.OnLine.{line-entries}
-
--- both of two tests hold where they hold together
-both : (s t : Bool) → (s && t) ≡ true → (s ≡ true) × (t ≡ true)
-both true t e = (refl, e)
-both false t e = absurd (let z : ◌≡◌ {A = ℕ} 0 1 = cc in omega arith)
 
 -- the first of entries that ascend is not below the line, and the others ascend from it
 head_ascends : (line w : ℕ) (words : List ℕ) → ascends_from line (w ∷ words) ≡ true → (line ≤ (entry_of w).line) × (ascends_from (entry_of w).line words ≡ true)

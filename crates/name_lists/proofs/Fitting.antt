@@ -1,5 +1,5 @@
 -- The answer with the lists, case by case. Assumes nothing.
-use mathlib.Core.Path.{◌≡◌, refl, ap, ◌∙◌}
+use mathlib.Core.Path.{◌≡◌, refl, ap}
 use mathlib.Core.Bool.{Bool, true, false, cond}
 use mathlib.Core.List.{List}
 use Prim.Native.Nat.{ℕ, ◌≤◌}
@@ -7,10 +7,11 @@ use native.Mathlib.Omega.{arith}
 use borrow.Author.Tests.{ltb-false, le-ltb, eq-eqb, ne_eqb}
 use lib.Dec.{ltb}
 use lib.ListN.{length}
-use Rattle.coordinates.specs.Refusals.{no_refusal, refusal_of, count, crowded, short}
-use Rattle.coordinates.specs.declared.refusal.Refusal.{Refusal}
-use Rattle.name_lists.specs.declared.ListedNames.{ListedNames}
-use Rattle.name_lists.specs.Lists.{lists, line_names_refusal, NamesListed, line_names_listed, Written}
+use Rattle.coordinates.specs.declared.refusal.Fault.{Fault}
+use Rattle.coordinates.specs.declared.refusal.Fault.TheVariants.{Unread, Name, Value, Count, Area, Twice, Late, Crowded, ZeroLine, Short, Indefinite, Overlap, Unequal, Broken, Unplaced}
+use Rattle.std.specs.Prelude.{Result, Ok, Err}
+use Rattle.coordinates.specs.Refusals.{number_of, count, crowded, short}
+use Rattle.name_lists.specs.Lists.{ListedNames, answered_lists, lists, line_names_refusal, NamesListed, line_names_listed, Written}
 
 -- what is not refused is within its ranges
 pub unrefused : (explicit entries bytes : ℕ) → line_names_refusal explicit entries bytes ≡ 0 → (explicit ≤ 10000) × ((entries ≤ 4096) × (32768 ≤ bytes))
@@ -29,23 +30,41 @@ pub in_range : (explicit entries bytes : ℕ) → explicit ≤ 10000 → entries
 unfolding line_names_refusal
 in_range explicit entries bytes a b c = rw (le-ltb 10000 explicit a, le-ltb 4096 entries b, le-ltb bytes 32768 c)
 
+-- the number of a fault is none
+pub told : (fault : Fault) → number_of fault ≡ 0 → ⊥
+told Unread e = omega arith
+told Name e = omega arith
+told Value e = omega arith
+told Count e = omega arith
+told Area e = omega arith
+told Twice e = omega arith
+told Late e = omega arith
+told Crowded e = omega arith
+told ZeroLine e = omega arith
+told Short e = omega arith
+told Indefinite e = omega arith
+told Overlap e = omega arith
+told Unequal e = omega arith
+told Broken e = omega arith
+told Unplaced e = omega arith
+
 module _ (explicit : ℕ) (words store lent after : List ℕ) where
   abbrev number : ℕ
   number = line_names_refusal explicit (length words) (length store)
 
   -- a refusal is its number, and nothing is written
-  pub listed-refused : (n : ℕ) (x : Refusal) → n ≡ number → (n ≡ 0 → ⊥) → x ≡ refusal_of n
-      → ◌≡◌ {A = NamesListed} (record { answer = record { refusal = x; count = 0 }; words = lent }) (line_names_listed explicit words store lent)
+  pub listed-refused : (fault : Fault) → number_of fault ≡ number
+      → ◌≡◌ {A = NamesListed} (record { answer = answered_lists (Err fault); words = lent }) (line_names_listed explicit words store lent)
   unfolding line_names_listed
-  listed-refused n x e z f = rw (ne_eqb number 0 (λ h. z (e ∙ h)), f, e)
+  listed-refused fault e = rw (← e, ne_eqb (number_of fault) 0 (told fault))
 
   -- what is written is the lists
-  pub listed-written : (n : ℕ) (x : Refusal) → number ≡ 0 → x ≡ no_refusal → Written lent 0 (lists explicit words store) after n
-      → ◌≡◌ {A = NamesListed} (record { answer = record { refusal = x; count = n }; words = after }) (line_names_listed explicit words store lent)
+  pub listed-written : (n : ℕ) → number ≡ 0 → Written lent 0 (lists explicit words store) after n
+      → ◌≡◌ {A = NamesListed} (record { answer = answered_lists (Ok n); words = after }) (line_names_listed explicit words store lent)
   unfolding line_names_listed
-  listed-written n x z f w =
+  listed-written n z w =
       let k : n ≡ length (lists explicit words store) = omega (arith, w.counted) in
-      rw (eq-eqb number 0 z, f, k, w.words)
+      rw (eq-eqb number 0 z, k, w.words)
 
   -- so a caller within the ranges has the lists
   pub listed-in-range : (r : ListedNames) → explicit ≤ 10000 → length words ≤ 4096 → 32768 ≤ length store
@@ -56,3 +75,15 @@ module _ (explicit : ℕ) (words store lent after : List ℕ) where
       let g = rw (eq-eqb number 0 z) at e in
       let k : r.count ≡ length (lists explicit words store) = ap (λ (x : NamesListed). x.answer.count) g in
       record { words = ap (λ (x : NamesListed). x.words) g; counted = omega arith }
+
+  -- and is answered with how many names there are
+  pub listed-answered : (r : Result ℕ Fault) → explicit ≤ 10000 → length words ≤ 4096 → 32768 ≤ length store
+      → ◌≡◌ {A = NamesListed} (record { answer = answered_lists r; words = after }) (line_names_listed explicit words store lent)
+      → (n : ℕ) × (r ≡ Ok n) × Written lent 0 (lists explicit words store) after n
+  unfolding line_names_listed
+  listed-answered (Ok n) a b c e = (n, refl, listed-in-range (answered_lists (Ok n)) a b c e)
+  listed-answered (Err fault) a b c e =
+      let z = in_range explicit (length words) (length store) a b c in
+      let g = rw (eq-eqb number 0 z) at e in
+      let k : number_of fault ≡ 0 = ap (λ (x : NamesListed). x.answer.refusal.number) g in
+      absurd (told fault k)

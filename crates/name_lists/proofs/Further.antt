@@ -1,14 +1,15 @@
 -- One entry further, as the loops over entries that ascend take them.
-use mathlib.Core.Path.{◌≡◌}
-use mathlib.Core.Bool.{true, false}
-use mathlib.Core.List.{List, ◌∷◌}
-use Prim.Native.Nat.{ℕ, ◌+◌, ◌≤◌, ◌<◌}
-use native.Mathlib.Nat.{add-zero}
+use mathlib.Core.Path.{◌≡◌, refl}
+use mathlib.Core.Bool.{Bool, true, false}
+use mathlib.Core.List.{List, [], ◌∷◌}
+use Prim.Native.Nat.{ℕ, suc, ◌+◌, ◌≤◌, ◌<◌}
 use native.Mathlib.Numerals.{add-one}
 use native.Mathlib.Omega.{arith}
 use borrow.Author.Tests.{le-leb, lt-leb}
+use lib.Dec.{leb}
 use lib.ListN.{length, get_or, drop, drop_of_length-le}
 use lib.Seq.{drop-cons}
+use Rattle.std.specs.List.{prefix_len}
 use Rattle.name_entries.specs.declared.NameEntry.{NameEntry}
 use Rattle.name_entries.specs.Entries.{entry_of}
 use Rattle.name_lists.specs.Ascending.{ascends_from, count_up_to}
@@ -32,26 +33,18 @@ module _ (entries : List ℕ) (line i : ℕ) where
         let s : (entry_of (get_or entries i 0)).line < line = rw known at k in
         rw (here, lt-leb line (entry_of (get_or entries i 0)).line s)
 
-    -- an entry up to the line is counted
-    pub count-further : e.line ≤ line → i + count_up_to line (drop i entries) ≡ i + 1 + count_up_to line (drop (i + 1) entries)
-    unfolding count_up_to
-    count-further k =
-        let s : (entry_of (get_or entries i 0)).line ≤ line = rw known at k in
-        rw (here, le-leb (entry_of (get_or entries i 0)).line line s) (omega arith)
-
-    -- one above it ends the count
-    pub count-stops : line < e.line → i + count_up_to line (drop i entries) ≡ i
-    unfolding count_up_to
-    count-stops k =
-        let s : line < (entry_of (get_or entries i 0)).line = rw known at k in
-        rw (here, lt-leb (entry_of (get_or entries i 0)).line line s) (add-zero i)
-
   -- no entries ascend
   pub ascends-end : length entries ≤ i → ascends_from line (drop i entries) ≡ true
   unfolding ascends_from
   ascends-end h = rw (drop_of_length-le entries h)
 
-  -- of no entries none is counted
-  pub count-end : length entries ≤ i → i + count_up_to line (drop i entries) ≡ i
-  unfolding count_up_to
-  count-end h = rw (drop_of_length-le entries h) (add-zero i)
+-- whether an entry's line is at most a line
+abbrev pub reaches : ℕ → ℕ → Bool
+reaches line w = leb (entry_of w).line line
+
+pub count_prefix : (line : ℕ) (words : List ℕ) → count_up_to line words ≡ prefix_len (reaches line) words
+unfolding count_up_to
+count_prefix line [] = refl
+count_prefix line (w ∷ words) =
+    let e : suc (prefix_len (reaches line) words) ≡ 1 + prefix_len (reaches line) words = omega arith in
+    rw (count_prefix line words, e)

@@ -1,13 +1,14 @@
 -- All line names of an axis (document 01, layer 4): "one list for each explicit line, in entry order, a name once, area edges left
 -- out", one list after the other. A name is a word: its line, and the part of the store that it is.
-use Rattle.std.specs.Prelude.{ℕ, zero, suc, ◌+◌, ◌-◌, ◌≤◌, ◌<◌, min, ◌≡◌, cond, List, [], ◌∷◌, ◌++◌, map, eqb, ltb, length, get_or, take}
+use Rattle.std.specs.Prelude.{ℕ, zero, suc, ◌+◌, ◌-◌, ◌≤◌, ◌<◌, min, ◌≡◌, cond, List, [], ◌∷◌, ◌++◌, map, eqb, ltb, length, get_or, take, Result, Ok, Err}
 use Rattle.std.proofs.lemmas.List.Edits.{sets}
-use Rattle.coordinates.specs.Refusals.{no_refusal, refusal_of, count, crowded, short}
+use Rattle.coordinates.specs.Refusals.{no_refusal, refusal_of, number_of, count, crowded, short}
 use Rattle.name_entries.specs.declared.NameEntry.{NameEntry}
 use Rattle.name_entries.specs.Entries.{entry_of, word_of, named_entry, entries_of}
 use Rattle.name_entries.specs.LineNames.{shows}
 use Rattle.name_entries.specs.LineEntries.{line_entries_of}
-use Rattle.name_lists.specs.declared.ListedNames.{ListedNames}
+use Rattle.coordinates.specs.declared.refusal.Refusal.{Refusal}
+use Rattle.coordinates.specs.declared.refusal.Fault.{Fault}
 use Rattle.name_lists.specs.Chains.{places_of, Chain, Chained}
 
 -- the line of an entry, and where its name lies: cut where the store ends
@@ -31,6 +32,16 @@ lists explicit words store = lists_from words store 1 (explicit + 1)
 -- ranges), 10 for "a line-name store below 32,768 bytes"
 unfoldable pub line_names_refusal : ℕ → ℕ → ℕ → ℕ
 line_names_refusal explicit entries bytes = cond (ltb 10000 explicit) count (cond (ltb 4096 entries) crowded (cond (ltb bytes 32768) short 0))
+
+-- how many names were written, or a refusal and 0
+pub record ListedNames : Type 0 where
+  pub refusal : Refusal
+  pub count : ℕ
+
+-- the numbers and values of what the listing answers
+abbrev pub answered_lists : Result ℕ Fault → ListedNames
+answered_lists (Ok n) = record { refusal = no_refusal; count = n }
+answered_lists (Err fault) = record { refusal = refusal_of (number_of fault); count = 0 }
 
 -- an answer, and what the lent words hold then
 pub record NamesListed : Type 0 where

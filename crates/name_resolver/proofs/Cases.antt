@@ -14,7 +14,7 @@ use Rattle.name_resolver.specs.declared.GridPlacement.{GridPlacement}
 use Rattle.name_resolver.specs.declared.GridPlacement.TheVariants.{Auto, Line, NamedLine, NamedSpan}
 use Rattle.name_resolver.specs.declared.NonNamedGridPlacement.{NonNamedGridPlacement}
 use Rattle.name_resolver.specs.declared.NonNamedGridPlacement.TheVariants as Plain
-use Rattle.name_resolver.specs.declared.Resolution.{Resolution}
+use Rattle.name_resolver.specs.Placements.{Resolution}
 
 -- x on lines 1 and 3
 two_lines : AxisNames

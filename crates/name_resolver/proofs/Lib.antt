@@ -1,7 +1,5 @@
--- Laws of the resolver; those of counted lines: Counting.
-pub mod Counting
+-- Laws of the resolver.
 pub mod Integers
-pub mod Steps
 pub mod Finding
 pub mod Questions
 pub mod Theorems

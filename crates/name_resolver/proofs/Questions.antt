@@ -15,7 +15,6 @@ use Rattle.name_lines.specs.Suffixes.{side_edge}
 use Rattle.name_lines.specs.Marks.{back}
 use Rattle.name_lines.specs.declared.GridAreaEnd.{GridAreaEnd}
 use Rattle.name_lines.specs.declared.GridAreaEnd.TheVariants as Placed
-use Rattle.name_lines.specs.declared.suffix.AreaEdge.TheVariants.{Neither}
 use Rattle.name_resolver.specs.Counts.{first_line, found_line}
 use Rattle.name_resolver.specs.Placements.{grid_line_of, name_of, placement_of, answer_of, ends_of, held_answer}
 use Rattle.name_resolver.specs.Steps.{end_on_line, found_end, is_named_span, line_of_end, start_beside, end_beside, first_end, second_end, both_ends, resolved_ends_in}
@@ -25,11 +24,12 @@ use Rattle.name_resolver.specs.declared.Name.{Name}
 use Rattle.name_resolver.specs.declared.End.{End}
 use Rattle.name_resolver.specs.declared.Line.{Line}
 use Rattle.name_resolver.specs.declared.ResolvedEnd.{ResolvedEnd}
-use Rattle.name_resolver.specs.declared.Resolution.{Resolution}
+use Rattle.name_resolver.specs.Placements.{Resolution}
 use Rattle.name_resolver.specs.declared.GridPlacement.{GridPlacement}
 use Rattle.name_resolver.specs.declared.GridPlacement.TheVariants as Written
 use Rattle.name_resolver.proofs.Integers.{grid_line_answer_lem, origin_zero_answer_lem, conversion_mark}
 use Rattle.name_resolver.proofs.Finding.{forwards_first, backwards-line}
+use Rattle.std.specs.Prelude.{None}
 
 -- which lines bear a name, whatever the explicit count
 pub named-bears : (n : ℕ) (axis : Axis) (entries store edges areas areastore : List ℕ)
@@ -81,7 +81,7 @@ module _ (names : Bytes → ℕ → Bool) (bytes : List ℕ) (explicit : ℕ) (h
   on_line m z = rw (grid_line_answer_lem explicit z h)
 
   -- a count on from a line
-  ahead : (name : Name) (first : ℤ) (over : ℕ) (m : Bool) → answered names bytes explicit (question_ahead name Neither first over m)
+  ahead : (name : Name) (first : ℤ) (over : ℕ) (m : Bool) → answered names bytes explicit (question_ahead name None first over m)
       ≡ held_end m (forwards explicit (marks explicit names (name_of bytes name)) first over)
   unfolding found_end found_by
   ahead name first over m =

@@ -16,7 +16,9 @@ use Rattle.name_rules.proofs.Unique.{ends_unique}
 use Rattle.name_rules.proofs.Held.{marks-css, marks_unique}
 use Rattle.name_resolver.specs.Placements.{placement_of, resolved_of, answer_of, ends_of, held_answer, held_marks, resolved_ends, resolved_line, held_line, refused_resolution, resolution_of}
 use Rattle.name_resolver.specs.declared.Line.{Line}
-use Rattle.name_resolver.specs.declared.Resolution.{Resolution}
+use Rattle.name_resolver.specs.Placements.{Resolution, answered_resolution, zero_line, no_marks}
+use Rattle.coordinates.specs.declared.refusal.Fault.{Fault}
+use Rattle.std.specs.Prelude.{Err}
 
 -- a resolved end says what it was made of
 resolved_back : (r : Resolved) → resolved_of (answer_of r) ≡ r
@@ -26,6 +28,10 @@ resolved_back (spanning k) = refl
 
 pub ends_back : (r : ResolvedEnds) → resolved_ends (ends_of r) ≡ r
 ends_back r = rw (resolved_back r.first, resolved_back r.last)
+
+-- a refusal has the zero value and no mark beside it
+pub refused-zeros : (fault : Fault) → ((answered_resolution (Err fault)).line ≡ zero_line) × ((answered_resolution (Err fault)).held ≡ no_marks)
+refused-zeros fault = (refl, refl)
 
 module _ (x : AxisNames) (names : List ℕ) (l : Line) where
   -- at most 10,000 explicit tracks: nothing is refused

@@ -1,6 +1,8 @@
 -- Placements as written and as resolved (document 01, "Panel sheet": kinds `auto line named span nspan`, each with its number).
-use Rattle.std.specs.Prelude.{ℕ, false, cond, List, leb, ℤ, pos, take, drop}
-use Rattle.coordinates.specs.Refusals.{no_refusal, refusal_of, count}
+use Rattle.std.specs.Prelude.{ℕ, false, cond, List, leb, ℤ, pos, take, drop, Result, Ok, Err}
+use Rattle.coordinates.specs.Refusals.{no_refusal, refusal_of, number_of, count}
+use Rattle.coordinates.specs.declared.refusal.Refusal.{Refusal}
+use Rattle.coordinates.specs.declared.refusal.Fault.{Fault}
 use Rattle.name_rules.specs.Css as Css
 use Rattle.name_rules.specs.Css.{Bytes, AxisNames}
 use Rattle.name_rules.specs.CssMarks as CssMarks
@@ -14,7 +16,7 @@ use Rattle.name_resolver.specs.declared.NonNamedGridPlacement.TheVariants as Pla
 use Rattle.name_resolver.specs.declared.Line.{Line}
 use Rattle.name_resolver.specs.declared.ResolvedLine.{ResolvedLine}
 use Rattle.name_resolver.specs.declared.HeldEnds.{HeldEnds}
-use Rattle.name_resolver.specs.declared.Resolution.{Resolution}
+use Rattle.name_resolver.specs.declared.ResolvedPlacement.{ResolvedPlacement}
 
 -- the grid line of a number
 abbrev pub grid_line_of : ℤ → GridLine
@@ -82,6 +84,17 @@ resolved_line x names l = ends_of (resolve x.explicit (named? x) (placement_of n
 -- and the marks of its ends
 abbrev pub held_line : AxisNames → List ℕ → Line → HeldEnds
 held_line x names l = held_answer (held_ends x.explicit (named? x) (placement_of names l.start) (placement_of names l.end))
+
+-- the answer of the resolver in this paper's numbers and values: a refusal, and beside it the zero value, or the resolved placement and its marks
+pub record Resolution : Type 0 where
+  pub refusal : Refusal
+  pub line : ResolvedLine
+  pub held : HeldEnds
+
+-- the numbers and values of what the resolver answers
+abbrev pub answered_resolution : Result ResolvedPlacement Fault → Resolution
+answered_resolution (Ok r) = record { refusal = no_refusal; line = r.line; held = r.held }
+answered_resolution (Err fault) = record { refusal = refusal_of (number_of fault); line = zero_line; held = no_marks }
 
 -- a refused answer: number 4, line 0 and the zero value
 abbrev pub refused_resolution : Resolution

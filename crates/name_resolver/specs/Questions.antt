@@ -1,24 +1,24 @@
 -- What the names of an axis answer to a question (document 01, layer 4).
-use Rattle.std.specs.Prelude.{Bool, List, ◌++◌, ℕ, suc}
+use Rattle.std.specs.Prelude.{Bool, List, ◌++◌, ℕ, suc, Option, Some, None}
 use Rattle.name_rules.specs.Css.{Bytes, start, end, suffix}
 use Rattle.name_rules.specs.Rule.{Seek, at, left, seek}
 use Rattle.name_lines.specs.Marks.{walk, start_of}
-use Rattle.name_lines.specs.declared.suffix.AreaEdge.{AreaEdge}
-use Rattle.name_lines.specs.declared.suffix.AreaEdge.TheVariants.{Start, End, Neither}
 use Rattle.name_resolver.specs.Placements.{name_of}
 use Rattle.name_resolver.specs.Steps.{first_end, second_end, resolved_ends_in, question_of, found_end}
 use Rattle.name_resolver.specs.declared.Line.{Line}
 use Rattle.name_resolver.specs.declared.ResolvedEnd.{ResolvedEnd}
-use Rattle.name_resolver.specs.declared.Resolution.{Resolution}
+use Rattle.name_resolver.specs.Placements.{Resolution}
 use Rattle.name_resolver.specs.declared.Question.{Question}
 use Rattle.name_resolver.specs.declared.Asked.{Asked}
 use Rattle.name_resolver.specs.declared.Asked.TheVariants as Says
+use Rattle.name_lines.specs.declared.GridAreaEnd.{GridAreaEnd}
+use Rattle.name_lines.specs.declared.GridAreaEnd.TheVariants.{Start, End}
 
 -- the first line of an edge of the area of a name, where one is asked for; `names` says whether a line bears a name
-abbrev pub edge_found : (Bytes → ℕ → Bool) → Bytes → AreaEdge → Seek
-edge_found names nm Start = seek (λ (l : ℕ). names (nm ++ suffix start) (suc l)) 20000 0 0
-edge_found names nm End = seek (λ (l : ℕ). names (nm ++ suffix end) (suc l)) 20000 0 0
-edge_found names nm Neither = left 0
+abbrev pub edge_found : (Bytes → ℕ → Bool) → Bytes → Option GridAreaEnd → Seek
+edge_found names nm (Some Start) = seek (λ (l : ℕ). names (nm ++ suffix start) (suc l)) 20000 0 0
+edge_found names nm (Some End) = seek (λ (l : ℕ). names (nm ++ suffix end) (suc l)) 20000 0 0
+edge_found names nm None = left 0
 
 -- a line that is found, else another search
 abbrev pub or_else : Seek → Seek → Seek

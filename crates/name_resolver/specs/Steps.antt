@@ -1,5 +1,5 @@
 -- What the steps of the resolver come to: which end is resolved first, what an end asks for, and the line that answers it.
-use Rattle.std.specs.Prelude.{ℕ, zero, suc, pred, ◌+◌, ◌<◌, max, min, Bool, true, false, cond, ◌||◌, ℤ, pos, negsuc, ◌+ℤ◌, ◌-ℤ◌}
+use Rattle.std.specs.Prelude.{ℕ, zero, suc, pred, ◌+◌, ◌<◌, max, min, Bool, true, false, cond, ◌||◌, ℤ, pos, negsuc, ◌+ℤ◌, ◌-ℤ◌, Option, None}
 use Rattle.coordinates.specs.Lines.{held, outside}
 use Rattle.coordinates.specs.Refusals.{no_refusal}
 use Rattle.coordinates.specs.Signed.{integer_of, sixteen_bits}
@@ -13,8 +13,6 @@ use Rattle.name_lines.specs.Suffixes.{side_edge}
 use Rattle.name_lines.specs.declared.GridAreaEnd.TheVariants as Placed
 use Rattle.name_lines.specs.declared.Way.{Way}
 use Rattle.name_lines.specs.declared.Way.TheVariants.{Up, Down}
-use Rattle.name_lines.specs.declared.suffix.AreaEdge.{AreaEdge}
-use Rattle.name_lines.specs.declared.suffix.AreaEdge.TheVariants.{Neither}
 use Rattle.name_resolver.specs.Counts.{is_zero, first_line, found_line}
 use Rattle.name_resolver.specs.declared.count.Count.{Count}
 use Rattle.name_resolver.specs.declared.count.Count.TheVariants.{Forwards, Backwards}
@@ -26,11 +24,12 @@ use Rattle.name_resolver.specs.declared.NonNamedGridPlacement.{NonNamedGridPlace
 use Rattle.name_resolver.specs.declared.NonNamedGridPlacement.TheVariants as Plain
 use Rattle.name_resolver.specs.declared.Line.{Line}
 use Rattle.name_resolver.specs.declared.ResolvedEnd.{ResolvedEnd}
-use Rattle.name_resolver.specs.declared.Resolution.{Resolution}
+use Rattle.name_resolver.specs.Placements.{Resolution}
 use Rattle.name_resolver.specs.declared.End.{End}
 use Rattle.name_resolver.specs.declared.Question.{Question}
 use Rattle.name_resolver.specs.declared.Asked.{Asked}
 use Rattle.name_resolver.specs.declared.Asked.TheVariants as Says
+use Rattle.name_lines.specs.declared.GridAreaEnd.{GridAreaEnd}
 
 -- an end is a span of a name
 abbrev pub is_named_span : GridPlacement → Bool
@@ -102,18 +101,18 @@ unfoldable pub found_end : ℕ → Question → Seek → ResolvedEnd
 found_end explicit q s = end_on_line explicit q.held (line_found explicit q.way q.from s)
 
 -- the question of a count on from a line, a line before the first counting as the first
-abbrev pub question_ahead : Name → AreaEdge → ℤ → ℕ → Bool → Asked
+abbrev pub question_ahead : Name → Option GridAreaEnd → ℤ → ℕ → Bool → Asked
 question_ahead name edge first over before =
     Says.Line (record { name = name; edge = edge; way = Up; from = first_line first; over = over; held = before })
 
 -- the question of a count back from a line, explicit lines only; before line 0 every line counts, and nothing is asked
 abbrev pub question_back : ℕ → Name → ℤ → ℕ → Bool → Asked
 question_back explicit name (pos l) over before =
-    Says.Line (record { name = name; edge = Neither; way = Down; from = suc (min l explicit); over = over; held = before })
+    Says.Line (record { name = name; edge = None; way = Down; from = suc (min l explicit); over = over; held = before })
 question_back explicit name (negsuc k) over before = Says.Resolved (end_on_line explicit before (negsuc (k + over)))
 
 -- the question of a count either way
-abbrev pub count_question : ℕ → Name → AreaEdge → Count → Bool → Asked
+abbrev pub count_question : ℕ → Name → Option GridAreaEnd → Count → Bool → Asked
 count_question explicit name edge (Forwards first over) before = question_ahead name edge (integer_of first) over before
 count_question explicit name edge (Backwards last over) before = question_back explicit name (integer_of last) over before
 
@@ -127,19 +126,19 @@ CountFits (Forwards first over) = Unit {0}
 CountFits (Backwards last over) = BackFits (integer_of last) over
 
 -- an area's edge is asked for first where no index is written, which is index 0
-abbrev pub index_edge : ℤ → Side → AreaEdge
-index_edge i s = cond (is_zero i) (side_edge s) Neither
+abbrev pub index_edge : ℤ → Side → Option GridAreaEnd
+index_edge i s = cond (is_zero i) (side_edge s) None
 
 -- a name with an index: 0 as 1, positive from line 0 on, negative from the last explicit line back
 abbrev pub named_question : ℕ → Name → ℤ → Side → Asked
 named_question explicit name (pos zero) s = question_ahead name (side_edge s) (pos 0) 0 false
-named_question explicit name (pos (suc i)) s = question_ahead name Neither (pos 0) i false
+named_question explicit name (pos (suc i)) s = question_ahead name None (pos 0) i false
 named_question explicit name (negsuc i) s = question_back explicit name (pos explicit) i false
 
 -- a span of a name beside a line: back from the line before it for a start, on from the line after it for an end; a span of 0 as 1
 abbrev pub span_question_from : ℕ → Name → ℕ → Side → ℤ → Bool → Asked
 span_question_from explicit name n start o before = question_back explicit name (o -ℤ pos 1) (pred n) before
-span_question_from explicit name n end o before = question_ahead name Neither (o +ℤ pos 1) (pred n) before
+span_question_from explicit name n end o before = question_ahead name None (o +ℤ pos 1) (pred n) before
 
 -- beside a grid line, which is held first, and whose mark is taken over: span 1 where that is 0
 abbrev pub span_question : ℕ → Name → ℕ → Side → ℤ → Bool → Asked

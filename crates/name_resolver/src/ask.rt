@@ -1,4 +1,5 @@
 // What an end of a placement asks for.
+ghost use Rattle.coordinates.specs.Answers.{answered_conversion};
 ghost use Rattle.coordinates.specs.Signed.{integer_of};
 ghost use Rattle.name_lines.specs.Areas.{side_of};
 ghost use Rattle.name_resolver.specs.Steps.{BackFits, CountFits, count_question, index_edge, named_question, question_back, question_of, span_question, unmarked_end, written_end};
@@ -8,8 +9,7 @@ use crate::count::Count;
 use crate::found::end_on_line;
 use crate::{Asked, End, GridPlacement, Name, NonNamedGridPlacement, Question, ResolvedEnd, count};
 use coordinates::signed::Signed;
-use coordinates::{GridLine, signed};
-use name_lines::suffix::{AreaEdge, edge_at};
+use coordinates::{Fault, GridLine, MarkedLine, OriginZeroLine, signed};
 use name_lines::{GridAreaEnd, Way};
 
 // An end without a mark.
@@ -22,25 +22,44 @@ fn unmarked_end(placement: NonNamedGridPlacement) -> ResolvedEnd
     }
 }
 
+// The mark of a conversion, which has none where it is refused.
+fn is_marked(answer: Result<MarkedLine, Fault>) -> bool
+    ensures { result ≡ (answered_conversion answer).held }
+{
+    match answer {
+        Ok(marked) => marked.held,
+        Err(_) => false,
+    }
+}
+
+// The origin-zero line of a conversion, 0 where it is refused.
+fn converted_line(answer: Result<MarkedLine, Fault>) -> OriginZeroLine
+    ensures { result ≡ (answered_conversion answer).line }
+{
+    match answer {
+        Ok(marked) => marked.line,
+        Err(_) => OriginZeroLine(0),
+    }
+}
+
 // A written line as it stands, with the mark of its conversion.
 fn written_end(explicit: u16, line: GridLine) -> ResolvedEnd
     ensures { result ≡ written_end explicit line }
 {
-    let converted = line.into_origin_zero_line(explicit);
     ResolvedEnd {
         placement: NonNamedGridPlacement::Line(line),
-        held: converted.held,
+        held: is_marked(line.into_origin_zero_line(explicit)),
     }
 }
 
 // The edge of an area that a name with that index asks for first.
-fn edge_of_index(index: Signed, side: GridAreaEnd) -> AreaEdge
+fn edge_of_index(index: Signed, side: GridAreaEnd) -> Option<GridAreaEnd>
     ensures { result ≡ index_edge (integer_of index) (side_of side) }
 {
-    if count::is_zero(index) {
-        return edge_at(side);
+    match index {
+        Signed::NonNegative(0) => Some(side),
+        _ => None,
     }
-    AreaEdge::Neither
 }
 
 // The question of a count back: a line before the first is counted to without a search.
@@ -51,21 +70,28 @@ fn question_back(explicit: u16, name: Name, last: Signed, over: u32, held: bool)
     match last {
         Signed::NonNegative(line) => Asked::Line(Question {
             name,
-            edge: AreaEdge::Neither,
+            edge: None,
             way: Way::Down,
             from: count::explicit_end(explicit, line),
             over,
             held,
         }),
-        Signed::Negative(k) => {
-            let line = signed::hold(Signed::Negative(k + over));
-            Asked::Resolved(end_on_line(explicit, held, line))
-        }
+        Signed::Negative(k) => Asked::Resolved(end_on_line(
+            explicit,
+            held,
+            signed::hold(Signed::Negative(k + over)),
+        )),
     }
 }
 
 // The question of a count of a name's lines.
-fn question_of_count(explicit: u16, name: Name, edge: AreaEdge, count: Count, held: bool) -> Asked
+fn question_of_count(
+    explicit: u16,
+    name: Name,
+    edge: Option<GridAreaEnd>,
+    count: Count,
+    held: bool,
+) -> Asked
     requires { CountFits count }
     ensures { result ≡ count_question explicit name edge count held }
 {
@@ -107,27 +133,25 @@ fn span_question(
     if count::is_zero(signed::split_16_bits(number)) {
         return Asked::Resolved(unmarked_end(NonNamedGridPlacement::Span(1)));
     }
-    let answer = beside.into_origin_zero_line(explicit);
-    let counted = count::span_count(span, answer.line, side);
-    question_of_count(explicit, name, AreaEdge::Neither, counted, held)
+    let line = converted_line(beside.into_origin_zero_line(explicit));
+    let counted = count::span_count(span, line, side);
+    question_of_count(explicit, name, None, counted, held)
 }
 
 // What an end asks for. Written lines and plain spans pass through.
+#[tactic(auto, unfolding(crate::specs::Steps::question_of))]
 pub fn question_of(explicit: u16, end: End) -> Asked
     ensures { result ≡ question_of explicit end }
 {
-    let placement = end.placement;
-    let side = end.side;
-    let beside = end.beside;
-    match placement {
+    match end.placement {
         GridPlacement::Auto => Asked::Resolved(unmarked_end(NonNamedGridPlacement::Auto)),
         GridPlacement::Line(written) => Asked::Resolved(written_end(explicit, written)),
-        GridPlacement::NamedLine(name, index) => named_question(explicit, name, index, side),
+        GridPlacement::NamedLine(name, index) => named_question(explicit, name, index, end.side),
         GridPlacement::Span(span) => {
             Asked::Resolved(unmarked_end(NonNamedGridPlacement::Span(span)))
         }
         GridPlacement::NamedSpan(name, span) => {
-            span_question(explicit, name, span, side, beside, end.held)
+            span_question(explicit, name, span, end.side, end.beside, end.held)
         }
     }
 }

@@ -8,41 +8,39 @@ ghost use Rattle.std.specs.Prelude.{◌≡◌};
 use crate::{NonNamedGridPlacement, Question, ResolvedEnd, count};
 use coordinates::signed::{HeldLine, Signed};
 use coordinates::{GridLine, OriginZeroLine, signed};
-use name_lines::{Found, Way};
+use name_lines::Way;
 
-// An origin-zero line that is held, as a grid line.
+// An origin-zero line that is held, as a grid line; line 0, which is none, where the explicit count is refused.
 fn grid_line(line: Signed, explicit: u16) -> GridLine
     ensures { result ≡ (grid_line_answer explicit (sixteen_bits (integer_of line))).line }
 {
-    let answer = OriginZeroLine(signed::joined(line)).into_grid_line(explicit);
-    answer.line
+    OriginZeroLine(signed::joined(line))
+        .into_grid_line(explicit)
+        .unwrap_or(GridLine(0))
 }
 
 // The end on a line that is held; it is marked where that was held, or a line before it.
 pub(crate) fn end_on_line(explicit: u16, before: bool, line: HeldLine) -> ResolvedEnd
     ensures { result ≡ end_on_held explicit before line }
 {
-    let within = line.line;
-    let placement = NonNamedGridPlacement::Line(grid_line(within, explicit));
     ResolvedEnd {
-        placement,
-        held: before | line.held,
+        placement: NonNamedGridPlacement::Line(grid_line(line.line, explicit)),
+        held: before || line.held,
     }
 }
 
 // The line that a search came to, missing lines counted on past the explicit grid or before it, held, with its mark.
-fn line_found(explicit: u16, question: Question, found: Found) -> HeldLine
+fn line_found(explicit: u16, question: Question, found: Result<u32, u32>) -> HeldLine
     ensures { HeldAs (line_found explicit question.way question.from (seek_of found)) result }
 {
-    let way = question.way;
-    match way {
+    match question.way {
         Way::Up => count::line_forwards(explicit, question.from, found),
         Way::Down => count::line_backwards(found),
     }
 }
 
 // The end that a search resolves.
-pub fn found_end(explicit: u16, question: Question, found: Found) -> ResolvedEnd
+pub fn found_end(explicit: u16, question: Question, found: Result<u32, u32>) -> ResolvedEnd
     ensures { result ≡ found_end explicit question (seek_of found) }
 {
     let line = line_found(explicit, question, found);

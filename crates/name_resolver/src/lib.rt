@@ -8,19 +8,18 @@ pub mod count;
 pub mod ends;
 pub mod found;
 
-use coordinates::{GridLine, Refusal};
-use name_lines::suffix::AreaEdge;
+use coordinates::GridLine;
 use name_lines::{GridAreaEnd, Way};
 
 // Where a placement's name lies in the lent bytes of the placements' names.
-#[derive(Clone, Copy)]
+#[derive(Clone, Copy, Debug, PartialEq, Eq)]
 pub struct Name {
     pub offset: u32,
     pub length: u32,
 }
 
 // One end of a placement as written: auto, a line, a name with an index, a span, a span of a name.
-#[derive(Clone, Copy)]
+#[derive(Clone, Copy, Debug, PartialEq, Eq)]
 pub enum GridPlacement {
     Auto,
     Line(GridLine),
@@ -30,14 +29,14 @@ pub enum GridPlacement {
 }
 
 // A placement in one axis: start and end each hold their own kind.
-#[derive(Clone, Copy)]
+#[derive(Clone, Copy, Debug, PartialEq, Eq)]
 pub struct Line {
     pub start: GridPlacement,
     pub end: GridPlacement,
 }
 
 // One end of a placement with its names resolved.
-#[derive(Clone, Copy)]
+#[derive(Clone, Copy, Debug, PartialEq, Eq)]
 pub enum NonNamedGridPlacement {
     Auto,
     Line(GridLine),
@@ -45,36 +44,35 @@ pub enum NonNamedGridPlacement {
 }
 
 // A placement with its names resolved.
-#[derive(Clone, Copy)]
+#[derive(Clone, Copy, Debug, PartialEq, Eq)]
 pub struct ResolvedLine {
     pub start: NonNamedGridPlacement,
     pub end: NonNamedGridPlacement,
 }
 
 // The marks of a placement: for each end whether a step on the way to its line held it within -10,000..10,000.
-#[derive(Clone, Copy)]
+#[derive(Clone, Copy, Debug, PartialEq, Eq)]
 pub struct HeldEnds {
     pub start: bool,
     pub end: bool,
 }
 
 // One end with its name resolved, and its mark.
-#[derive(Clone, Copy)]
+#[derive(Clone, Copy, Debug, PartialEq, Eq)]
 pub struct ResolvedEnd {
     pub placement: NonNamedGridPlacement,
     pub held: bool,
 }
 
-// The answer of the resolver: a refusal, or the resolved placement and its marks.
-#[derive(Clone, Copy)]
-pub struct Resolution {
-    pub refusal: Refusal,
+// The answer of the resolver: the resolved placement, and its marks.
+#[derive(Clone, Copy, Debug, PartialEq, Eq)]
+pub struct ResolvedPlacement {
     pub line: ResolvedLine,
     pub held: HeldEnds,
 }
 
 // One end of a placement, and the grid line of the other, 0 where it has none, with that line's mark.
-#[derive(Clone, Copy)]
+#[derive(Clone, Copy, Debug, PartialEq, Eq)]
 pub struct End {
     pub placement: GridPlacement,
     pub side: GridAreaEnd,
@@ -84,10 +82,10 @@ pub struct End {
 
 // The line of a name that an end asks for: an edge of its area first, where no number is written; which way its lines are counted, from which line, and past how many; whether a
 // line before it was held.
-#[derive(Clone, Copy)]
+#[derive(Clone, Copy, Debug, PartialEq, Eq)]
 pub struct Question {
     pub name: Name,
-    pub edge: AreaEdge,
+    pub edge: Option<GridAreaEnd>,
     pub from: u32,
     pub way: Way,
     pub over: u32,
@@ -95,7 +93,7 @@ pub struct Question {
 }
 
 // What an end says: it is resolved, or asks for a line.
-#[derive(Clone, Copy)]
+#[derive(Clone, Copy, Debug, PartialEq, Eq)]
 pub enum Asked {
     Resolved(ResolvedEnd),
     Line(Question),

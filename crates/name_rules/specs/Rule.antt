@@ -2,6 +2,8 @@
 -- neither the order of entries nor how they are kept plays a part.
 use Rattle.std.specs.Prelude.{Bool, true, false, ◌&&◌, ◌||◌, List, [], ◌∷◌, ◌++◌, ℕ, zero, suc, pred, ◌+◌, ◌-◌, max, min, ℤ, pos, negsuc, ◌+ℤ◌, ◌-ℤ◌, eqb}
 use Rattle.coordinates.specs.Lines.{held, outside, uncut, to_grid_line}
+use Rattle.std.specs.List.{list_any}
+use Rattle.std.specs.Str.{bytes_eq}
 use Rattle.name_rules.specs.Css.{Bytes, Entry, Area, Side, start, end, other, suffix, AxisNames}
 use Rattle.name_rules.specs.CssMarks.{HeldEnds}
 use Rattle.name_rules.specs.Css.{Placement, auto, line, named, span, nspan, Resolved, free, at_line, spanning, ResolvedEnds}
@@ -28,17 +30,12 @@ settle e (at l) = l
 settle e (left m) = e + m
 
 -- a list has an element that passes the test
-module _ {A : Type 0} where
-  abbrev pub any : (A → Bool) → List A → Bool
-  any f [] = false
-  any f (a ∷ l) = f a || any f l
+abbrev pub any : {A : Type 0} → (A → Bool) → List A → Bool
+any = list_any
 
 -- two names are the same
 abbrev pub eq_bytes : Bytes → Bytes → Bool
-eq_bytes [] [] = true
-eq_bytes [] (b ∷ bs) = false
-eq_bytes (a ∷ l) [] = false
-eq_bytes (a ∷ l) (b ∷ bs) = eqb a b && eq_bytes l bs
+eq_bytes = bytes_eq
 
 -- an entry gives a line its name
 abbrev pub written? : Bytes → ℕ → Entry → Bool

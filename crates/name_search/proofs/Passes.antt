@@ -9,11 +9,12 @@ use Rattle.name_rules.specs.Css.{Bytes, Side, edge, Entry, Area}
 use Rattle.name_rules.specs.Rule.{any, written?}
 use Rattle.name_lines.specs.Areas.{edge_in, area_of, edged_by, bears_joined}
 use Rattle.name_lines.specs.Suffixes.{tail_of}
-use Rattle.name_lines.specs.declared.suffix.AreaEdge.{AreaEdge}
 use Rattle.name_lines.proofs.Tables.{edge-line}
 use Rattle.name_search.specs.Nearest.{number_at, Nearest}
 use Rattle.name_lines.specs.declared.Way.{Way}
 use Rattle.name_search.proofs.Distances.{nearest_none, nearest_same, nearest_both}
+use Rattle.std.specs.Prelude.{Option}
+use Rattle.name_lines.specs.declared.GridAreaEnd.{GridAreaEnd}
 
 -- what is still to be passed: of the test p, the part q is left
 abbrev pub Rest : (ℕ → Bool) → (ℕ → Bool) → ℕ → ℕ → Type 0
@@ -33,7 +34,7 @@ pub edge_near : (way : Way) (f best r : ℕ) (axis : Axis) (w n : ℕ) (store : 
 edge_near way f best r axis w n store s line e k = rw (e ∙ edge-line axis w n store s) at k
 
 -- a name in two parts: the entries, then the edge sought of the areas
-pub near_joined : (book : List Entry) (areas : List Area) (stem : Bytes) (sought : AreaEdge) (number : ℕ → ℕ) (limit best r : ℕ)
+pub near_joined : (book : List Entry) (areas : List Area) (stem : Bytes) (sought : Option GridAreaEnd) (number : ℕ → ℕ) (limit best r : ℕ)
     → Nearest (λ d. any (written? (stem ++ tail_of sought) (number d)) book) limit best
     → Nearest (λ d. edged_by areas stem sought (number d)) best r
     → Nearest (λ d. bears_joined book areas stem sought (number d)) limit r

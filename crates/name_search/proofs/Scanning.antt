@@ -52,7 +52,7 @@ module _ (way : Way) (p : ℕ → Bool) (f k i : ℕ) (h : i < k) where
   scan-over (suc n) q z = let s : n ≡ suc n - 1 = omega arith in scan_step way p f k i (suc n) h ∙ rw q (ap (λ (j : ℕ). scan way p (rest_from way f (i + 1)) (k - (i + 1)) j) s)
 
 -- a window of n marks from line low on shows the lines that were marked
-pub scan-marked : (way : Way) (n low e m : ℕ) (ms : List ℕ) (p : ℕ → Bool) → Adds (replicate n 0) ms (λ k. p (low + k)) → e - low ≤ n
+pub scan-marked : (way : Way) (n low e m : ℕ) (ms : List Bool) (p : ℕ → Bool) → Adds (replicate n false) ms (λ k. p (low + k)) → e - low ≤ n
     → scan way (λ l. marked ms (l - low)) low (e - low) m ≡ scan way p low (e - low) m
 scan-marked Up n low e m ms p f h = window-up n low e m ms p f h
 scan-marked Down n low e m ms p f h = window-down n low e m ms p f h

@@ -5,12 +5,12 @@ ghost use Rattle.name_lines.specs.Areas.{area_of, areas_of, axis_part, edge_in, 
 ghost use Rattle.name_lines.specs.Marks.{Adds};
 ghost use Rattle.name_search.specs.Nearest.{Nearest, number_at};
 
-use crate::Sought;
 use crate::distance::nearer;
 use crate::marks::{lies_in, mark_line};
+use crate::{DrawnAreas, Sought};
 use coordinates::Axis;
-use name_entries::bytes::same_bytes;
-use name_entries::entry::{entry_of, name_in};
+use name_entries::NameEntry;
+use name_entries::entry::name_in;
 use name_lines::GridAreaEnd;
 
 // The part of a word of edges that an axis reads.
@@ -38,10 +38,10 @@ pub(crate) fn edge_in(axis: Axis, end: GridAreaEnd, word: u64) -> u32
 fn word_at(words: &[u64], at: usize) -> u64
     ensures { result ≡ get_or words.now at 0 }
 {
-    if at < words.len() {
-        return words[at];
+    match words.get(at) {
+        Some(word) => *word,
+        None => 0,
     }
-    0
 }
 
 // The distance of an area's edge where it is below `best` and the area has the name, else `best`. A name whose edge is not nearer is not looked at.
@@ -49,21 +49,16 @@ fn nearest_area(
     sought: Sought,
     word: u64,
     area: u64,
-    areastore: &[u8],
+    store: &[u8],
     name: &[u8],
     end: GridAreaEnd,
     best: u32,
 ) -> u32
-    ensures { Nearest (λ d. edged? name.now (side_of end) (number_at sought.way sought.from d) (area_of sought.axis word area areastore.now)) best result }
+    ensures { Nearest (λ d. edged? name.now (side_of end) (number_at sought.way sought.from d) (area_of sought.axis word area store.now)) best result }
 {
-    let axis = sought.axis;
-    let way = sought.way;
-    let number = edge_in(axis, end, word);
-    let near = nearer(way, sought.from, number, best);
-    if best <= near {
-        return best;
-    }
-    if same_bytes(name_in(areastore, entry_of(area)), name) {
+    let number = edge_in(sought.axis, end, word);
+    let near = nearer(sought.way, sought.from, number, best);
+    if near < best && name_in(store, NameEntry::from(area)) == name {
         return near;
     }
     best
@@ -72,64 +67,51 @@ fn nearest_area(
 // The least distance below `limit` of an edge of a drawn area that has the name, `limit` where there is none.
 pub(crate) fn nearest_areas(
     sought: Sought,
-    edges: &[u64],
-    areas: &[u64],
-    areastore: &[u8],
+    areas: DrawnAreas,
     name: &[u8],
     end: GridAreaEnd,
     limit: u32,
 ) -> u32
-    ensures { Nearest (λ d. any (edged? name.now (side_of end) (number_at sought.way sought.from d)) (areas_of sought.axis edges.now areas.now areastore.now)) limit result }
+    ensures { Nearest (λ d. any (edged? name.now (side_of end) (number_at sought.way sought.from d)) (areas_of sought.axis areas.entry.edges.now areas.entry.names.now areas.entry.store.now)) limit result }
 {
     let mut best = limit;
-    let mut i = 0;
-    while i < edges.len() {
-        let area = word_at(areas, i);
-        best = nearest_area(sought, edges[i], area, areastore, name, end, best);
-        i += 1;
+    for (i, word) in areas.edges.iter().enumerate() {
+        let area = word_at(areas.names, i);
+        best = nearest_area(sought, *word, area, areas.store, name, end, best);
     }
     best
 }
 
 // Mark an edge of a drawn area that has the name. A name whose edge lies outside is not looked at.
 fn mark_area(
-    marks: &mut [u8],
-    low: u32,
-    axis: Axis,
+    marks: &mut [bool],
+    sought: Sought,
     word: u64,
     area: u64,
-    areastore: &[u8],
+    store: &[u8],
     name: &[u8],
     end: GridAreaEnd,
 )
-    ensures { Adds marks.old marks.new (λ k. edged? name.now (side_of end) (suc (low + k)) (area_of axis word area areastore.now)) }
+    ensures { Adds marks.old marks.new (λ k. edged? name.now (side_of end) (suc (sought.from + k)) (area_of sought.axis word area store.now)) }
 {
-    let number = edge_in(axis, end, word);
-    if !lies_in(low, marks.len(), number) {
-        return;
-    }
-    if same_bytes(name_in(areastore, entry_of(area)), name) {
-        mark_line(marks, low, number);
+    let number = edge_in(sought.axis, end, word);
+    if lies_in(sought.from, marks.len(), number) && name_in(store, NameEntry::from(area)) == name {
+        mark_line(marks, sought.from, number);
     }
 }
 
 // Mark an edge of each drawn area that has the name.
 pub(crate) fn mark_areas(
-    marks: &mut [u8],
-    low: u32,
-    axis: Axis,
-    edges: &[u64],
-    areas: &[u64],
-    areastore: &[u8],
+    marks: &mut [bool],
+    sought: Sought,
+    areas: DrawnAreas,
     name: &[u8],
     end: GridAreaEnd,
 )
-    ensures { Adds marks.old marks.new (λ k. any (edged? name.now (side_of end) (suc (low + k))) (areas_of axis edges.now areas.now areastore.now)) }
+    ensures { Adds marks.old marks.new (λ k. any (edged? name.now (side_of end) (suc (sought.from + k))) (areas_of sought.axis areas.entry.edges.now areas.entry.names.now areas.entry.store.now)) }
 {
-    let mut i = 0;
-    while i < edges.len() {
-        let area = word_at(areas, i);
-        mark_area(marks, low, axis, edges[i], area, areastore, name, end);
-        i += 1;
+    for (i, word) in areas.edges.iter().enumerate() {
+        let area = word_at(areas.names, i);
+        mark_area(marks, sought, *word, area, areas.store, name, end);
     }
 }

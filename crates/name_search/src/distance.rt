@@ -1,5 +1,5 @@
 // How far a line lies from where a search begins, on the side that it looks at.
-ghost use Rattle.std.specs.Prelude.{◌<◌, min, eqb, ◌≡◌};
+ghost use Rattle.std.specs.Prelude.{◌<◌, eqb, ◌≡◌};
 ghost use Rattle.name_search.specs.Nearest.{Nearest, number_at, past, reach};
 
 use name_lines::Way;
@@ -7,22 +7,12 @@ use name_lines::Way;
 // The last line that can have a name.
 pub(crate) const LAST_LINE: u32 = 20000;
 
-// The smaller of two numbers.
-pub(crate) fn lower(a: u32, b: u32) -> u32
-    ensures { result ≡ min a b }
-{
-    if a < b {
-        return a;
-    }
-    b
-}
-
 // How many lines there are to look at: those on to the last that can have a name, or those back to the first.
 pub(crate) fn lines_on(way: Way, from: u32) -> u32
     ensures { result ≡ reach way from }
 {
     match way {
-        Way::Up => LAST_LINE - lower(from, LAST_LINE),
+        Way::Up => LAST_LINE.saturating_sub(from),
         Way::Down => from,
     }
 }
@@ -32,18 +22,9 @@ pub(crate) fn nearer(way: Way, from: u32, number: u32, best: u32) -> u32
     ensures { Nearest (λ d. eqb number (number_at way from d)) best result }
 {
     match way {
-        Way::Up => {
-            if number <= from {
-                return best;
-            }
-            lower(number - from - 1, best)
-        }
-        Way::Down => {
-            if from < number {
-                return best;
-            }
-            lower(from - number, best)
-        }
+        Way::Up if from < number => best.min(number - from - 1),
+        Way::Down if number <= from => best.min(from - number),
+        _ => best,
     }
 }
 

@@ -5,51 +5,29 @@ ghost use Rattle.name_entries.specs.Entries.{entries_of, entry_of, named_entry};
 ghost use Rattle.name_search.specs.Nearest.{Nearest, number_at};
 ghost use Rattle.std.specs.Prelude.{◌++◌};
 
+use crate::Sought;
 use crate::distance::nearer;
-use name_entries::entry::entry_of;
-use name_lines::Way;
-use name_lines::suffix::{AreaEdge, has_name};
+use name_entries::{NameEntry, Names};
+use name_lines::suffix::has_name;
 
 // The distance of an entry's line where it is below `best` and the entry has the name, else `best`. A name whose line is not nearer is not looked at.
-fn nearest_entry(
-    way: Way,
-    from: u32,
-    word: u64,
-    store: &[u8],
-    stem: &[u8],
-    edge: AreaEdge,
-    best: u32,
-) -> u32
-    ensures { Nearest (λ d. written? (stem.now ++ tail_of edge) (number_at way from d) (named_entry store.now (entry_of word))) best result }
+fn nearest_entry(sought: Sought, word: u64, store: &[u8], stem: &[u8], best: u32) -> u32
+    ensures { Nearest (λ d. written? (stem.now ++ tail_of sought.edge) (number_at sought.way sought.from d) (named_entry store.now (entry_of word))) best result }
 {
-    let entry = entry_of(word);
-    let near = nearer(way, from, entry.line, best);
-    if best <= near {
-        return best;
-    }
-    if has_name(store, word, stem, edge) {
+    let near = nearer(sought.way, sought.from, NameEntry::from(word).line, best);
+    if near < best && has_name(store, word, stem, sought.edge) {
         return near;
     }
     best
 }
 
 // The least distance below `limit` of a line of an entry that has the name, `limit` where there is none.
-pub(crate) fn nearest_entries(
-    way: Way,
-    from: u32,
-    entries: &[u64],
-    store: &[u8],
-    stem: &[u8],
-    edge: AreaEdge,
-    limit: u32,
-) -> u32
-    ensures { Nearest (λ d. any (written? (stem.now ++ tail_of edge) (number_at way from d)) (entries_of entries.now store.now)) limit result }
+pub(crate) fn nearest_entries(sought: Sought, names: Names, stem: &[u8], limit: u32) -> u32
+    ensures { Nearest (λ d. any (written? (stem.now ++ tail_of sought.edge) (number_at sought.way sought.from d)) (entries_of names.entry.entries.now names.entry.store.now)) limit result }
 {
     let mut best = limit;
-    let mut i = 0;
-    while i < entries.len() {
-        best = nearest_entry(way, from, entries[i], store, stem, edge, best);
-        i += 1;
+    for word in names.entries {
+        best = nearest_entry(sought, *word, names.store, stem, best);
     }
     best
 }

@@ -3,6 +3,7 @@
 #![tactic(auto)]
 
 ghost use Rattle.name_lines.specs.Marks.{seek_of, start_of};
+ghost use Rattle.name_search.specs.Scans.{part_of};
 ghost use Rattle.name_search.specs.Sought.{line_sought, marks_of};
 ghost use Rattle.std.specs.Prelude.{◌≡◌};
 
@@ -20,18 +21,35 @@ mod window;
 use by_distance::nth_by_distance;
 use by_marks::nth_by_marks;
 use coordinates::Axis;
-use distance::{LAST_LINE, lower};
-use name_lines::suffix::AreaEdge;
-use name_lines::{Found, Way};
+use distance::LAST_LINE;
+use name_entries::Names;
+use name_lines::{GridAreaEnd, Way};
+
+// The drawn areas of a panel: a word of edges and a word of where its name lies for each, and the bytes of the names.
+#[derive(Clone, Copy)]
+pub struct DrawnAreas<'a> {
+    pub edges: &'a [u64],
+    pub names: &'a [u64],
+    pub store: &'a [u8],
+}
 
 // What is sought: in an axis the name that is a stem followed by the suffix of an edge, from a line on or before it, after so many lines of it.
-#[derive(Clone, Copy)]
+#[derive(Clone, Copy, Debug, PartialEq, Eq)]
 pub struct Sought {
     pub axis: Axis,
     pub from: u32,
-    pub edge: AreaEdge,
+    pub edge: Option<GridAreaEnd>,
     pub over: u32,
     pub way: Way,
+}
+
+impl Sought {
+    // The same name from another line on, or before it, after so many lines of it.
+    fn part(self, from: u32, over: u32) -> Sought
+        ensures { result ≡ part_of self from over }
+    {
+        Sought { from, over, ..self }
+    }
 }
 
 // Up to so many entries, and so many areas, passes over them take less time than marks.
@@ -43,34 +61,18 @@ fn start_of(way: Way, from: u32) -> u32
 {
     match way {
         Way::Up => from,
-        Way::Down => lower(from, LAST_LINE),
+        Way::Down => from.min(LAST_LINE),
     }
 }
 
 // The line that is sought among the lines of the entries and the edges of the drawn areas, as far as line 20,000, or how many lines were still to be passed over.
-pub fn nth_line(
-    sought: Sought,
-    entries: &[u64],
-    store: &[u8],
-    edges: &[u64],
-    areas: &[u64],
-    areastore: &[u8],
-    stem: &[u8],
-) -> Found
-    ensures { seek_of result ≡ line_sought sought (marks_of sought entries.now store.now edges.now areas.now areastore.now stem.now) }
+#[tactic(auto, unfolding(crate::specs::Sought::line_sought))]
+pub fn nth_line(sought: Sought, names: Names, areas: DrawnAreas, stem: &[u8]) -> Result<u32, u32>
+    ensures { seek_of result ≡ line_sought sought (marks_of sought names.entry.entries.now names.entry.store.now areas.entry.edges.now areas.entry.names.now areas.entry.store.now stem.now) }
 {
-    let axis = sought.axis;
-    let edge = sought.edge;
-    let way = sought.way;
-    let held = Sought {
-        axis,
-        edge,
-        way,
-        from: start_of(way, sought.from),
-        over: sought.over,
-    };
-    if (entries.len() <= FEW) & (edges.len() <= FEW) {
-        return nth_by_distance(held, entries, store, edges, areas, areastore, stem);
+    let held = sought.part(start_of(sought.way, sought.from), sought.over);
+    if names.entries.len() <= FEW && areas.edges.len() <= FEW {
+        return nth_by_distance(held, names, areas, stem);
     }
-    nth_by_marks(held, entries, store, edges, areas, areastore, stem)
+    nth_by_marks(held, names, areas, stem)
 }

@@ -2,11 +2,11 @@
 ghost use Rattle.std.specs.Prelude.{◌≤◌, ◌≡◌};
 ghost use Rattle.name_search.specs.Scans.{lines_left, lines_sought, next_window};
 
-use crate::distance::{LAST_LINE, lower};
+use crate::distance::LAST_LINE;
 use name_lines::Way;
 
 // The lines from `low` on before `end`.
-#[derive(Clone, Copy)]
+#[derive(Clone, Copy, Debug, PartialEq, Eq)]
 pub(crate) struct Window {
     pub low: u32,
     pub end: u32,
@@ -22,11 +22,11 @@ pub(crate) fn lines_sought(way: Way, from: u32, highest: u32) -> Window
     match way {
         Way::Up => Window {
             low: from,
-            end: lower(highest, LAST_LINE),
+            end: highest.min(LAST_LINE),
         },
         Way::Down => Window {
             low: 0,
-            end: lower(from, highest),
+            end: from.min(highest),
         },
     }
 }

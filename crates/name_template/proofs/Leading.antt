@@ -1,27 +1,24 @@
--- Steps of `leading`, as a loop takes them.
-use mathlib.Core.Path.{◌≡◌}
+-- How many of the first records stand at a place.
+use mathlib.Core.Path.{◌≡◌, refl}
 use mathlib.Core.Bool.{Bool, true, false, cond}
 use mathlib.Core.List.{List, [], ◌∷◌}
-use Prim.Native.Nat.{ℕ, suc, ◌+◌, ◌≤◌, ◌<◌}
-use native.Mathlib.Numerals.{add-one}
+use Prim.Native.Nat.{ℕ, suc, ◌+◌, ◌-◌, ◌≤◌}
 use native.Mathlib.Omega.{arith}
-use lib.ListN.{length, get_or, drop, drop_of_length-le}
-use lib.Seq.{drop-cons}
+use lib.ListN.{length, take, drop, length-drop}
+use lib.Seq.{take_all}
+use Rattle.std.specs.List.{prefix_len}
 use Rattle.name_template.specs.Records.{stands, leading}
 
-module _ (inside : Bool) (k : ℕ) (names : List ℕ) (i : ℕ) where
-  pub leading-stop : i < length names → stands inside k (get_or names i 0) ≡ false → leading inside k (drop i names) ≡ 0
-  unfolding leading
-  leading-stop h e = rw (drop-cons names i 0 h, e)
+pub leading_prefix : (inside : Bool) (k : ℕ) (names : List ℕ) → leading inside k names ≡ prefix_len (stands inside k) names
+unfolding leading
+leading_prefix inside k [] = refl
+leading_prefix inside k (w ∷ l) =
+    let e : suc (prefix_len (stands inside k) l) ≡ 1 + prefix_len (stands inside k) l = omega arith in
+    rw (leading_prefix inside k l, e)
 
-  pub leading-next : i < length names → stands inside k (get_or names i 0) ≡ true
-      → leading inside k (drop i names) ≡ leading inside k (drop (i + 1) names) + 1
-  unfolding leading
-  leading-next h e = rw (drop-cons names i 0 h, e, add-one i, add-one)
-
-  pub leading_end : length names ≤ i → leading inside k (drop i names) ≡ 0
-  unfolding leading
-  leading_end h = rw (drop_of_length-le names h)
+-- what `&words[at..]` is
+pub rest_all : (names : List ℕ) (at : ℕ) → take (length names - at) (drop at names) ≡ drop at names
+rest_all names at = take_all (length names - at) (drop at names) (rw length-drop (omega arith))
 
 -- no more stand there than there are
 pub leading_le : (inside : Bool) (k : ℕ) (names : List ℕ) → leading inside k names ≤ length names

@@ -1,13 +1,14 @@
 -- The template's names written out (document 01, layer 4; named.rs, `NamedLineResolver::new`). Each entry shares the bytes of its record.
-use Rattle.std.specs.Prelude.{ℕ, zero, suc, ◌+◌, ◌-◌, true, false, cond, List, [], ◌∷◌, ◌++◌, map, ltb, length}
+use Rattle.std.specs.Prelude.{ℕ, zero, suc, ◌+◌, ◌-◌, true, false, cond, List, [], ◌∷◌, ◌++◌, map, ltb, length, Result, Ok, Err}
 use Rattle.std.proofs.lemmas.List.Edits.{sets}
-use Rattle.coordinates.specs.Refusals.{no_refusal, refusal_of}
+use Rattle.coordinates.specs.Refusals.{no_refusal, refusal_of, number_of}
+use Rattle.coordinates.specs.declared.refusal.Refusal.{Refusal}
+use Rattle.coordinates.specs.declared.refusal.Fault.{Fault}
 use Rattle.template_rules.specs.Template.{component_of}
 use Rattle.template_rules.specs.declared.RepetitionCount.{RepetitionCount}
 use Rattle.template_rules.specs.declared.RepetitionCount.TheVariants.{Single, Count, AutoFill, AutoFit}
 use Rattle.name_entries.specs.Entries.{word_of}
 use Rattle.name_entries.specs.declared.NameEntry.{NameEntry}
-use Rattle.name_template.specs.declared.WrittenNames.{WrittenNames}
 use Rattle.name_template.specs.Records.{record_of, names_at, names_after}
 
 -- a record's entry where its component, or the repetition, begins on that line
@@ -58,6 +59,16 @@ written_entries names components repetitions = written_from repetitions 0 1 name
 -- the word of an entry
 abbrev pub entry_word : NameEntry → ℕ
 entry_word e = word_of e.line e.offset e.length
+
+-- how many entries were written, or a refusal and 0
+pub record WrittenNames : Type 0 where
+  pub refusal : Refusal
+  pub count : ℕ
+
+-- the numbers and values of what the writing out answers
+abbrev pub answered_names : Result ℕ Fault → WrittenNames
+answered_names (Ok n) = record { refusal = no_refusal; count = n }
+answered_names (Err fault) = record { refusal = refusal_of (number_of fault); count = 0 }
 
 -- an answer, and what the lent table holds then
 pub record TableAfter : Type 0 where

@@ -12,14 +12,10 @@ pub(crate) fn end_of_names(names: &[u64], at: usize, component: u64, inside: boo
     requires { at ≤ length names.now }
     ensures { result ≡ at + leading inside component (drop at names.now) }
 {
-    let mut i = at;
-    while i < names.len() {
-        if !stands_there(names[i], component, inside) {
-            return i;
-        }
-        i += 1;
-    }
-    i
+    let standing = names[at..]
+        .iter()
+        .take_while(|word| stands_there(**word, component, inside));
+    at + standing.count()
 }
 
 // The names of a component that begins on a line, from a place of the records on.

@@ -3,33 +3,30 @@ ghost use Rattle.std.specs.Prelude.{◌≡◌, ◌+◌, ◌*◌, ◌≤◌, min,
 ghost use Rattle.name_template.specs.Writing.{written_entries};
 
 use crate::component::{component_names, end_of_names};
-use crate::repeat::lesser;
 
 // A count and so many names more, so many times, held at 4,097.
 fn held_sum(count: u64, names: u64, times: u64) -> u64
     requires { count ≤ 4097 }
     ensures { result ≡ min 4097 (count + times * names) }
 {
-    lesser(4097, count + lesser(times, 4097) * lesser(names, 4097))
+    (count + times.min(4097) * names.min(4097)).min(4097)
 }
 
 // The number of entries that the records give, held at 4,097. No record names a component from 256 on.
 pub fn count_written_names(names: &[u64], components: &[u64], repetitions: u32) -> u32
     ensures { result ≡ min 4097 (length (written_entries names.now components.now repetitions)) }
 {
-    let last = lesser(256, components.len() as u64) as usize;
+    let last = components.len().min(256);
     let mut count: u64 = 0;
     let mut at: usize = 0;
     let mut line: u64 = 1;
-    let mut k: usize = 0;
-    while k < last {
+    for k in 0..last {
         let c = component_names(names, at, components[k], k as u64, line, repetitions as u64);
         let outside = held_sum(count, (c.before - at) as u64, 1);
         count = held_sum(outside, (c.inside - c.before) as u64, c.times);
         at = c.inside;
         line = c.line;
-        k += 1;
     }
-    let end = end_of_names(names, at, k as u64, false);
+    let end = end_of_names(names, at, last as u64, false);
     held_sum(count, (end - at) as u64, 1) as u32
 }

@@ -8,11 +8,9 @@ pub mod record;
 mod repeat;
 pub mod write_out;
 
-use coordinates::Refusal;
-
 // A name record of a sheet: the component that it stands before (place 0), or in, after `place - 1` of its tracks,
 // and where the bytes of its name lie in the store.
-#[derive(Clone, Copy)]
+#[derive(Clone, Copy, Debug, PartialEq, Eq)]
 pub struct NameRecord {
     pub component: u64,
     pub place: u64,
@@ -22,18 +20,11 @@ pub struct NameRecord {
 
 // The names of a component: the records up to `before` stand before it, those from there to `inside` in it; these are written
 // `times` times, `tracks` lines apart. The next component begins on `line`.
-#[derive(Clone, Copy)]
+#[derive(Clone, Copy, Debug, PartialEq, Eq)]
 pub struct ComponentNames {
     pub before: usize,
     pub inside: usize,
     pub times: u64,
     pub tracks: u64,
     pub line: u64,
-}
-
-// The answer of the writing out: its refusal, and how many entries were written.
-#[derive(Clone, Copy)]
-pub struct WrittenNames {
-    pub refusal: Refusal,
-    pub count: u32,
 }

@@ -1,19 +1,9 @@
 // How often the names inside a component are written, and the line after it.
-ghost use Rattle.std.specs.Prelude.{◌≡◌, ◌≤◌, min};
+ghost use Rattle.std.specs.Prelude.{◌≡◌, ◌≤◌};
 ghost use Rattle.name_template.specs.Writing.{times_of, line_after};
 ghost use Rattle.name_template.specs.Steps.{repetitions_written};
 
 use template_rules::RepetitionCount;
-
-// The lesser of two numbers.
-pub fn lesser(a: u64, b: u64) -> u64
-    ensures { result ≡ min a b }
-{
-    if a < b {
-        return a;
-    }
-    b
-}
 
 // A repeat's count, or the repetitions found for an automatic one. A single repeats nothing.
 pub fn times_of(count: RepetitionCount, repetitions: u64) -> u64
@@ -22,8 +12,7 @@ pub fn times_of(count: RepetitionCount, repetitions: u64) -> u64
     match count {
         RepetitionCount::Single => 0,
         RepetitionCount::Count(n) => n,
-        RepetitionCount::AutoFill => repetitions,
-        RepetitionCount::AutoFit => repetitions,
+        RepetitionCount::AutoFill | RepetitionCount::AutoFit => repetitions,
     }
 }
 
@@ -40,11 +29,7 @@ pub fn repetitions_written(times: u64, line: u64, tracks: u64) -> u64
     if tracks == 0 {
         return times;
     }
-    let most = (10000 - line) / tracks + 1;
-    if times < most {
-        return times;
-    }
-    most
+    times.min((10000 - line) / tracks + 1)
 }
 
 // The line after a component. Tracks and lines are small, as words hold them.

@@ -8,7 +8,7 @@ use Rattle.coordinates.specs.declared.axis.Axis.{Axis}
 use Rattle.panel_tables.specs.declared.Grid.{Grid}
 use Rattle.coordinates.specs.Axes.{axis_of}
 use Rattle.library_numbers.specs.declared.CountAnswer.{CountAnswer}
-use Rattle.panel_hits.specs.declared.HitsAnswer.{HitsAnswer}
+use Rattle.panel_hits.specs.Lists.{HitsAnswer}
 use Rattle.panel_hits.specs.Settled.{Lent}
 use Rattle.panel_hits.specs.Lists.{WrittenHits, placements_within, placements_around}
 use Rattle.palgwern.specs.Hits.{listed_hits, hits_within, hits_around}

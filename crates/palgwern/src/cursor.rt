@@ -2,13 +2,13 @@
 ghost use Rattle.std.specs.Prelude.{◌≡◌};
 ghost use Rattle.palgwern.specs.Cursor.{nearest_line_of};
 
-use crate::ROWS;
-use coordinates::axis::axis_of;
-use panel_positions::LineAnswer;
+use crate::axis_in;
+use panel_positions::{LineAnswer, nearest_line, positions_on_no_axis};
 use panel_tables::Grid;
 use panel_tables::region::PANEL_WORDS;
 
 // The line of an axis nearest to a cursor, by the bits of its position in pixels.
+#[tactic(auto, unfolding(crate::specs::Cursor::nearest_line_of))]
 #[unsafe(no_mangle)]
 pub extern "C" fn palgwern_nearest_line(
     grid: Grid,
@@ -19,11 +19,8 @@ pub extern "C" fn palgwern_nearest_line(
 ) -> LineAnswer
     ensures { result ≡ nearest_line_of grid words.now axis items.now cursor }
 {
-    if ROWS < axis {
-        return LineAnswer {
-            number: panel_positions::positions_on_no_axis(cursor, cursor),
-            line: 0,
-        };
-    }
-    panel_positions::nearest_line(grid, words, axis_of(axis), items, cursor)
+    let Ok(axis) = axis_in(axis) else {
+        return LineAnswer::from(Err(positions_on_no_axis(cursor, cursor)));
+    };
+    LineAnswer::from(nearest_line(grid, words, axis, items, cursor))
 }

@@ -1,29 +1,30 @@
 // The two lists of placements under the cursor.
 ghost use Rattle.std.specs.Prelude.{◌≡◌};
 ghost use Rattle.panel_hits.specs.Settled.{lent_in};
+ghost use Rattle.panel_hits.specs.Lists.{answered_hits};
 ghost use Rattle.palgwern.specs.Hits.{ListedHits, hits_within, hits_around};
 
-use crate::ROWS;
-use coordinates::axis::axis_of;
-use coordinates::refusal::COUNT;
-use library_numbers::{CountAnswer, numbers};
-use panel_hits::{Around, HitsAnswer, Span};
+use crate::axis_in;
+use coordinates::Fault;
+use library_numbers::CountAnswer;
+use panel_hits::{Around, Span};
 use panel_positions::positions_on_no_axis;
 use panel_tables::Grid;
 use panel_tables::region::{PANEL_BYTES, PANEL_WORDS};
 use placement_hits::list::MOST_HITS;
 
 // The count of a list, or its refusal.
-fn hits_count(answer: HitsAnswer) -> CountAnswer
-    ensures { result ≡ record { number = answer.number; count = answer.count } }
+fn hits_count(found: Result<u32, Fault>) -> CountAnswer
+    ensures { result ≡ record { number = (answered_hits found).number; count = (answered_hits found).count } }
 {
-    CountAnswer {
-        number: answer.number,
-        count: answer.count as u64,
+    match found {
+        Ok(count) => CountAnswer::from(Ok(u64::from(count))),
+        Err(fault) => CountAnswer::from(Err(fault)),
     }
 }
 
 // The placements of an axis with both lines within a span of pixels, ends included, by their indexes.
+#[tactic(auto, unfolding(crate::specs::Hits::hits_within))]
 #[unsafe(no_mangle)]
 pub extern "C" fn palgwern_placements_within(
     grid: Grid,
@@ -39,14 +40,10 @@ pub extern "C" fn palgwern_placements_within(
 ) -> CountAnswer
     ensures { record { answer = result; hits = hits.new } ≡ hits_within grid words.now (lent_in words.now bytes.now columnstore.now rowstore.now) axis items.now low high hits.old }
 {
-    if ROWS < axis {
-        return numbers::uncounted(positions_on_no_axis(low, high));
-    }
-    let span = Span {
-        axis: axis_of(axis),
-        low,
-        high,
+    let Ok(axis) = axis_in(axis) else {
+        return CountAnswer::from(Err(positions_on_no_axis(low, high)));
     };
+    let span = Span { axis, low, high };
     hits_count(panel_hits::placements_within(
         grid,
         words,
@@ -60,6 +57,7 @@ pub extern "C" fn palgwern_placements_within(
 }
 
 // The placements of an axis with a grid line strictly between their own, by their indexes.
+#[tactic(auto, unfolding(crate::specs::Hits::hits_around))]
 #[unsafe(no_mangle)]
 pub extern "C" fn palgwern_placements_around(
     grid: Grid,
@@ -74,13 +72,10 @@ pub extern "C" fn palgwern_placements_around(
 ) -> CountAnswer
     ensures { record { answer = result; hits = hits.new } ≡ hits_around grid words.now (lent_in words.now bytes.now columnstore.now rowstore.now) axis items.now line hits.old }
 {
-    if ROWS < axis {
-        return numbers::uncounted(COUNT);
-    }
-    let around = Around {
-        axis: axis_of(axis),
-        line,
+    let Ok(axis) = axis_in(axis) else {
+        return CountAnswer::from(Err(Fault::Count));
     };
+    let around = Around { axis, line };
     hits_count(panel_hits::placements_around(
         grid,
         words,

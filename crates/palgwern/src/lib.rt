@@ -4,12 +4,15 @@
 
 mod sheets;
 
-ghost use Rattle.std.specs.Prelude.{◌≡◌};
+ghost use Rattle.std.specs.Prelude.{◌≡◌, ◌≤◌, ◌<◌, MatchResult};
+ghost use Rattle.coordinates.specs.Axes.{axis_of};
+ghost use Rattle.coordinates.specs.Refusals.{number_of};
+ghost use Rattle.coordinates.specs.declared.refusal.Fault.TheVariants.{Count};
 ghost use Rattle.panel_tables.specs.Regions.{area_words_in, placement_words_in};
 ghost use Rattle.panel_rules.specs.Calls.{name_tables_in, area_table_in, placement_table_in};
 ghost use Rattle.panel_rules.specs.Placing.{resolve_placement};
 ghost use Rattle.library_numbers.specs.Answers.{PanelEntered, name_entered, size_of, line_count_of, record_count_of, placement_numbers};
-ghost use Rattle.palgwern.specs.Names.{ShowsName};
+ghost use Rattle.palgwern.specs.Names.{refused_name, ShowsName};
 ghost use Rattle.library_numbers.specs.Records.{WrittenRun, records_written};
 ghost use Rattle.library_names.specs.Lists.{lists_written};
 ghost use Rattle.panel_resolving.specs.Placements.{WrittenNumbers, placements_written};
@@ -19,22 +22,49 @@ mod hits;
 pub mod resize;
 
 use axis_tables::layout::AXIS_BYTES;
-use coordinates::axis::axis_of;
-use coordinates::refusal::{COUNT, SHORT};
-use library_names::LINE_NAME_RUN;
+use coordinates::refusal::COUNT;
+use coordinates::{Axis, Fault};
+use library_names::{LINE_NAME_RUN, write_lists};
 use library_numbers::axis::entry_in_no_axis;
 use library_numbers::{
     CountAnswer, NameAnswer, PanelAnswer, PlacementNumbers, SizeAnswer, numbers, part,
 };
-use panel_names::store::smaller;
-use panel_resolving::run::PLACEMENT_RUN;
+use library_records::write_run;
+use panel_calls::size::{explicit_size, line_count};
+use panel_calls::track::record_count;
+use panel_names::entering::enter_name;
+use panel_names::naming::line_entry;
+use panel_resolving::placing::resolve_placement;
+use panel_resolving::run::{PLACEMENT_RUN, write_placements};
 use panel_tables::region::{PANEL_BYTES, PANEL_WORDS};
 use panel_tables::{Grid, Panel};
 
 // The number of the rows, the last of an axis.
 const ROWS: u32 = 1;
 
+// The axis of a number. 4: there is none.
+pub(crate) fn axis_in(number: u32) -> Result<Axis, Fault>
+    ensures { MatchResult result (λ axis. (number ≤ 1) × (axis ≡ axis_of number)) (λ fault. (1 < number) × (fault ≡ Count)) }
+{
+    if ROWS < number {
+        return Err(Fault::Count);
+    }
+    Ok(Axis::from(number))
+}
+
+// A panel as it came, with the number of a fault.
+fn refused_entry(panel: Panel, fault: Fault) -> PanelAnswer
+    ensures { result ≡ record { number = number_of fault; line = 0; panel = panel } }
+{
+    PanelAnswer {
+        number: u32::from(fault),
+        line: 0,
+        panel,
+    }
+}
+
 // A panel with one more line and name entered in an axis.
+#[tactic(auto, unfolding(library_numbers::specs::Answers::name_entered))]
 #[unsafe(no_mangle)]
 pub extern "C" fn palgwern_enter_name(
     panel: Panel,
@@ -48,45 +78,33 @@ pub extern "C" fn palgwern_enter_name(
     ensures rowstore_after { record { answer = result; tables = name_tables_in words.new columnstore.new rowstore.new } ≡ name_entered panel (name_tables_in words.old columnstore.old rowstore.old) axis line name.now }
     ensures others { (area_words_in words.new ≡ area_words_in words.old) × (placement_words_in words.new ≡ placement_words_in words.old) }
 {
-    if ROWS < axis {
-        let number = entry_in_no_axis(name);
-        return PanelAnswer {
-            number,
+    let Ok(axis) = axis_in(axis) else {
+        return refused_entry(panel, entry_in_no_axis(name));
+    };
+    match enter_name(panel, words, columnstore, rowstore, axis, line, name) {
+        Ok(entered) => PanelAnswer {
+            number: 0,
             line: 0,
-            panel,
-        };
-    }
-    let entered = panel_names::entering::enter_name(
-        panel,
-        words,
-        columnstore,
-        rowstore,
-        axis_of(axis),
-        line,
-        name,
-    );
-    let refusal = entered.refusal;
-    let after = entered.panel;
-    PanelAnswer {
-        number: refusal.number,
-        line: refusal.line,
-        panel: after,
+            panel: entered,
+        },
+        Err(fault) => refused_entry(panel, fault),
     }
 }
 
 // The explicit size of an axis.
+#[tactic(auto, unfolding(library_numbers::specs::Answers::size_of))]
 #[unsafe(no_mangle)]
 pub extern "C" fn palgwern_explicit_size(grid: Grid, axis: u32) -> SizeAnswer
     ensures { result ≡ size_of grid axis }
 {
-    if ROWS < axis {
+    let Ok(axis) = axis_in(axis) else {
         return SizeAnswer {
             number: COUNT,
             repetitions: 0,
             explicit: 0,
         };
-    }
-    let size = panel_calls::size::explicit_size(grid, axis_of(axis));
+    };
+    let size = explicit_size(grid, axis);
     SizeAnswer {
         number: 0,
         repetitions: size.repetitions,
@@ -95,25 +113,27 @@ pub extern "C" fn palgwern_explicit_size(grid: Grid, axis: u32) -> SizeAnswer
 }
 
 // How many lists of line names an axis has.
+#[tactic(auto, unfolding(library_numbers::specs::Answers::line_count_of))]
 #[unsafe(no_mangle)]
 pub extern "C" fn palgwern_line_count(grid: Grid, axis: u32) -> CountAnswer
     ensures { result ≡ line_count_of grid axis }
 {
-    if ROWS < axis {
-        return numbers::uncounted(COUNT);
-    }
-    numbers::counted(panel_calls::size::line_count(grid, axis_of(axis)))
+    let Ok(axis) = axis_in(axis) else {
+        return CountAnswer::from(Err(Fault::Count));
+    };
+    CountAnswer::from(Ok(line_count(grid, axis)))
 }
 
 // How many records an axis has.
+#[tactic(auto, unfolding(library_numbers::specs::Answers::record_count_of))]
 #[unsafe(no_mangle)]
 pub extern "C" fn palgwern_record_count(grid: Grid, axis: u32) -> CountAnswer
     ensures { result ≡ record_count_of grid axis }
 {
-    if ROWS < axis {
-        return numbers::uncounted(COUNT);
-    }
-    numbers::counted(panel_calls::track::record_count(grid, axis_of(axis)) as u64)
+    let Ok(axis) = axis_in(axis) else {
+        return CountAnswer::from(Err(Fault::Count));
+    };
+    CountAnswer::from(Ok(u64::from(record_count(grid, axis))))
 }
 
 // Placement `index` with its names resolved.
@@ -128,15 +148,8 @@ pub extern "C" fn palgwern_resolve_placement(
 ) -> PlacementNumbers
     ensures { result ≡ placement_numbers (resolve_placement grid (name_tables_in words.now columnstore.now rowstore.now) (area_table_in words.now bytes.now) (placement_table_in words.now bytes.now) index) }
 {
-    let answer = panel_resolving::placing::resolve_placement(
-        grid,
-        words,
-        bytes,
-        columnstore,
-        rowstore,
-        index,
-    );
-    numbers::placement_numbers(answer)
+    let placed = resolve_placement(grid, words, bytes, columnstore, rowstore, index);
+    numbers::placement_numbers(placed)
 }
 
 // Placements from `first` on with their names resolved, as many as there are and fit: eight numbers each, those of PlacementNumbers.
@@ -152,15 +165,18 @@ pub extern "C" fn palgwern_resolve_placements(
 ) -> CountAnswer
     ensures { record { answer = result; numbers = numbers.new } ≡ placements_written grid (name_tables_in words.now columnstore.now rowstore.now) (area_table_in words.now bytes.now) (placement_table_in words.now bytes.now) first numbers.old }
 {
-    panel_resolving::run::write_placements(
-        grid,
-        words,
-        bytes,
-        columnstore,
-        rowstore,
-        first,
-        numbers,
-    )
+    CountAnswer::from(write_placements(grid, words, bytes, columnstore, rowstore, first, numbers))
+}
+
+// The number of a fault in place of a name.
+fn refused_name(fault: Fault) -> NameAnswer
+    ensures { result ≡ refused_name (number_of fault) }
+{
+    NameAnswer {
+        number: u32::from(fault),
+        offset: 0,
+        length: 0,
+    }
 }
 
 // Where a name of a line of an axis lies in the axis's store, by its place from 0.
@@ -176,35 +192,20 @@ pub extern "C" fn palgwern_line_name(
 ) -> NameAnswer
     ensures { ShowsName grid (name_tables_in words.now columnstore.now rowstore.now) axis line place result }
 {
-    if ROWS < axis {
-        return NameAnswer {
-            number: COUNT,
-            offset: 0,
-            length: 0,
-        };
+    let Ok(axis) = axis_in(axis) else {
+        return refused_name(Fault::Count);
+    };
+    if columnstore.len().min(rowstore.len()) < AXIS_BYTES {
+        return refused_name(Fault::Short);
     }
-    if smaller(columnstore.len(), rowstore.len()) < AXIS_BYTES {
-        return NameAnswer {
-            number: SHORT,
-            offset: 0,
-            length: 0,
-        };
-    }
-    let entry = panel_names::naming::line_entry(
-        grid,
-        words,
-        columnstore,
-        rowstore,
-        axis_of(axis),
-        line,
-        place,
-    );
-    let bytes = part::store_length(axis_of(axis), columnstore.len(), rowstore.len());
+    let entry = line_entry(grid, words, columnstore, rowstore, axis, line, place);
+    let bytes = part::store_length(axis, columnstore.len(), rowstore.len());
     part::name_part(bytes, entry)
 }
 
 // All line names of an axis, one list for each explicit line after the other: a word for each name, its line, its offset in the
 // axis's store times 2^16 and its length times 2^32.
+#[tactic(auto, unfolding(library_names::specs::Lists::lists_written))]
 #[unsafe(no_mangle)]
 pub extern "C" fn palgwern_line_names(
     grid: Grid,
@@ -216,13 +217,14 @@ pub extern "C" fn palgwern_line_names(
 ) -> CountAnswer
     ensures { record { answer = result; words = names.new } ≡ lists_written grid (name_tables_in words.now columnstore.now rowstore.now) axis names.old }
 {
-    if ROWS < axis {
-        return numbers::uncounted(COUNT);
-    }
-    library_names::write_lists(grid, words, columnstore, rowstore, axis_of(axis), names)
+    let Ok(axis) = axis_in(axis) else {
+        return CountAnswer::from(Err(Fault::Count));
+    };
+    CountAnswer::from(write_lists(grid, words, columnstore, rowstore, axis, names))
 }
 
 // Records of an axis from `first` on, as many as there are and fit: three words each, kind, minimum and maximum.
+#[tactic(auto, unfolding(library_numbers::specs::Records::records_written))]
 #[unsafe(no_mangle)]
 pub extern "C" fn palgwern_records(
     grid: Grid,
@@ -234,8 +236,8 @@ pub extern "C" fn palgwern_records(
 ) -> CountAnswer
     ensures { record { answer = result; words = records.new } ≡ records_written grid words.now axis items.now first records.old }
 {
-    if ROWS < axis {
-        return numbers::uncounted(COUNT);
-    }
-    library_records::write_run(grid, words, axis_of(axis), items, first, records)
+    let Ok(axis) = axis_in(axis) else {
+        return CountAnswer::from(Err(Fault::Count));
+    };
+    CountAnswer::from(write_run(grid, words, axis, items, first, records))
 }

@@ -2,14 +2,14 @@
 ghost use Rattle.std.specs.Prelude.{◌≡◌};
 ghost use Rattle.palgwern.specs.Resize.{least_resize_of};
 
-use crate::ROWS;
-use coordinates::axis::axis_of;
-use coordinates::refusal::COUNT;
+use crate::axis_in;
+use coordinates::Fault;
 use least_resize::ResizeAnswer;
 use panel_tables::Grid;
 use panel_tables::region::PANEL_WORDS;
 
 // The nearest whole size at which the automatic repeat of an axis is written out another number of times.
+#[tactic(auto, unfolding(crate::specs::Resize::least_resize_of))]
 #[unsafe(no_mangle)]
 pub extern "C" fn palgwern_least_resize(
     grid: Grid,
@@ -18,12 +18,8 @@ pub extern "C" fn palgwern_least_resize(
 ) -> ResizeAnswer
     ensures { result ≡ least_resize_of grid words.now axis }
 {
-    if ROWS < axis {
-        return ResizeAnswer {
-            number: COUNT,
-            found: 0,
-            size: 0,
-        };
-    }
-    panel_resize::least_resize(grid, words, axis_of(axis))
+    let Ok(axis) = axis_in(axis) else {
+        return ResizeAnswer::from(Err(Fault::Count));
+    };
+    ResizeAnswer::from(panel_resize::least_resize(grid, words, axis))
 }

@@ -8,6 +8,7 @@ use library_numbers::{DisplayAnswer, SheetAnswer};
 use panel_tables::region::{PANEL_BYTES, PANEL_WORDS};
 
 // The panel that a sheet describes, in the answer and everything lent.
+#[tactic(auto, unfolding(library_numbers::specs::Answers::sheet_numbers))]
 #[unsafe(no_mangle)]
 pub extern "C" fn palgwern_read_sheet(
     sheet: &[u8],
@@ -18,19 +19,11 @@ pub extern "C" fn palgwern_read_sheet(
 ) -> SheetAnswer
     ensures { record { answer = result; tables = tables_in words.new bytes.new columnstore.new rowstore.new } ≡ sheet_numbers (read_sheet sheet.now (tables_in words.old bytes.old columnstore.old rowstore.old)) }
 {
-    let read = sheet::read_sheet(sheet, words, bytes, columnstore, rowstore);
-    let refusal = read.refusal;
-    let panel = read.panel;
-    SheetAnswer {
-        number: refusal.number,
-        line: refusal.line,
-        earlier: read.earlier,
-        later: read.later,
-        panel,
-    }
+    SheetAnswer::from(sheet::read_sheet(sheet, words, bytes, columnstore, rowstore))
 }
 
 // A sheet for display: what answers are read from, in the answer and everything lent, and nothing to edit.
+#[tactic(auto, unfolding(library_numbers::specs::Answers::display_numbers))]
 #[unsafe(no_mangle)]
 pub extern "C" fn palgwern_display_sheet(
     sheet: &[u8],
@@ -41,14 +34,5 @@ pub extern "C" fn palgwern_display_sheet(
 ) -> DisplayAnswer
     ensures { record { answer = result; tables = tables_in words.new bytes.new columnstore.new rowstore.new } ≡ display_numbers (read_display sheet.now (tables_in words.old bytes.old columnstore.old rowstore.old)) }
 {
-    let read = sheet::display_sheet(sheet, words, bytes, columnstore, rowstore);
-    let refusal = read.refusal;
-    let grid = read.grid;
-    DisplayAnswer {
-        number: refusal.number,
-        line: refusal.line,
-        earlier: read.earlier,
-        later: read.later,
-        grid,
-    }
+    DisplayAnswer::from(sheet::display_sheet(sheet, words, bytes, columnstore, rowstore))
 }

@@ -111,6 +111,10 @@ module _ (out₀ : List ℕ) (h : GridHeld) (at : AnswerLine) where
   pub same-room : (next : AnswerLine) (out : List ℕ) (count : ℕ) → WritesUpTo out₀ h at next out count → (length out ≡ length out₀) × (count ≤ length out₀)
   same-room next out count w = (ap length w.bytes ∙ length-sets out₀ 0 w.part, omega (arith, w.counted, w.fits))
 
+  -- so all three are kept together
+  pub in_room : (next : AnswerLine) (out : List ℕ) (count : ℕ) → WritesUpTo out₀ h at next out count → (length out ≡ length out₀) × (count ≤ length out₀) × WritesUpTo out₀ h at next out count
+  in_room next out count w = let r = same-room next out count w in (r.0, r.1, w)
+
 -- each part leaves less to write
 pub shorter : {before after : List ℕ} {h : GridHeld} {at : AnswerLine} {filled : Filled} → FillsText before h at after filled → is_end at ≡ false → 128 ≤ length before
     → length (text_from h filled.next) < length (text_from h at)

@@ -8,7 +8,7 @@ use Rattle.panel_tables.specs.declared.Grid.{Grid}
 use Rattle.panel_tables.specs.Axes.{grid_in}
 use Rattle.sheet_rules.specs.Panels.{Tables}
 use Rattle.sheet_rules.specs.Read.{SheetRead, read_sheet}
-use Rattle.panel_rules.specs.declared.PlacementAnswer.{PlacementAnswer}
+use Rattle.panel_rules.specs.Placing.{PlacementAnswer}
 use Rattle.panel_rules.specs.Calls.{words_in, template_in, spares_in, axis_tracks, explicit_size}
 use Rattle.panel_rules.specs.Placing.{resolve_placement}
 use Rattle.panel_rules.specs.Runs.{names_of, areas_of, placements_of, marks_of}

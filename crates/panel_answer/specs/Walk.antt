@@ -7,7 +7,7 @@ use Rattle.name_entries.specs.LineNames.{of_axis}
 use Rattle.track_rules.specs.declared.TrackWalk.{TrackWalk}
 use Rattle.panel_tables.specs.declared.Grid.{Grid}
 use Rattle.panel_tables.specs.Axes.{grid_in}
-use Rattle.sheet_rules.specs.declared.SheetAnswer.{SheetAnswer}
+use Rattle.sheet_rules.specs.Answers.{SheetAnswer}
 use Rattle.panel_rules.specs.Calls.{words_in, axis_tracks}
 use Rattle.panel_rules.specs.Runs.{names_of, marks_of}
 use Rattle.panel_calls.specs.Carried.{carried_to, carried_record, carried_on}

@@ -75,8 +75,8 @@ pub(crate) fn next_record(
 ) -> AnswerLine
     ensures { result ≡ record_from grid (axis_words_in axis words.now) axis index state }
 {
-    let count = track::record_count(grid, axis) as u64;
-    if index as u64 + 1 < count {
+    let count = u64::from(track::record_count(grid, axis));
+    if u64::from(index) + 1 < count {
         let next = track::next_record(grid, words, axis, state, index as usize);
         return AnswerLine::Record(axis, index + 1, next);
     }

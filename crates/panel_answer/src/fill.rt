@@ -1,5 +1,6 @@
 // The text of the answer to a sheet: read, then written part after part.
 ghost use Rattle.std.specs.Prelude.{◌≡◌};
+ghost use Rattle.sheet_rules.specs.Answers.{answered_sheet, refused_with};
 ghost use Rattle.sheet_rules.specs.Panels.{tables_in};
 ghost use Rattle.sheet_rules.specs.Read.{read_sheet};
 ghost use Rattle.panel_answer.specs.Answer.{GridHeld, answer_text};
@@ -8,24 +9,48 @@ ghost use Rattle.panel_answer.specs.Walk.{first_line};
 
 use crate::line::{is_end, next_line, put_line};
 use crate::{AnswerLine, Begun, Filled};
-use coordinates::Axis;
-use panel_tables::Grid;
+use coordinates::refusal::OVERLAP;
+use coordinates::{Axis, Refusal};
 use panel_tables::region::{PANEL_BYTES, PANEL_WORDS};
+use panel_tables::state::zero_panel;
+use panel_tables::{Grid, Panel};
 use sheet::read_sheet;
-use sheet_rules::SheetAnswer;
+use sheet_rules::SheetFault;
 
 // The most bytes of a line.
 const LINE_BYTES: usize = 128;
 
-// The first line of the answer to what a sheet was read as.
-fn first_line(read: SheetAnswer) -> AnswerLine
-    ensures { result ≡ first_line read }
+// The refusal that a fault of a sheet is printed as.
+fn refusal_of(fault: SheetFault) -> Refusal
+    ensures { result ≡ (refused_with fault).refusal }
 {
-    let refusal = read.refusal;
-    if refusal.number != 0 {
-        return AnswerLine::Refused(refusal);
+    match fault {
+        SheetFault::Overlap(overlap) => Refusal {
+            number: OVERLAP,
+            line: overlap.line,
+        },
+        SheetFault::Line(found) => Refusal {
+            number: u32::from(found.fault),
+            line: found.line,
+        },
     }
-    AnswerLine::Size(Axis::Column)
+}
+
+// What answers to what a sheet was read as, and the first line.
+fn begun(read: Result<Panel, SheetFault>) -> Begun
+    ensures grid { result.grid ≡ (answered_sheet read).panel.grid }
+    ensures first { result.first ≡ first_line (answered_sheet read) }
+{
+    match read {
+        Ok(panel) => Begun {
+            grid: panel.grid,
+            first: AnswerLine::Size(Axis::Column),
+        },
+        Err(fault) => Begun {
+            grid: zero_panel().grid,
+            first: AnswerLine::Refused(refusal_of(fault)),
+        },
+    }
 }
 
 // Reads a sheet: the text of its answer is that from the first line on.
@@ -39,11 +64,7 @@ pub fn begin_answer(
     ensures first_after { text_from (record { grid = result.grid; tables = tables_in words.new bytes.new columnstore.new rowstore.new }) result.first ≡ answer_text sheet.now (tables_in words.old bytes.old columnstore.old rowstore.old) }
     ensures lent { tables_in words.new bytes.new columnstore.new rowstore.new ≡ (read_sheet sheet.now (tables_in words.old bytes.old columnstore.old rowstore.old)).tables }
 {
-    let read = read_sheet(sheet, words, bytes, columnstore, rowstore);
-    let first = first_line(read);
-    let panel = read.panel;
-    let grid = panel.grid;
-    Begun { grid, first }
+    begun(read_sheet(sheet, words, bytes, columnstore, rowstore))
 }
 
 // Writes the next lines of an answer at the start of lent bytes, as long as any line has room there.

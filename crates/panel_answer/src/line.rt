@@ -15,13 +15,7 @@ use panel_tables::region::{PANEL_BYTES, PANEL_WORDS};
 pub fn is_end(at: AnswerLine) -> bool
     ensures { result ≡ is_end at }
 {
-    match at {
-        AnswerLine::Refused(_) => false,
-        AnswerLine::Size(_) => false,
-        AnswerLine::Record(_, _, _) => false,
-        AnswerLine::Place(_) => false,
-        AnswerLine::End => true,
-    }
+    matches!(at, AnswerLine::End)
 }
 
 // Writes a line at the start of lent bytes and answers its length, 0 at the end.

@@ -7,9 +7,17 @@ ghost use Rattle.panel_answer.specs.Answer.{placed_line};
 ghost use Rattle.panel_answer.specs.Walk.{place_from};
 
 use crate::AnswerLine;
+use coordinates::Axis;
+use name_resolver::{NonNamedGridPlacement, ResolvedLine};
 use panel_resolving::placing::resolve_placement;
 use panel_tables::Grid;
 use panel_tables::region::{PANEL_BYTES, PANEL_WORDS};
+
+// What is printed where no placement is.
+const ZERO_LINE: ResolvedLine = ResolvedLine {
+    start: NonNamedGridPlacement::Auto,
+    end: NonNamedGridPlacement::Auto,
+};
 
 // The line of a placement with its names resolved.
 pub(crate) fn put_place(
@@ -23,10 +31,10 @@ pub(crate) fn put_place(
 ) -> usize
     ensures { WritesLine out.old (placed_line (resolve_placement grid (name_tables_in words.now columnstore.now rowstore.now) (area_table_in words.now bytes.now) (placement_table_in words.now bytes.now) index)) out.new result }
 {
-    let placed = resolve_placement(grid, words, bytes, columnstore, rowstore, index);
-    let axis = placed.axis;
-    let line = placed.line;
-    panel_text::place_line(out, axis, line)
+    match resolve_placement(grid, words, bytes, columnstore, rowstore, index) {
+        Ok(placed) => panel_text::place_line(out, placed.axis, placed.line),
+        Err(_) => panel_text::place_line(out, Axis::Column, ZERO_LINE),
+    }
 }
 
 // Placement `index`, or the end.

@@ -1,3 +1,2 @@
 -- Laws of the calls.
 pub mod Carried
-pub mod Filled

@@ -1,23 +1,23 @@
 // The track records of one axis, from its state and its words.
 ghost use Rattle.std.specs.Prelude.{◌≡◌, min};
+ghost use Rattle.track_rules.specs.Tracks.{answered_record};
 ghost use Rattle.track_rules.specs.Records.{item_at};
 ghost use Rattle.track_rules.specs.Steps.{plan_of};
 ghost use Rattle.panel_rules.specs.Calls.{axis_tracks, template_in, track_record};
 ghost use Rattle.panel_calls.specs.Carried.{carried_to, carried_record, carried_on};
 
-use crate::part::{components_of, maximums_of, minimums_of, spare_maximums_of, spare_minimums_of};
+use crate::part::{spares_on, template_on};
 use axis_tables::AxisGrid;
+use coordinates::Fault;
+use coordinates::line::MOST_TRACKS;
 use track_counts::TrackCounts;
-use track_rules::{AxisTracks, GridTrack, Plan, RecordAnswer, TrackWalk};
+use track_rules::{AxisTracks, GridTrack, Plan, TrackWalk};
 
 // A count of tracks, at most 10,000.
 fn held_count(count: u32) -> u16
     ensures { result ≡ min count 10000 }
 {
-    if count < 10000 {
-        return count as u16;
-    }
-    10000
+    count.min(u32::from(MOST_TRACKS)) as u16
 }
 
 // What the records of an axis ask of its state.
@@ -37,15 +37,18 @@ pub fn axis_tracks(grid: AxisGrid) -> AxisTracks
 }
 
 // Record `index`.
-pub fn record_on(grid: AxisGrid, words: &[u64], items: &[u8], index: u32) -> RecordAnswer
-    ensures { result ≡ track_record grid words.now items.now index }
+#[tactic(auto, unfolding(panel_rules::specs::Calls::track_record))]
+pub fn record_on(
+    grid: AxisGrid,
+    words: &[u64],
+    items: &[u8],
+    index: u32,
+) -> Result<GridTrack, Fault>
+    ensures { answered_record result ≡ track_record grid words.now items.now index }
 {
     track_record::rule::track_record(
-        components_of(grid, words),
-        minimums_of(grid, words),
-        maximums_of(grid, words),
-        spare_minimums_of(grid, words),
-        spare_maximums_of(grid, words),
+        template_on(grid, words),
+        spares_on(grid, words),
         items,
         axis_tracks(grid),
         index,
@@ -56,27 +59,14 @@ pub fn record_on(grid: AxisGrid, words: &[u64], items: &[u8], index: u32) -> Rec
 pub fn plan_on(grid: AxisGrid, words: &[u64], items: &[u8]) -> Plan
     ensures { result ≡ plan_of (axis_tracks grid) (template_in grid words.now) (item_at items.now) }
 {
-    track_record::plan::make_plan(
-        components_of(grid, words),
-        minimums_of(grid, words),
-        maximums_of(grid, words),
-        items,
-        axis_tracks(grid),
-    )
+    track_record::plan::make_plan(template_on(grid, words), items, axis_tracks(grid))
 }
 
 // What is carried to record `index`.
 pub fn begin_on(grid: AxisGrid, words: &[u64], items: &[u8], index: usize) -> TrackWalk
     ensures { result ≡ carried_to grid words.now items.now index }
 {
-    track_run::state::begin_at(
-        components_of(grid, words),
-        minimums_of(grid, words),
-        maximums_of(grid, words),
-        items,
-        axis_tracks(grid),
-        index,
-    )
+    track_run::state::begin_at(template_on(grid, words), items, axis_tracks(grid), index)
 }
 
 // What is carried to record 0.
@@ -97,11 +87,8 @@ pub fn carried_on(
     ensures { result ≡ carried_record grid words.now items.now at index }
 {
     track_run::state::record_at(
-        components_of(grid, words),
-        minimums_of(grid, words),
-        maximums_of(grid, words),
-        spare_minimums_of(grid, words),
-        spare_maximums_of(grid, words),
+        template_on(grid, words),
+        spares_on(grid, words),
         items,
         at,
         index,
@@ -112,5 +99,5 @@ pub fn carried_on(
 pub fn next_on(grid: AxisGrid, words: &[u64], at: TrackWalk, index: usize) -> TrackWalk
     ensures { result ≡ carried_on grid words.now at index }
 {
-    track_run::state::advance(components_of(grid, words), at, index)
+    track_run::state::advance(template_on(grid, words).components, at, index)
 }

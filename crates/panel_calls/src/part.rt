@@ -1,41 +1,37 @@
-// The parts of the words of an axis.
+// The template and the spare sizes of an axis, as parts of its words.
 ghost use Rattle.std.specs.Prelude.{◌≡◌};
+ghost use Rattle.template_rules.specs.Template.{components_of};
+ghost use Rattle.track_rules.specs.Written.{spares_of};
 ghost use Rattle.axis_tables.specs.Runs.{part_of};
+ghost use Rattle.panel_rules.specs.Calls.{template_in, spares_in};
 
 use axis_tables::AxisGrid;
-use axis_tables::layout::{MAXIMUMS, MINIMUMS, SPARE_MAXIMUMS, SPARE_MINIMUMS, words_part};
+use axis_tables::layout::{MAXIMUMS, MINIMUMS, SPARE_MAXIMUMS, SPARE_MINIMUMS, part_from};
+use template_rules::Template;
+use track_rules::SpareSizes;
 
-// The components.
-pub fn components_of(grid: AxisGrid, words: &[u64]) -> &[u64]
-    ensures { result.now ≡ part_of words.now 0 grid.template.components }
+// The template.
+pub fn template_on(grid: AxisGrid, words: &[u64]) -> Template
+    ensures template { components_of result ≡ template_in grid words.now }
+    ensures components { result.components.now ≡ part_of words.now 0 grid.template.components }
+    ensures minimums { result.minimums.now ≡ part_of words.now 64 grid.template.tracks }
+    ensures maximums { result.maximums.now ≡ part_of words.now 2112 grid.template.tracks }
 {
-    words_part(words, 0, grid.template.components)
+    Template {
+        components: part_from(words, 0, grid.template.components),
+        minimums: part_from(words, MINIMUMS, grid.template.tracks),
+        maximums: part_from(words, MAXIMUMS, grid.template.tracks),
+    }
 }
 
-// The minimum sizes of the template's tracks.
-pub fn minimums_of(grid: AxisGrid, words: &[u64]) -> &[u64]
-    ensures { result.now ≡ part_of words.now 64 grid.template.tracks }
+// The spare sizes.
+pub fn spares_on(grid: AxisGrid, words: &[u64]) -> SpareSizes
+    ensures spares { spares_of result.minimums.now result.maximums.now ≡ spares_in grid words.now }
+    ensures minimums { result.minimums.now ≡ part_of words.now 4160 grid.implicit.spares }
+    ensures maximums { result.maximums.now ≡ part_of words.now 4224 grid.implicit.spares }
 {
-    words_part(words, MINIMUMS, grid.template.tracks)
-}
-
-// Their maximum sizes.
-pub fn maximums_of(grid: AxisGrid, words: &[u64]) -> &[u64]
-    ensures { result.now ≡ part_of words.now 2112 grid.template.tracks }
-{
-    words_part(words, MAXIMUMS, grid.template.tracks)
-}
-
-// The minimum spare sizes.
-pub fn spare_minimums_of(grid: AxisGrid, words: &[u64]) -> &[u64]
-    ensures { result.now ≡ part_of words.now 4160 grid.implicit.spares }
-{
-    words_part(words, SPARE_MINIMUMS, grid.implicit.spares)
-}
-
-// The maximum spare sizes.
-pub fn spare_maximums_of(grid: AxisGrid, words: &[u64]) -> &[u64]
-    ensures { result.now ≡ part_of words.now 4224 grid.implicit.spares }
-{
-    words_part(words, SPARE_MAXIMUMS, grid.implicit.spares)
+    SpareSizes {
+        minimums: part_from(words, SPARE_MINIMUMS, grid.implicit.spares),
+        maximums: part_from(words, SPARE_MAXIMUMS, grid.implicit.spares),
+    }
 }

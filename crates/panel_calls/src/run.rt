@@ -2,17 +2,16 @@
 ghost use Rattle.std.specs.Prelude.{◌≡◌, length};
 ghost use Rattle.panel_tables.specs.Axes.{grid_in};
 ghost use Rattle.panel_tables.specs.Regions.{axis_words_in};
-ghost use Rattle.track_run.specs.Run.{fill_answer_of, run_after};
+ghost use Rattle.track_run.specs.Run.{answered_fill, fill_answer_of, run_after};
 ghost use Rattle.panel_rules.specs.Calls.{axis_tracks, template_in, spares_in};
 
 use crate::axis_track::axis_tracks;
-use crate::part::{components_of, maximums_of, minimums_of, spare_maximums_of, spare_minimums_of};
-use coordinates::Axis;
+use crate::part::{spares_on, template_on};
+use coordinates::{Axis, Fault};
 use panel_tables::Grid;
 use panel_tables::axis::grid_in;
 use panel_tables::region::{PANEL_WORDS, axis_words};
 use track_rules::GridTrack;
-use track_run::FillAnswer;
 
 // Writes the records of an axis into a lent run, 2N + 1 of them. Refuses fewer records, and fewer than N item bytes, by 10, and
 // writes nothing then.
@@ -22,26 +21,17 @@ pub fn initialize_grid_tracks(
     axis: Axis,
     items: &[u8],
     records: &mut [GridTrack],
-) -> FillAnswer
-    ensures { (result ≡ fill_answer_of (axis_tracks (grid_in grid axis)) (length records.old) (length items.now))
+) -> Result<u32, Fault>
+    ensures { (answered_fill result ≡ fill_answer_of (axis_tracks (grid_in grid axis)) (length records.old) (length items.now))
         × (records.new ≡ run_after (axis_tracks (grid_in grid axis)) (template_in (grid_in grid axis) (axis_words_in axis words.now)) (spares_in (grid_in grid axis) (axis_words_in axis words.now)) items.now records.old) }
 {
     let own = grid_in(grid, axis);
     let tables = axis_words(words, axis);
-    let components = components_of(own, tables);
-    let minimums = minimums_of(own, tables);
-    let maximums = maximums_of(own, tables);
-    let spareminimums = spare_minimums_of(own, tables);
-    let sparemaximums = spare_maximums_of(own, tables);
-    let tracks = axis_tracks(own);
     track_run::initialize_grid_tracks(
         records,
-        components,
-        minimums,
-        maximums,
-        spareminimums,
-        sparemaximums,
+        template_on(own, tables),
+        spares_on(own, tables),
         items,
-        tracks,
+        axis_tracks(own),
     )
 }

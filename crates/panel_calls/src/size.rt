@@ -8,14 +8,15 @@ use panel_tables::Grid;
 use panel_tables::axis::grid_in;
 
 // The repetitions and the explicit count of an axis.
+#[tactic(auto, unfolding(panel_rules::specs::Calls::explicit_size))]
 pub fn explicit_size(grid: Grid, axis: Axis) -> AxisSize
     ensures { result ≡ explicit_size grid axis }
 {
-    let own = grid_in(grid, axis);
-    own.size
+    grid_in(grid, axis).size
 }
 
 // How many lists of line names an axis has.
+#[tactic(auto, unfolding(panel_rules::specs::Calls::line_count_in))]
 pub fn line_count(grid: Grid, axis: Axis) -> u64
     ensures { result ≡ line_count_in grid axis }
 {

@@ -1,5 +1,6 @@
 // The track records of an axis of a panel, one at a time.
 ghost use Rattle.std.specs.Prelude.{◌≡◌};
+ghost use Rattle.track_rules.specs.Tracks.{answered_record};
 ghost use Rattle.track_rules.specs.Records.{records_in};
 ghost use Rattle.panel_tables.specs.Axes.{grid_in};
 ghost use Rattle.panel_tables.specs.Regions.{axis_words_in};
@@ -7,11 +8,11 @@ ghost use Rattle.panel_rules.specs.Calls.{axis_tracks, track_record};
 ghost use Rattle.panel_calls.specs.Carried.{carried_to, carried_record, carried_on};
 
 use crate::axis_track;
-use coordinates::Axis;
+use coordinates::{Axis, Fault};
 use panel_tables::Grid;
 use panel_tables::axis::grid_in;
 use panel_tables::region::{PANEL_WORDS, axis_words};
-use track_rules::{GridTrack, RecordAnswer, TrackWalk};
+use track_rules::{GridTrack, TrackWalk};
 
 // How many records an axis has: 2N + 1.
 pub fn record_count(grid: Grid, axis: Axis) -> u32
@@ -27,8 +28,8 @@ pub fn track_record(
     axis: Axis,
     items: &[u8],
     index: u32,
-) -> RecordAnswer
-    ensures { result ≡ track_record (grid_in grid axis) (axis_words_in axis words.now) items.now index }
+) -> Result<GridTrack, Fault>
+    ensures { answered_record result ≡ track_record (grid_in grid axis) (axis_words_in axis words.now) items.now index }
 {
     axis_track::record_on(grid_in(grid, axis), axis_words(words, axis), items, index)
 }

@@ -1,8 +1,10 @@
 -- The search over the table, area by area, and that it finds what the search over the list finds. Assumes nothing.
-use Prim.Native.Nat.{ℕ, zero, suc, ◌+◌, ◌-◌, ◌≤◌, ◌<◌, min}
+use Prim.Native.Nat.{ℕ, zero, suc, ◌+◌, ◌≤◌, ◌<◌, min}
 use mathlib.Core.Path.{◌≡◌, refl, sym, ap, ◌∙◌}
 use mathlib.Core.List.{List, [], ◌∷◌}
-use mathlib.Core.Bool.{true, false, cond}
+use mathlib.Core.Bool.{Bool, true, false, cond}
+use Rattle.std.specs.Prelude.{Option, Some}
+use Rattle.std.specs.List.{find, range_with_len}
 use native.Mathlib.Omega.{arith}
 use lib.ListN.{length, get_or, drop, drop_of_length-le}
 use Rattle.axis_tables.proofs.Runs.{All}
@@ -12,22 +14,7 @@ use Rattle.panel_tables.specs.Areas.{area_at}
 use Rattle.panel_tables.specs.Written.{area_words}
 use Rattle.panel_tables.proofs.Fits.{GoodArea}
 use Rattle.panel_tables.proofs.Back.{area-held}
-use Rattle.panel_cells.specs.Steps.{shares, sharing_from, first_sharing, sharing_in, first_sharing_in}
-
-module _ (w : List ℕ) (e : AreaEdges) where
-  pub sharing-here : (k i : ℕ) → 0 < k → shares (area_at w i).edges e ≡ true → sharing_in w e k i ≡ i + 1
-  unfolding sharing_in
-  sharing-here zero i h t = absurd (omega arith)
-  sharing-here (suc k) i h t = rw t
-
-  pub sharing-on : (k i : ℕ) → 0 < k → shares (area_at w i).edges e ≡ false → sharing_in w e k i ≡ sharing_in w e (k - 1) (i + 1)
-  unfolding sharing_in
-  sharing-on zero i h t = absurd (omega arith)
-  sharing-on (suc k) i h t = let z : suc k - 1 ≡ k = omega arith in rw (t, z)
-
-  pub sharing-end : (i : ℕ) → sharing_in w e 0 i ≡ 0
-  unfolding sharing_in
-  sharing-end i = refl
+use Rattle.panel_cells.specs.Steps.{shares, sharing_from, first_sharing, sharing_in, first_sharing_in, area_number_of}
 
 -- ---- the table of a list
 
@@ -53,3 +40,13 @@ module _ (list : List Area) (good : All GoodArea list) (few : length list ≤ 64
   sharing-back =
       let z : min (length list) 64 ≡ length list = omega arith in
       ap (λ (k : ℕ). sharing_in (area_words list) e k 0) z ∙ sharing-to (length list) 0 (omega arith)
+
+-- the search as one through the numbers of the areas
+pub sharing_find : (w : List ℕ) (e : AreaEdges) (k i : ℕ) → sharing_in w e k i ≡ area_number_of (find (λ (n : ℕ). shares (area_at w n).edges e) (range_with_len i k))
+unfolding sharing_in
+sharing_find w e zero i = refl
+sharing_find w e (suc k) i = go _ (shares (area_at w i).edges e) (sharing_find w e k (i + 1))
+  where
+    go : {m : ℕ} (o : Option ℕ) (b : Bool) → m ≡ area_number_of o → cond b (i + 1) m ≡ area_number_of (cond b (Some i) o)
+    go o true h = refl
+    go o false h = h

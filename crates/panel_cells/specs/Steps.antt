@@ -1,5 +1,5 @@
 -- The search for an area that shares a cell, over a list of areas and over their table.
-use Rattle.std.specs.Prelude.{ℕ, zero, suc, ◌+◌, min, List, [], ◌∷◌, Bool, cond, ◌&&◌, ltb}
+use Rattle.std.specs.Prelude.{ℕ, zero, suc, ◌+◌, min, List, [], ◌∷◌, Bool, cond, ◌&&◌, ltb, Option, Some, None}
 use Rattle.coordinates.specs.declared.axis.Axis.TheVariants.{Column, Row}
 use Rattle.panel_tables.specs.declared.AreaEdges.{AreaEdges}
 use Rattle.panel_tables.specs.declared.EdgePair.{EdgePair}
@@ -30,3 +30,8 @@ sharing_in words e (suc k) i = cond (shares (area_at words i).edges e) (i + 1) (
 -- at most 64
 abbrev pub first_sharing_in : ℕ → List ℕ → AreaEdges → ℕ
 first_sharing_in areas words e = sharing_in words e (min areas 64) 0
+
+-- areas are numbered from 1; 0 where there is none
+abbrev pub area_number_of : Option ℕ → ℕ
+area_number_of None = 0
+area_number_of (Some index) = index + 1

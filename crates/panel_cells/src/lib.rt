@@ -2,16 +2,13 @@
 
 #![tactic(auto)]
 
-ghost use Rattle.std.specs.Prelude.{◌≡◌, min};
+ghost use Rattle.std.specs.Prelude.{◌≡◌};
 ghost use Rattle.panel_tables.specs.Areas.{edges_in};
-ghost use Rattle.panel_cells.specs.Steps.{meet, shares, first_sharing_in};
+ghost use Rattle.panel_cells.specs.Steps.{meet, shares, area_number_of, first_sharing_in};
 
 use coordinates::Axis;
-use panel_tables::area::area_at;
+use panel_tables::area::{MOST_AREAS, area_at};
 use panel_tables::{AreaEdges, EdgePair};
-
-// The most drawn areas.
-const MOST_AREAS: u32 = 64;
 
 // The edges of an area in an axis.
 fn edges_in(edges: AreaEdges, axis: Axis) -> EdgePair
@@ -33,40 +30,22 @@ fn edges_in(edges: AreaEdges, axis: Axis) -> EdgePair
 fn meet(a: EdgePair, b: EdgePair) -> bool
     ensures { result ≡ meet a b }
 {
-    ((a.start < a.end) & (a.start < b.end)) & ((b.start < a.end) & (b.start < b.end))
+    (a.start < a.end && a.start < b.end) && (b.start < a.end && b.start < b.end)
 }
 
 // Whether two areas share a cell.
+#[tactic(auto, unfolding(crate::specs::Steps::shares))]
 pub fn shares(a: AreaEdges, b: AreaEdges) -> bool
     ensures { result ≡ shares a b }
 {
     let rows = meet(edges_in(a, Axis::Row), edges_in(b, Axis::Row));
     let columns = meet(edges_in(a, Axis::Column), edges_in(b, Axis::Column));
-    rows & columns
+    rows && columns
 }
 
-// The smaller of a count and the most areas.
-pub fn at_most_all(areas: u32) -> u32
-    ensures { result ≡ min areas 64 }
+// The first of so many areas that shares a cell with these edges.
+pub fn first_sharing(areas: u32, words: &[u64], edges: AreaEdges) -> Option<u32>
+    ensures { area_number_of result ≡ first_sharing_in areas words.now edges }
 {
-    if areas < MOST_AREAS {
-        return areas;
-    }
-    MOST_AREAS
-}
-
-// The number, from 1, of the first of so many areas that shares a cell with these edges; 0 where none does.
-pub fn first_sharing(areas: u32, words: &[u64], edges: AreaEdges) -> u32
-    ensures { result ≡ first_sharing_in areas words.now edges }
-{
-    let most = at_most_all(areas);
-    let mut i: u32 = 0;
-    while i < most {
-        let place = area_at(words, i);
-        if shares(place.edges, edges) {
-            return i + 1;
-        }
-        i += 1;
-    }
-    0
+    (0..areas.min(MOST_AREAS)).find(|index| shares(area_at(words, *index).edges, edges))
 }

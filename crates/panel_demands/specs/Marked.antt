@@ -1,5 +1,5 @@
 -- Document 01's edges, marked M1 to M12: one list, gathered from the layers, on the definitions that the contracts cite.
-use Rattle.std.specs.Prelude.{ℕ, Bool, true, false, ◌&&◌, List, [], ◌∷◌, ◌++◌, map, eqb, take}
+use Rattle.std.specs.Prelude.{ℕ, Bool, true, false, ◌&&◌, List, [], ◌∷◌, ◌++◌, map, eqb, take, Some}
 use Rattle.std.specs.Float.{binary32}
 use Rattle.std.specs.Float.Ieee.{of_bits}
 use Rattle.sizing.specs.Words.{kind_of, bits_of}
@@ -7,10 +7,8 @@ use Rattle.sizing.specs.declared.MinMax.{MinMax}
 use Rattle.sizing.specs.declared.Sizing.{Sizing}
 use Rattle.sizing.specs.declared.Sizing.TheVariants.{Length}
 use Rattle.template_rules.specs.Template.{Component}
-use Rattle.template_rules.specs.Explicit.{explicit_size_of}
-use Rattle.template_rules.specs.declared.ExplicitSize.{ExplicitSize}
+use Rattle.template_rules.specs.Explicit.{SizeAnswer, explicit_size_of}
 use Rattle.template_rules.specs.declared.RepetitionCount.TheVariants.{AutoFit}
-use Rattle.template_rules.specs.declared.InnerSize.TheVariants.{Definite}
 use Rattle.template_rules.specs.declared.AutoRepeatStrategy.TheVariants.{MaxRepetitionsThatDoNotOverflow}
 use Rattle.track_rules.specs.declared.GridTrack.{GridTrack}
 use Rattle.track_rules.specs.declared.GridTrackKind.{GridTrackKind}
@@ -62,8 +60,8 @@ wide = record { min = length_of 0x42c8_0000; max = length_of 0x42c8_0000 }
 abbrev pub fitting : List Component
 fitting = record { count = AutoFit; tracks = wide ∷ [] } ∷ []
 
-abbrev pub fitting_size : ExplicitSize
-fitting_size = explicit_size_of (Definite (of_bits binary32 0x43a0_0000)) MaxRepetitionsThatDoNotOverflow (length_of 0x4120_0000) 0 fitting
+abbrev pub fitting_size : SizeAnswer
+fitting_size = explicit_size_of (Some (of_bits binary32 0x43a0_0000)) MaxRepetitionsThatDoNotOverflow (length_of 0x4120_0000) 0 fitting
 
 -- the records, with the repetitions and the explicit count that layer 3 has for it
 abbrev pub fitting_records : List GridTrack

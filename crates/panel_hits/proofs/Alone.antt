@@ -12,15 +12,15 @@ use Rattle.track_counts.specs.declared.counts.TrackCounts.{TrackCounts}
 use Rattle.axis_tables.specs.declared.AxisState.{AxisState}
 use Rattle.panel_tables.specs.declared.Grid.{Grid}
 use Rattle.coordinates.specs.Axes.{axis_number}
-use Rattle.panel_rules.specs.declared.PlacementAnswer.{PlacementAnswer}
+use Rattle.panel_rules.specs.Placing.{PlacementAnswer}
 use Rattle.panel_rules.specs.Calls.{axis_tracks}
 use Rattle.panel_rules.specs.Placing.{refused_placement, resolve_placement}
 use Rattle.panel_rules.specs.Alone.{Run, held_by, DifferInRows}
 use Rattle.panel_rules.proofs.ColumnsAlone.{columns_alone}
-use Rattle.panel_positions.specs.declared.LinesWithin.{LinesWithin}
+use Rattle.panel_positions.specs.Cursor.{LinesWithin}
 use Rattle.panel_positions.proofs.Theorem.{columns-cursor}
 use Rattle.placement_hits.specs.Steps.{answers, occupied_of, place_of, passing}
-use Rattle.placement_hits.specs.declared.LinePlace.TheVariants.{Off, At}
+use Rattle.std.specs.Prelude.{Some, None}
 use Rattle.placement_hits.specs.declared.Question.{Question}
 use Rattle.placement_hits.specs.declared.Question.TheVariants.{Within, Around}
 use Rattle.panel_hits.specs.Settled.{Lent, settled, counts_in, settled_hit, settled_hits}
@@ -46,8 +46,8 @@ no-and false = refl
 refused_out : (a : Axis) (c : TrackCounts) (q : Question) (n : ℕ) → settled_hit a c q (refused_placement n) ≡ false
 unfolding settled_hit answers occupied_of
 refused_out a c (Within below upto) n = no-and (eqb 0 (axis_number a))
-refused_out a c (Around Off) n = no-and (eqb 0 (axis_number a))
-refused_out a c (Around (At k)) n = no-and (eqb 0 (axis_number a))
+refused_out a c (Around None) n = no-and (eqb 0 (axis_number a))
+refused_out a c (Around (Some k)) n = no-and (eqb 0 (axis_number a))
 
 -- one that isn't held is refused
 not-held : (g : Grid) (l : Lent) (i : ℕ) → g.placements ≤ i → settled g l i ≡ refused_placement count

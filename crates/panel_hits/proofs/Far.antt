@@ -10,7 +10,7 @@ use Rattle.coordinates.specs.declared.axis.Axis.{Axis}
 use Rattle.name_rules.specs.Css.{AxisNames, free}
 use Rattle.name_resolver.specs.declared.GridPlacement.TheVariants.{Auto}
 use Rattle.name_resolver.specs.declared.Line.{Line}
-use Rattle.name_resolver.specs.declared.Resolution.{Resolution}
+use Rattle.name_resolver.specs.Placements.{Resolution}
 use Rattle.name_resolver.specs.Placements.{resolved_ends, resolved_line, held_line, refused_resolution, resolution_of}
 use Rattle.panel_tables.specs.declared.Grid.{Grid}
 use Rattle.panel_tables.specs.declared.PlacementPlace.{PlacementPlace}

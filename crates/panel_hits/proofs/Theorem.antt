@@ -24,7 +24,7 @@ use Rattle.panel_rules.specs.Calls.{shorter_store}
 use Rattle.sheet_end.specs.End.{inner_in}
 use Rattle.line_positions.specs.Positions.{lines_before, lines_up_to}
 use Rattle.panel_positions.specs.Cursor.{records_on, pixels, cursor_refusal, lines_for, lines_on, lines_within}
-use Rattle.panel_positions.specs.declared.LinesWithin.{LinesWithin}
+use Rattle.panel_positions.specs.Cursor.{LinesWithin}
 use Rattle.panel_positions.proofs.Carrying.{tracks-among}
 use Rattle.panel_positions.proofs.Theorem.{cursor-theorem}
 use Rattle.placement_hits.specs.Hits.{OnGrid, InOrder}

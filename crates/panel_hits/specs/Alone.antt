@@ -4,7 +4,7 @@ use Rattle.coordinates.specs.declared.axis.Axis.{Axis}
 use Rattle.coordinates.specs.declared.axis.Axis.TheVariants.{Column}
 use Rattle.panel_rules.specs.Runs.{Held, names_of, areas_of, placements_of}
 use Rattle.panel_rules.specs.Alone.{Run, held_by}
-use Rattle.panel_positions.specs.declared.LinesWithin.{LinesWithin}
+use Rattle.panel_positions.specs.Cursor.{LinesWithin}
 use Rattle.panel_positions.specs.Theorem.{lines_in}
 use Rattle.placement_hits.specs.Steps.{place_of}
 use Rattle.placement_hits.specs.declared.Question.{Question}

@@ -6,7 +6,7 @@ use Rattle.name_resolver.specs.Placements.{resolved_ends}
 use Rattle.panel_tables.specs.declared.Grid.{Grid}
 use Rattle.panel_tables.specs.Axes.{grid_in}
 use Rattle.coordinates.specs.Axes.{axis_number}
-use Rattle.panel_rules.specs.declared.PlacementAnswer.{PlacementAnswer}
+use Rattle.panel_rules.specs.Placing.{PlacementAnswer}
 use Rattle.panel_rules.specs.Calls.{NameTables, NamedWords, name_tables_in, area_table_in, placement_table_in, axis_tracks}
 use Rattle.panel_rules.specs.Placing.{resolve_placement}
 use Rattle.placement_hits.specs.Steps.{passing, answers, occupied_of}

@@ -4,22 +4,22 @@
 
 ghost use Rattle.std.specs.Prelude.{◌≡◌};
 ghost use Rattle.panel_hits.specs.Settled.{lent_in};
-ghost use Rattle.panel_hits.specs.Lists.{WrittenHits, placements_within, placements_around};
+ghost use Rattle.panel_hits.specs.Lists.{WrittenHits, answered_hits, placements_within, placements_around};
 
 mod refusal;
 mod settled;
 
-use coordinates::Axis;
-use panel_names::store::smaller;
+use coordinates::{Axis, Fault};
 use panel_positions::lines_within;
 use panel_tables::Grid;
 use panel_tables::region::{PANEL_BYTES, PANEL_WORDS};
 use placement_hits::Question;
 use placement_hits::list::MOST_HITS;
 use placement_hits::place::line_place;
+use refusal::{check_line, check_stores, checked};
 
 // A span of pixels on an axis, by the bits of its ends.
-#[derive(Clone, Copy)]
+#[derive(Clone, Copy, Debug, PartialEq, Eq)]
 pub struct Span {
     pub axis: Axis,
     pub low: u32,
@@ -27,24 +27,10 @@ pub struct Span {
 }
 
 // A grid line of an axis.
-#[derive(Clone, Copy)]
+#[derive(Clone, Copy, Debug, PartialEq, Eq)]
 pub struct Around {
     pub axis: Axis,
     pub line: i32,
-}
-
-// How many placements are listed, or a refusal and 0.
-#[derive(Clone, Copy)]
-pub struct HitsAnswer {
-    pub number: u32,
-    pub count: u32,
-}
-
-// A refusal.
-fn refused(number: u32) -> HitsAnswer
-    ensures { result ≡ record { number = number; count = 0 } }
-{
-    HitsAnswer { number, count: 0 }
 }
 
 // Lists the placements with both lines within a span, ends included, by their indexes. Refuses bits that are no length in range by 3,
@@ -58,27 +44,23 @@ pub fn placements_within(
     items: &[u8],
     span: Span,
     hits: &mut [u32; MOST_HITS],
-) -> HitsAnswer
-    ensures { record { answer = result; hits = hits.new } ≡ placements_within grid words.now (lent_in words.now bytes.now columnstore.now rowstore.now) items.now span hits.old }
+) -> Result<u32, Fault>
+    ensures { record { answer = answered_hits result; hits = hits.new } ≡ placements_within grid words.now (lent_in words.now bytes.now columnstore.now rowstore.now) items.now span hits.old }
 {
     let axis = span.axis;
     let lines = lines_within(grid, words, axis, items, span.low, span.high);
-    let stores = refusal::store_refusal(smaller(columnstore.len(), rowstore.len()));
-    let number = refusal::lower(lines.number, stores);
-    if number != 0 {
-        return refused(number);
-    }
-    let count = settled::write_settled(
+    let stores = check_stores(columnstore.len().min(rowstore.len()));
+    let within = checked(lines, stores)?;
+    Ok(settled::write_settled(
         grid,
         words,
         bytes,
         columnstore,
         rowstore,
         axis,
-        Question::Within(lines.below, lines.upto),
+        Question::Within(within.below, within.upto),
         hits,
-    );
-    HitsAnswer { number: 0, count }
+    ))
 }
 
 // Lists the placements with a grid line strictly between their own, by their indexes. Refuses counts that no sheet gives and a line
@@ -92,19 +74,15 @@ pub fn placements_around(
     items: &[u8],
     around: Around,
     hits: &mut [u32; MOST_HITS],
-) -> HitsAnswer
-    ensures { record { answer = result; hits = hits.new } ≡ placements_around grid words.now (lent_in words.now bytes.now columnstore.now rowstore.now) items.now around hits.old }
+) -> Result<u32, Fault>
+    ensures { record { answer = answered_hits result; hits = hits.new } ≡ placements_around grid words.now (lent_in words.now bytes.now columnstore.now rowstore.now) items.now around hits.old }
 {
     let axis = around.axis;
     let lines = lines_within(grid, words, axis, items, 0, 0);
-    let stores = refusal::store_refusal(smaller(columnstore.len(), rowstore.len()));
-    let older = refusal::lower(lines.number, stores);
-    let number = refusal::lower(older, refusal::line_refusal(around.line));
-    if number != 0 {
-        return refused(number);
-    }
+    let stores = check_stores(columnstore.len().min(rowstore.len()));
+    checked(checked(lines, stores), check_line(around.line))?;
     let place = line_place(settled::counts_in(grid, axis), around.line);
-    let count = settled::write_settled(
+    Ok(settled::write_settled(
         grid,
         words,
         bytes,
@@ -113,6 +91,5 @@ pub fn placements_around(
         axis,
         Question::Around(place),
         hits,
-    );
-    HitsAnswer { number: 0, count }
+    ))
 }

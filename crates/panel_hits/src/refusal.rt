@@ -1,59 +1,63 @@
-// What a list is refused by: the lowest number first, 0 is none.
+// What a list is refused by: the lowest number first.
 ghost use Rattle.std.specs.Prelude.{◌≡◌, cond, ltb};
-ghost use Rattle.coordinates.specs.Refusals.{count};
-ghost use Rattle.panel_hits.specs.Lists.{lower, store_refusal, line_refusal};
+ghost use Rattle.coordinates.specs.Refusals.{count, refused_by};
+ghost use Rattle.panel_hits.specs.Lists.{lower_fault, checked_of, store_refusal, line_refusal};
 
 use axis_tables::layout::AXIS_BYTES;
-use coordinates::refusal::{COUNT, SHORT, ZERO_LINE};
+use coordinates::Fault;
 use coordinates::signed::{Signed, split};
 
 // The largest line, and how far the smallest lies before -1.
 const LAST_LINE: u32 = 32767;
 
-// The lower of two.
-pub(crate) fn lower(a: u32, b: u32) -> u32
-    ensures { result ≡ lower a b }
+// The fault with the lower number.
+fn lower(a: Fault, b: Fault) -> Fault
+    ensures { result ≡ lower_fault a b }
 {
-    if a == 0 {
-        return b;
-    }
-    if b == 0 {
-        return a;
-    }
-    if a < b { a } else { b }
+    if u32::from(a) < u32::from(b) { a } else { b }
 }
 
-// Of the bytes of the shorter store.
-pub(crate) fn store_refusal(shorter: usize) -> u32
-    ensures { result ≡ store_refusal shorter }
+// What was found, where a check beside it is passed, or the lower of the two faults.
+pub(crate) fn checked<A: Copy>(
+    found: Result<A, Fault>,
+    check: Result<(), Fault>,
+) -> Result<A, Fault>
+    ensures { result ≡ checked_of found check }
+{
+    match (found, check) {
+        (Err(a), Err(b)) => Err(lower(a, b)),
+        (Ok(_), Err(b)) => Err(b),
+        _ => found,
+    }
+}
+
+// Whether the shorter store is long enough.
+pub(crate) fn check_stores(shorter: usize) -> Result<(), Fault>
+    ensures { refused_by result ≡ store_refusal shorter }
 {
     if shorter < AXIS_BYTES {
-        return SHORT;
+        return Err(Fault::Short);
     }
-    0
+    Ok(())
 }
 
-// Of a line that is too far from its edge.
-fn far_refusal(distance: u32) -> u32
-    ensures { result ≡ cond (ltb 32767 distance) count 0 }
+// Whether a line is near enough to its edge.
+fn check_distance(distance: u32) -> Result<(), Fault>
+    ensures { refused_by result ≡ cond (ltb 32767 distance) count 0 }
 {
     if LAST_LINE < distance {
-        return COUNT;
+        return Err(Fault::Count);
     }
-    0
+    Ok(())
 }
 
-// Of a given line.
-pub(crate) fn line_refusal(line: i32) -> u32
-    ensures { result ≡ line_refusal line }
+// Whether a given line can be asked for.
+pub(crate) fn check_line(line: i32) -> Result<(), Fault>
+    ensures { refused_by result ≡ line_refusal line }
 {
     match split(line) {
-        Signed::NonNegative(n) => {
-            if n == 0 {
-                return ZERO_LINE;
-            }
-            far_refusal(n)
-        }
-        Signed::Negative(k) => far_refusal(k),
+        Signed::NonNegative(0) => Err(Fault::ZeroLine),
+        Signed::NonNegative(distance) => check_distance(distance),
+        Signed::Negative(distance) => check_distance(distance),
     }
 }

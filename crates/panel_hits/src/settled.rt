@@ -1,6 +1,5 @@
 // The placements of a panel that answer a question on the lines of an axis.
-ghost use Rattle.std.specs.Prelude.{◌≡◌, ◌≤◌, pos};
-ghost use Rattle.coordinates.specs.Axes.{axis_number};
+ghost use Rattle.std.specs.Prelude.{◌≡◌, ◌≤◌};
 ghost use Rattle.panel_rules.specs.Calls.{name_tables_in, shorter_store};
 ghost use Rattle.placement_hits.specs.Steps.{Listed, listed_of};
 ghost use Rattle.panel_hits.specs.Settled.{counts_in, lent_in, settled_hits};
@@ -13,24 +12,13 @@ use panel_tables::axis::grid_in;
 use panel_tables::region::{PANEL_BYTES, PANEL_WORDS};
 use placement_hits::list::{MOST_HITS, write_hits};
 use placement_hits::{Asked, Question};
-use track_counts::counts::TrackCounts;
-
-// The number of an axis in a run of placements.
-fn axis_number(axis: Axis) -> i32
-    ensures { result ≡ pos (axis_number axis) }
-{
-    match axis {
-        Axis::Column => 0,
-        Axis::Row => 1,
-    }
-}
+use track_counts::TrackCounts;
 
 // The tracks of an axis.
 pub(crate) fn counts_in(grid: Grid, axis: Axis) -> TrackCounts
     ensures { result ≡ counts_in grid axis }
 {
-    let tracks = axis_tracks(grid_in(grid, axis));
-    tracks.counts
+    axis_tracks(grid_in(grid, axis)).counts
 }
 
 // Writes the placements that answer a question, from the first place on, all of them resolved in one run; how many there are.
@@ -48,9 +36,9 @@ pub(crate) fn write_settled(
     ensures { record { count = result; hits = hits.new } ≡ listed_of (settled_hits grid (lent_in words.now bytes.now columnstore.now rowstore.now) axis question) hits.old }
 {
     let mut numbers: [i32; PLACEMENT_RUN] = [0; PLACEMENT_RUN];
-    write_placements(grid, words, bytes, columnstore, rowstore, 0, &mut numbers);
+    let _written = write_placements(grid, words, bytes, columnstore, rowstore, 0, &mut numbers);
     let asked = Asked {
-        axis: axis_number(axis),
+        axis,
         counts: counts_in(grid, axis),
         question,
     };

@@ -8,8 +8,10 @@ use lib.Seq.{sets}
 use borrow.Author.Tests.{le-ltb, eq-eqb, ne_eqb}
 use Rattle.coordinates.specs.declared.axis.Axis.{Axis}
 use Rattle.coordinates.specs.declared.axis.Axis.TheVariants.{Column, Row}
-use Rattle.coordinates.specs.declared.refusal.Refusal.{Refusal}
-use Rattle.coordinates.specs.Refusals.{no_refusal, refusal_of}
+use Rattle.coordinates.specs.declared.refusal.Fault.{Fault}
+use Rattle.coordinates.specs.Refusals.{number_of}
+use Rattle.std.specs.Prelude.{Result, Ok, Err}
+use Rattle.track_rules.proofs.Answers.{fault_some}
 use Rattle.name_entries.specs.Enter.{entry_refusal}
 use Rattle.name_entries.specs.LineNames.{of_axis}
 use Rattle.name_entries.specs.Entries.{word_of}
@@ -20,7 +22,7 @@ use Rattle.axis_tables.proofs.Regions.{set-inside, set_before, set_after}
 use Rattle.panel_tables.specs.declared.Panel.{Panel}
 use Rattle.panel_tables.specs.Axes.{state_in, with_state}
 use Rattle.panel_tables.specs.Regions.{first_word, axis_words_in, area_words_in, placement_words_in}
-use Rattle.panel_rules.specs.Calls.{name_tables_in, entered_in, NameTables, shorter_store, store_in, enter_refusal, enter_name}
+use Rattle.panel_rules.specs.Calls.{name_tables_in, entered_in, NameTables, shorter_store, store_in, enter_refusal, enter_name, answered_entry}
 use Rattle.panel_names.specs.Entered.{Roomy, EnteredAxis, entered_on, entered_name}
 
 -- bytes that have room are written
@@ -81,10 +83,10 @@ module _ (p : Panel) (t : NameTables) (line : ℕ) (name : List ℕ) where
         ∙ ap (λ (n : ℕ). entry_refusal n (state_in p a).grid.entries (state_in p a).room.used line name) f
 
     -- a refused call leaves everything as it came
-    pub refused : (number : ℕ) (x : Refusal) → (number ≡ 0 → ⊥) → number ≡ enter_refusal p t a line name → x ≡ refusal_of number →
-        record { answer = record { refusal = x; panel = p }; tables = t } ≡ enter_name p t a line name
+    pub refused : (fault : Fault) → number_of fault ≡ enter_refusal p t a line name →
+        record { answer = answered_entry p (Err fault); tables = t } ≡ enter_name p t a line name
     unfolding enter_name
-    refused number x out e f = rw (← e, ne_eqb number 0 out, f)
+    refused fault e = rw (← e, ne_eqb (number_of fault) 0 (fault_some fault))
 
     -- an accepted one enters
     pub made : enter_refusal p t a line name ≡ 0 → entered_name p t a line name ≡ enter_name p t a line name
@@ -106,11 +108,11 @@ module _ (p : Panel) (t : NameTables) (line : ℕ) (name : List ℕ) where
 -- an entry written to one axis
 module _ (words column_store row_store : List ℕ) (line : ℕ) (name : List ℕ) (e : EnteredAxis) where
   -- is an entry of the panel
-  pub entered : (p : Panel) (a : Axis) (x : Refusal) → (state_in p a).grid.entries < 4096 → x ≡ no_refusal → e ≡ entered_on (state_in p a) a words (of_axis a column_store row_store) line name →
-      record { answer = record { refusal = x; panel = with_state p a e.state }; tables = name_tables_in e.words (of_axis a e.store column_store) (of_axis a row_store e.store) }
+  pub entered : (p : Panel) (a : Axis) → (state_in p a).grid.entries < 4096 → e ≡ entered_on (state_in p a) a words (of_axis a column_store row_store) line name →
+      record { answer = answered_entry p (Ok (with_state p a e.state)); tables = name_tables_in e.words (of_axis a e.store column_store) (of_axis a row_store e.store) }
       ≡ entered_name p (name_tables_in words column_store row_store) a line name
-  entered p Column x h f g = rw (f, g, words_entered words column_store row_store Column (state_in p Column) line name h)
-  entered p Row x h f g = rw (f, g, words_entered words column_store row_store Row (state_in p Row) line name h)
+  entered p Column h g = rw (g, words_entered words column_store row_store Column (state_in p Column) line name h)
+  entered p Row h g = rw (g, words_entered words column_store row_store Row (state_in p Row) line name h)
 
   -- and leaves the words of areas and placements as they were
   pub others-entered : (s : AxisState) (a : Axis) (store : List ℕ) → s.grid.entries < 4096 → e ≡ entered_on s a words store line name →

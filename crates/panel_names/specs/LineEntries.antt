@@ -1,5 +1,6 @@
 -- Where the names of a panel's lines lie: the entries that show them.
-use Rattle.std.specs.Prelude.{ℕ, cond, get_or}
+use Rattle.std.specs.Prelude.{ℕ, cond, get_or, Option, None}
+use Rattle.std.specs.List.{slice_get}
 use Rattle.coordinates.specs.declared.axis.Axis.{Axis}
 use Rattle.name_entries.specs.declared.NameEntry.{NameEntry}
 use Rattle.name_entries.specs.LineEntries.{no_entry, explicit_line_entries}
@@ -12,3 +13,9 @@ unfoldable pub line_entry_in : Grid → NameTables → Axis → ℕ → ℕ → 
 line_entry_in g t a line place =
     cond (short_names t) no_entry
     (get_or (explicit_line_entries (grid_in g a).size.explicit (entry_words_in (grid_in g a) (words_in t a)) (store_in t a) line) place no_entry)
+
+-- the same, or none
+unfoldable pub shown_entry_in : Grid → NameTables → Axis → ℕ → ℕ → Option NameEntry
+shown_entry_in g t a line place =
+    cond (short_names t) None
+    (slice_get (explicit_line_entries (grid_in g a).size.explicit (entry_words_in (grid_in g a) (words_in t a)) (store_in t a) line) place)

@@ -1,19 +1,16 @@
 // Direct entries of a line and a name in an axis of a panel.
-ghost use Rattle.std.specs.Prelude.{◌≡◌, length};
+ghost use Rattle.std.specs.Prelude.{◌≡◌, length, Ok};
 ghost use Rattle.panel_tables.specs.Axes.{state_in};
 ghost use Rattle.name_entries.specs.LineNames.{of_axis};
 ghost use Rattle.panel_tables.specs.Regions.{area_words_in, placement_words_in};
-ghost use Rattle.panel_rules.specs.Calls.{NameTables, EnteredName, enter_name, name_tables_in};
+ghost use Rattle.panel_rules.specs.Calls.{NameTables, EnteredName, answered_entry, enter_name, name_tables_in};
 ghost use Rattle.panel_names.specs.Entered.{Roomy, EnteredAxis, entered_on, entered_name};
 
-use crate::store::smaller;
 use axis_tables::AxisState;
 use axis_tables::layout::ENTRIES;
 use axis_tables::name::put_bytes;
-use coordinates::Axis;
-use coordinates::refusal::{no_refusal, refusal_of};
-use name_entries::enter::entry_refusal;
-use panel_rules::EntryAnswer;
+use coordinates::{Axis, Fault};
+use name_entries::enter::check_entry;
 use panel_tables::Panel;
 use panel_tables::axis::{state_in, with_state};
 use panel_tables::region::{PANEL_WORDS, first_word};
@@ -38,11 +35,9 @@ fn enter_on(
         + used as u64 * 0x1_0000
         + length as u64 * 0x1_0000_0000;
     put_bytes(store, used as usize, name);
-    let next = entries + 1;
-    let end = used + length as u32;
     let mut after = state;
-    after.grid.entries = next;
-    after.room.used = end;
+    after.grid.entries = entries + 1;
+    after.room.used = used + length as u32;
     after
 }
 
@@ -55,23 +50,20 @@ fn enter_in(
     axis: Axis,
     line: u32,
     name: &[u8],
-) -> EntryAnswer
+) -> Panel
     requires { Roomy (state_in panel axis) (length (of_axis axis columnstore.old rowstore.old)) name.now }
-    ensures rowstore_after { record { answer = result; tables = name_tables_in words.new columnstore.new rowstore.new } ≡ entered_name panel (name_tables_in words.old columnstore.old rowstore.old) axis line name.now }
+    ensures rowstore_after { record { answer = answered_entry panel (Ok result); tables = name_tables_in words.new columnstore.new rowstore.new } ≡ entered_name panel (name_tables_in words.old columnstore.old rowstore.old) axis line name.now }
     ensures others { (area_words_in words.new ≡ area_words_in words.old) × (placement_words_in words.new ≡ placement_words_in words.old) }
 {
-    let refusal = no_refusal();
     let state = state_in(panel, axis);
     match axis {
         Axis::Column => {
             let own = enter_on(state, words, Axis::Column, columnstore, line, name);
-            let panel = with_state(panel, Axis::Column, own);
-            EntryAnswer { refusal, panel }
+            with_state(panel, Axis::Column, own)
         }
         Axis::Row => {
             let own = enter_on(state, words, Axis::Row, rowstore, line, name);
-            let panel = with_state(panel, Axis::Row, own);
-            EntryAnswer { refusal, panel }
+            with_state(panel, Axis::Row, own)
         }
     }
 }
@@ -86,18 +78,12 @@ pub fn enter_name(
     axis: Axis,
     line: u32,
     name: &[u8],
-) -> EntryAnswer
-    ensures rowstore_after { record { answer = result; tables = name_tables_in words.new columnstore.new rowstore.new } ≡ enter_name panel (name_tables_in words.old columnstore.old rowstore.old) axis line name.now }
+) -> Result<Panel, Fault>
+    ensures rowstore_after { record { answer = answered_entry panel result; tables = name_tables_in words.new columnstore.new rowstore.new } ≡ enter_name panel (name_tables_in words.old columnstore.old rowstore.old) axis line name.now }
     ensures others { (area_words_in words.new ≡ area_words_in words.old) × (placement_words_in words.new ≡ placement_words_in words.old) }
 {
     let state = state_in(panel, axis);
-    let shorter = smaller(columnstore.len(), rowstore.len());
-    let number = entry_refusal(shorter, state.grid.entries, state.room.used, line, name);
-    if number != 0 {
-        return EntryAnswer {
-            refusal: refusal_of(number),
-            panel,
-        };
-    }
-    enter_in(panel, words, columnstore, rowstore, axis, line, name)
+    let shorter = columnstore.len().min(rowstore.len());
+    check_entry(shorter, state.grid.entries, state.room.used, line, name)?;
+    Ok(enter_in(panel, words, columnstore, rowstore, axis, line, name))
 }

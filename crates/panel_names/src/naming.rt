@@ -1,33 +1,33 @@
 // The line names of a panel, and the entries that show them.
-ghost use Rattle.std.specs.Prelude.{◌≡◌, get_or};
-ghost use Rattle.name_entries.specs.LineEntries.{no_entry, explicit_line_entries};
+ghost use Rattle.std.specs.Prelude.{◌≡◌};
+ghost use Rattle.std.specs.List.{slice_get};
+ghost use Rattle.name_entries.specs.LineEntries.{explicit_line_entries};
 ghost use Rattle.panel_rules.specs.Calls.{NameTables, entry_words_in, line_name_in, name_tables_in};
-ghost use Rattle.panel_names.specs.LineEntries.{line_entry_in};
+ghost use Rattle.panel_names.specs.LineEntries.{shown_entry_in};
 
-use crate::store::{entries_of, smaller};
+use crate::store::entries_of;
 use axis_tables::AxisGrid;
+use axis_tables::layout::AXIS_BYTES;
 use coordinates::Axis;
-use name_entries::NameEntry;
 use name_entries::entry::name_in;
+use name_entries::{NameEntry, Names};
 use panel_tables::Grid;
 use panel_tables::region::{PANEL_WORDS, axis_words};
 
 // The entry that shows a name of a line of one axis, by its place from 0.
-fn entry_on(grid: AxisGrid, words: &[u64], store: &[u8], line: u32, place: u32) -> NameEntry
-    ensures { result ≡ get_or (explicit_line_entries grid.size.explicit (entry_words_in grid words.now) store.now line) place no_entry }
+fn entry_on(grid: AxisGrid, words: &[u64], store: &[u8], line: u32, place: u32) -> Option<NameEntry>
+    ensures { result ≡ slice_get (explicit_line_entries grid.size.explicit (entry_words_in grid words.now) store.now line) place }
 {
-    name_entries::line_names::line_entry(
-        entries_of(grid, words),
+    let names = Names {
+        entries: entries_of(grid, words),
         store,
-        grid.size.explicit,
-        line,
-        place,
-    )
+    };
+    names.line_entry(grid.size.explicit, line, place)
 }
 
-// The entry that shows a name of a line of an axis, by its place from 0. It is of no name where that line and place hold none, or a
-// store is below 32,768 bytes.
-#[tactic(auto, unfolding(crate::specs::LineEntries::line_entry_in))]
+// The entry that shows a name of a line of an axis, by its place from 0: none where that line and place hold none, or a store is
+// below 32,768 bytes.
+#[tactic(auto, unfolding(crate::specs::LineEntries::shown_entry_in))]
 pub fn line_entry(
     grid: Grid,
     words: &[u64; PANEL_WORDS],
@@ -36,11 +36,11 @@ pub fn line_entry(
     axis: Axis,
     line: u32,
     place: u32,
-) -> NameEntry
-    ensures { result ≡ line_entry_in grid (name_tables_in words.now columnstore.now rowstore.now) axis line place }
+) -> Option<NameEntry>
+    ensures { result ≡ shown_entry_in grid (name_tables_in words.now columnstore.now rowstore.now) axis line place }
 {
-    if smaller(columnstore.len(), rowstore.len()) < 32768 {
-        return name_entries::line_names::no_entry();
+    if columnstore.len().min(rowstore.len()) < AXIS_BYTES {
+        return None;
     }
     match axis {
         Axis::Column => {
@@ -67,7 +67,9 @@ pub fn line_name<'a>(
 ) -> &'a [u8]
     ensures { result.now ≡ line_name_in grid (name_tables_in words.now columnstore.now rowstore.now) axis line place }
 {
-    let entry = line_entry(grid, words, columnstore, rowstore, axis, line, place);
+    let Some(entry) = line_entry(grid, words, columnstore, rowstore, axis, line, place) else {
+        return &columnstore[..0];
+    };
     match axis {
         Axis::Column => name_in(columnstore, entry),
         Axis::Row => name_in(rowstore, entry),

@@ -25,8 +25,8 @@ use Rattle.line_positions.specs.Positions.{all_definite, start_of, position_of, 
 use Rattle.line_positions.specs.Steps.{walked_to, gathered}
 use Rattle.line_positions.proofs.Walk.{walked_all, nearest_le}
 use Rattle.panel_positions.specs.declared.LineAnswer.{LineAnswer}
-use Rattle.panel_positions.specs.declared.LinesWithin.{LinesWithin}
-use Rattle.panel_positions.specs.declared.Sought.{Sought}
+use Rattle.panel_positions.specs.Cursor.{LinesWithin}
+use Rattle.panel_positions.specs.Steps.{Sought}
 use Rattle.panel_positions.specs.Cursor.{records_on, pixels, forged, cursor_refusal, grid_line_at, line_for, lines_for, nearest_on, lines_on, nearest_line, lines_within}
 use Rattle.panel_positions.specs.Steps.{older_refusal, refused_sought, sought_in, sought_on}
 use Rattle.panel_positions.proofs.Carrying.{records-on, tracks-among, few-tracks}

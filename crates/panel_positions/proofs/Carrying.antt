@@ -1,4 +1,5 @@
 -- The walk over the records that an axis carries is the walk over the list of its records. Assumes nothing.
+use Rattle.std.specs.Prelude.{Float, Option}
 use Prim.Native.Nat.{ℕ, suc, ◌+◌, ◌*◌, ◌-◌, ◌/◌, ◌%◌, ◌≤◌, ◌<◌}
 use native.Mathlib.Omega.{arith}
 use mathlib.Core.Path.{◌≡◌, refl, sym, ap, subst, ◌∙◌}
@@ -9,7 +10,6 @@ use lib.ListN.{length}
 use borrow.Author.Tests.{eq-eqb, ne_eqb}
 use Rattle.sizing.specs.declared.MinMax.{MinMax}
 use Rattle.template_rules.specs.Template.{Component}
-use Rattle.template_rules.specs.declared.InnerSize.{InnerSize}
 use Rattle.track_rules.specs.declared.GridTrack.{GridTrack}
 use Rattle.track_rules.specs.declared.TrackWalk.{TrackWalk}
 use Rattle.track_rules.specs.declared.AxisTracks.{AxisTracks}
@@ -86,7 +86,7 @@ module _ (g : AxisGrid) (words items : List ℕ) where
       ap (λ (r : GridTrack). gutter_of at.axis.gap (r.collapsed || leb at.plan.opened (d + 1))) t
       ∙ with_pair at.axis at.plan (template_in g words) (spares_in g words) (item_at items) at.cursor d
 
-  module _ (span : PixelSpan) (inner : InnerSize) (count : ℕ) (all : count ≡ tracks_in (axis_tracks g)) where
+  module _ (span : PixelSpan) (inner : Option Float) (count : ℕ) (all : count ≡ tracks_in (axis_tracks g)) where
     at-step : (i : ℕ) → i ≤ 2 * count → (w : LineWalk) (track : GridTrack) → track ≡ carried_record g words items (carried_to g words items i) i → w ≡ walked_to span inner (records_on g words items) i
         → position_step span inner w (2 * count) i track ≡ walked_to span inner (records_on g words items) (i + 1)
     at-step i h w track e f =

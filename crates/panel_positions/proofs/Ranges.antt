@@ -1,4 +1,5 @@
 -- The records of an axis are in range, whatever its words hold. Assumes nothing.
+use Rattle.std.specs.Prelude.{Some, None}
 use Prim.Native.Nat.{ℕ, zero, suc, ◌+◌, ◌-◌, ◌/◌, ◌%◌, ◌<◌}
 use native.Mathlib.Omega.{arith}
 use mathlib.Core.Path.{◌≡◌, refl, sym, subst, ◌∙◌}
@@ -14,7 +15,6 @@ use Rattle.sizing.proofs.Words.{sizing_in_range_lem}
 use Rattle.sizing.proofs.Ranges.{length_bits}
 use Rattle.template_rules.specs.Template.{component_of, tracks_from, template_of}
 use Rattle.template_rules.specs.declared.RepetitionCount.{RepetitionCount}
-use Rattle.template_rules.specs.declared.InnerSize.TheVariants as Inner
 use Rattle.track_rules.specs.declared.GridTrack.{GridTrack}
 use Rattle.track_rules.specs.declared.TrackSource.TheVariants.{Area, Positive}
 use Rattle.track_rules.specs.declared.WrittenTrack.{WrittenTrack}
@@ -121,7 +121,7 @@ length_in_lem bits = go (leb bits largest_bits) refl
 inner_in_range_lem : (s : AxisSpace) → InnerInRange (inner_in s)
 inner_in_range_lem s = go (eqb s.definite 0)
   where
-    go : (t : Bool) → InnerInRange (cond t Inner.Indefinite (Inner.Definite (float_up_to largest_bits s.inner)))
+    go : (t : Bool) → InnerInRange (cond t None (Some (float_up_to largest_bits s.inner)))
     go true = tt
     go false = length_in_lem s.inner
 

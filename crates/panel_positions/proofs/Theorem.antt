@@ -30,7 +30,7 @@ use Rattle.line_positions.proofs.Nearest.{nearest-least, nearest_unique}
 use Rattle.line_positions.proofs.Within.{within-interval}
 use Rattle.line_positions.proofs.Lines.{lines_lie, indefinite-exactly}
 use Rattle.panel_positions.specs.declared.LineAnswer.{LineAnswer}
-use Rattle.panel_positions.specs.declared.LinesWithin.{LinesWithin}
+use Rattle.panel_positions.specs.Cursor.{LinesWithin}
 use Rattle.panel_positions.specs.Cursor.{records_on, pixels, forged, cursor_refusal, grid_line_at, line_for, lines_for, nearest_on, lines_on}
 use Rattle.panel_positions.specs.Steps.{older_refusal}
 use Rattle.panel_positions.specs.Theorem.{CursorTheorem, SameCursor}

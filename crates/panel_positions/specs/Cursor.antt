@@ -1,7 +1,7 @@
 -- The cursor on the lines of a panel (document 02, Req 01; SHEET.md, The cursor), whatever the state, the tables and the item bytes hold.
-use Rattle.std.specs.Prelude.{ℕ, Bool, cond, not, ◌&&◌, ◌||◌, List, eqb, ltb, length, ℤ, pos, ◌-ℤ◌, Float}
+use Rattle.std.specs.Prelude.{ℕ, Bool, cond, not, ◌&&◌, ◌||◌, List, eqb, ltb, length, ℤ, pos, ◌-ℤ◌, Float, Result, Ok, Err}
 use Rattle.coordinates.specs.declared.axis.Axis.{Axis}
-use Rattle.coordinates.specs.Refusals.{value, count, short, indefinite}
+use Rattle.coordinates.specs.Refusals.{number_of, value, count, short, indefinite}
 use Rattle.coordinates.specs.Lines.{to_grid_line}
 use Rattle.sizing.specs.Words.{largest_bits, float_up_to}
 use Rattle.sizing.specs.Ranges.{length_in_range}
@@ -14,8 +14,9 @@ use Rattle.panel_tables.specs.Regions.{axis_words_in}
 use Rattle.sheet_end.specs.End.{inner_in}
 use Rattle.panel_rules.specs.Calls.{axis_tracks, template_in, spares_in}
 use Rattle.line_positions.specs.Positions.{all_definite, nearest_of, lines_before, lines_up_to}
+use Rattle.coordinates.specs.declared.refusal.Fault.{Fault}
 use Rattle.panel_positions.specs.declared.LineAnswer.{LineAnswer}
-use Rattle.panel_positions.specs.declared.LinesWithin.{LinesWithin}
+use Rattle.panel_positions.specs.declared.Between.{Between}
 
 -- ---- one axis, from its state and its words
 
@@ -43,6 +44,21 @@ cursor_refusal g words items low high =
 -- the grid line at place k of the axis's lines, back by layer 1 without a limit: the first explicit line is at the place of the negative tracks
 abbrev pub grid_line_at : AxisGrid → ℕ → ℤ
 grid_line_at g k = to_grid_line g.size.explicit (pos k -ℤ pos g.implicit.negative)
+
+-- how many lines of an axis lie before a span, and how many up to its end; or a refusal and zeros
+pub record LinesWithin : Type 0 where
+  pub number : ℕ
+  pub below : ℕ
+  pub upto : ℕ
+
+-- the numbers and values of what a call answers
+abbrev pub answered_line : Result ℤ Fault → LineAnswer
+answered_line (Ok l) = record { number = 0; line = l }
+answered_line (Err fault) = record { number = number_of fault; line = pos 0 }
+
+abbrev pub answered_between : Result Between Fault → LinesWithin
+answered_between (Ok b) = record { number = 0; below = b.below; upto = b.upto }
+answered_between (Err fault) = record { number = number_of fault; below = 0; upto = 0 }
 
 -- "the nearest line as a grid line (lower on a tie)", or a refusal and 0
 abbrev pub line_for : AxisGrid → ℕ → ℕ → LineAnswer

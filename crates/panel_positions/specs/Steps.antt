@@ -1,13 +1,14 @@
 -- What one walk over the records of an axis answers to both calls.
-use Rattle.std.specs.Prelude.{ℕ, cond, not, ◌&&◌, List, eqb, ltb}
-use Rattle.coordinates.specs.Refusals.{value, count, short}
+use Rattle.std.specs.Prelude.{ℕ, cond, not, ◌&&◌, List, eqb, ltb, Result, Ok, Err}
+use Rattle.coordinates.specs.Refusals.{number_of, value, count, short}
 use Rattle.sizing.specs.Ranges.{length_in_range}
 use Rattle.track_rules.specs.Records.{tracks_in}
 use Rattle.axis_tables.specs.declared.AxisGrid.{AxisGrid}
 use Rattle.sheet_end.specs.End.{inner_in}
 use Rattle.panel_rules.specs.Calls.{axis_tracks}
 use Rattle.line_positions.specs.Positions.{nearest_of, lines_before, lines_up_to}
-use Rattle.panel_positions.specs.declared.Sought.{Sought}
+use Rattle.coordinates.specs.declared.refusal.Fault.{Fault}
+use Rattle.line_positions.specs.declared.LineWalk.{LineWalk}
 use Rattle.panel_positions.specs.Cursor.{records_on, pixels, forged, cursor_refusal}
 
 -- what is refused before the records are walked
@@ -17,6 +18,14 @@ older_refusal g items low high =
     cond (not (length_in_range low && length_in_range high)) value
     (cond (forged g) count
     (cond (ltb items (tracks_in (axis_tracks g))) short 0))
+
+-- what is sought of the lines of an axis: the place of the nearest, from 0 on, how many lie before a span and how many up to its end;
+-- or a refusal and zeros
+pub record Sought : Type 0 where
+  pub number : ℕ
+  pub nearest : ℕ
+  pub below : ℕ
+  pub upto : ℕ
 
 abbrev pub refused_sought : ℕ → Sought
 refused_sought number = record { number = number; nearest = 0; below = 0; upto = 0 }
@@ -36,3 +45,8 @@ unfolding cursor_refusal
 sought_on g words items low high =
     let number = cursor_refusal g words items low high in
     cond (eqb number 0) (sought_in g words items low high) (refused_sought number)
+
+-- the numbers and values of what a walk answers
+abbrev pub answered_sought : Result LineWalk Fault → Sought
+answered_sought (Ok w) = record { number = 0; nearest = w.nearest; below = w.below; upto = w.upto }
+answered_sought (Err fault) = refused_sought (number_of fault)

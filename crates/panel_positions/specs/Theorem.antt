@@ -12,7 +12,7 @@ use Rattle.panel_rules.specs.Runs.{Held, names_of}
 use Rattle.panel_rules.specs.Alone.{Run, held_by}
 use Rattle.line_positions.specs.Positions.{tracks_among, LinesLie, SomeIndefinite, Nearest, Within}
 use Rattle.panel_positions.specs.declared.LineAnswer.{LineAnswer}
-use Rattle.panel_positions.specs.declared.LinesWithin.{LinesWithin}
+use Rattle.panel_positions.specs.Cursor.{LinesWithin}
 use Rattle.panel_positions.specs.Cursor.{records_on, pixels, cursor_refusal, grid_line_at, nearest_on, lines_on}
 use Rattle.panel_positions.specs.Steps.{older_refusal}
 

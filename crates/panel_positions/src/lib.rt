@@ -3,38 +3,42 @@
 #![tactic(auto)]
 
 ghost use Rattle.std.specs.Prelude.{◌≡◌};
-ghost use Rattle.panel_positions.specs.Cursor.{nearest_line, lines_within, no_axis_positions};
+ghost use Rattle.coordinates.specs.Refusals.{number_of};
+ghost use Rattle.panel_positions.specs.Cursor.{answered_line, answered_between, nearest_line, lines_within, no_axis_positions};
 
 mod walk;
 
-use coordinates::Axis;
-use coordinates::refusal::{COUNT, VALUE};
+use coordinates::{Axis, Fault};
 use panel_tables::Grid;
 use panel_tables::axis::grid_in;
 use panel_tables::region::{PANEL_WORDS, axis_words};
 
-// A grid line, or a refusal and 0.
+// A grid line, or a refusal and 0, for C.
 #[repr(C)]
-#[derive(Clone, Copy)]
+#[derive(Clone, Copy, Debug, PartialEq, Eq)]
 pub struct LineAnswer {
     pub number: u32,
     pub line: i32,
 }
 
-// How many lines of an axis lie before a span, and how many up to its end; or a refusal and zeros.
-#[derive(Clone, Copy)]
-pub struct LinesWithin {
-    pub number: u32,
-    pub below: u32,
-    pub upto: u32,
+impl From<Result<i32, Fault>> for LineAnswer {
+    ghost from_gives = { λ found answer. answer ≡ answered_line found };
+
+    // The line, or the number of the fault and 0.
+    fn from(found: Result<i32, Fault>) -> LineAnswer {
+        match found {
+            Ok(line) => LineAnswer { number: 0, line },
+            Err(fault) => LineAnswer {
+                number: u32::from(fault),
+                line: 0,
+            },
+        }
+    }
 }
 
-// What is sought of the lines of an axis: the place of the nearest, from 0 on, how many lie before a span and how many up to its end;
-// or a refusal and zeros.
-#[derive(Clone, Copy)]
-pub(crate) struct Sought {
-    pub number: u32,
-    pub nearest: u32,
+// How many lines of an axis lie before a span, and how many up to its end: the lines within it are those between.
+#[derive(Clone, Copy, Debug, PartialEq, Eq)]
+pub struct Between {
     pub below: u32,
     pub upto: u32,
 }
@@ -47,8 +51,8 @@ pub fn nearest_line(
     axis: Axis,
     items: &[u8],
     cursor: u32,
-) -> LineAnswer
-    ensures { result ≡ nearest_line grid words.now axis items.now cursor }
+) -> Result<i32, Fault>
+    ensures { answered_line result ≡ nearest_line grid words.now axis items.now cursor }
 {
     walk::nearest_on(grid_in(grid, axis), axis_words(words, axis), items, cursor)
 }
@@ -62,8 +66,8 @@ pub fn lines_within(
     items: &[u8],
     low: u32,
     high: u32,
-) -> LinesWithin
-    ensures { result ≡ lines_within grid words.now axis items.now low high }
+) -> Result<Between, Fault>
+    ensures { answered_between result ≡ lines_within grid words.now axis items.now low high }
 {
     walk::lines_on(
         grid_in(grid, axis),
@@ -75,11 +79,11 @@ pub fn lines_within(
 }
 
 // What positions on no axis are refused by: their range first.
-pub fn positions_on_no_axis(low: u32, high: u32) -> u32
-    ensures { result ≡ no_axis_positions low high }
+pub fn positions_on_no_axis(low: u32, high: u32) -> Fault
+    ensures { number_of result ≡ no_axis_positions low high }
 {
     if walk::are_lengths(low, high) {
-        return COUNT;
+        return Fault::Count;
     }
-    VALUE
+    Fault::Value
 }

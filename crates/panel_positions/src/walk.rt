@@ -7,12 +7,13 @@ ghost use Rattle.sheet_end.specs.End.{inner_in};
 ghost use Rattle.panel_rules.specs.Calls.{axis_tracks};
 ghost use Rattle.line_positions.specs.Steps.{walked_to};
 ghost use Rattle.coordinates.specs.Lines.{to_grid_line};
-ghost use Rattle.panel_positions.specs.Cursor.{records_on, forged, nearest_on, lines_on};
-ghost use Rattle.panel_positions.specs.Steps.{older_refusal, refused_sought, sought_on};
+ghost use Rattle.coordinates.specs.Refusals.{refused_by};
+ghost use Rattle.panel_positions.specs.Cursor.{records_on, forged, answered_line, nearest_on, answered_between, lines_on};
+ghost use Rattle.panel_positions.specs.Steps.{older_refusal, answered_sought, sought_on};
 
-use crate::{LineAnswer, LinesWithin, Sought};
+use crate::Between;
 use axis_tables::AxisGrid;
-use coordinates::refusal::{COUNT, INDEFINITE, SHORT, VALUE};
+use coordinates::Fault;
 use line_positions::{LineWalk, PixelSpan, step};
 use panel_calls::axis_track;
 use sheet_end::size::inner_in;
@@ -29,11 +30,8 @@ const MOST_TRACKS: u32 = 10000;
 fn gutter_after(at: TrackWalk, track: GridTrack, number: u64) -> GridTrack
     ensures { result ≡ gutter_of at.axis.gap (track.collapsed || leb at.plan.opened number) }
 {
-    let axis = at.axis;
-    let plan = at.plan;
-    let gap = axis.gap;
-    let shut = gutter_collapses(track.collapsed, plan.opened, number);
-    gutter(gap, shut)
+    let shut = gutter_collapses(track.collapsed, at.plan.opened, number);
+    gutter(at.axis.gap, shut)
 }
 
 // What the records of an axis say of its lines, the first gutter and then a track and the gutter after it at a time.
@@ -43,19 +41,16 @@ pub(crate) fn walked(grid: AxisGrid, words: &[u64], items: &[u8], span: PixelSpa
     let inner = inner_in(grid.space);
     let tracks = axis_track::axis_tracks(grid);
     let count = track_record::plan::track_count(tracks);
-    let gap = tracks.gap;
-    let first = gutter(gap, true);
+    let first = gutter(tracks.gap, true);
     let begun = step::begin();
     let mut at = axis_track::first_on(grid, words, items);
     let mut walk = step::position_step(span, inner, begun, 2 * count, 0, first);
-    let mut done: u32 = 0;
-    while done < count {
+    for done in 0..count {
         let track = axis_track::carried_on(grid, words, items, at, 2 * done as usize + 1);
         let after = gutter_after(at, track, done as u64 + 1);
         let met = step::position_step(span, inner, walk, 2 * count, 2 * done + 1, track);
         walk = step::position_step(span, inner, met, 2 * count, 2 * done + 2, after);
         at = axis_track::next_on(grid, words, at, 2 * done as usize + 2);
-        done += 1;
     }
     walk
 }
@@ -64,74 +59,55 @@ pub(crate) fn walked(grid: AxisGrid, words: &[u64], items: &[u8], span: PixelSpa
 fn is_forged(grid: AxisGrid) -> bool
     ensures { result ≡ forged grid }
 {
-    if MOST_TRACKS < grid.size.explicit {
-        return true;
-    }
-    if MOST_TRACKS < grid.implicit.negative {
-        return true;
-    }
-    MOST_TRACKS < grid.implicit.positive
+    MOST_TRACKS < grid.size.explicit
+        || MOST_TRACKS < grid.implicit.negative
+        || MOST_TRACKS < grid.implicit.positive
 }
 
 // Whether bits are those of two lengths in range.
 pub(crate) fn are_lengths(low: u32, high: u32) -> bool
     ensures { result ≡ (length_in_range low && length_in_range high) }
 {
-    if length_in_range(low) {
-        return length_in_range(high);
-    }
-    false
+    length_in_range(low) && length_in_range(high)
 }
 
-// What is refused before the records are walked, 0 where nothing is.
-fn older_refusal(grid: AxisGrid, items: usize, low: u32, high: u32) -> u32
-    ensures { result ≡ older_refusal grid items low high }
+// What is refused before the records are walked.
+#[tactic(auto, unfolding(crate::specs::Steps::older_refusal))]
+fn check_span(grid: AxisGrid, items: usize, low: u32, high: u32) -> Result<(), Fault>
+    ensures { refused_by result ≡ older_refusal grid items low high }
 {
     if !are_lengths(low, high) {
-        return VALUE;
+        return Err(Fault::Value);
     }
     if is_forged(grid) {
-        return COUNT;
+        return Err(Fault::Count);
     }
     if items < track_record::plan::track_count(axis_track::axis_tracks(grid)) as usize {
-        return SHORT;
+        return Err(Fault::Short);
     }
-    0
+    Ok(())
 }
 
-// A refusal and zeros.
-fn refused(number: u32) -> Sought
-    ensures { result ≡ refused_sought number }
+// What is sought of the lines of an axis: a walk over records that are all definite.
+fn sought_on(
+    grid: AxisGrid,
+    words: &[u64],
+    items: &[u8],
+    low: u32,
+    high: u32,
+) -> Result<LineWalk, Fault>
+    ensures { answered_sought result ≡ sought_on grid words.now items.now low high }
 {
-    Sought {
-        number,
-        nearest: 0,
-        below: 0,
-        upto: 0,
-    }
-}
-
-// What is sought of the lines of an axis.
-fn sought_on(grid: AxisGrid, words: &[u64], items: &[u8], low: u32, high: u32) -> Sought
-    ensures { result ≡ sought_on grid words.now items.now low high }
-{
-    let number = older_refusal(grid, items.len(), low, high);
-    if number != 0 {
-        return refused(number);
-    }
+    check_span(grid, items.len(), low, high)?;
     let span = PixelSpan {
         low: length_of(low),
         high: length_of(high),
     };
     let walk = walked(grid, words, items, span);
-    if !walk.definite {
-        return refused(INDEFINITE);
-    }
-    Sought {
-        number: 0,
-        nearest: walk.nearest,
-        below: walk.below,
-        upto: walk.upto,
+    if walk.definite {
+        Ok(walk)
+    } else {
+        Err(Fault::Indefinite)
     }
 }
 
@@ -143,24 +119,23 @@ fn grid_line_at(place: u32, negative: u32, explicit: u32) -> i32
     ensures { result ≡ to_grid_line explicit (pos place -ℤ pos negative) }
 {
     if negative <= place {
-        return (place - negative + 1) as i32;
+        (place - negative + 1) as i32
+    } else {
+        -1 - (negative - place + explicit) as i32
     }
-    -1 - (negative - place + explicit) as i32
 }
 
 // The line of an axis nearest to a cursor.
-pub(crate) fn nearest_on(grid: AxisGrid, words: &[u64], items: &[u8], cursor: u32) -> LineAnswer
-    ensures { result ≡ nearest_on grid words.now items.now cursor }
+pub(crate) fn nearest_on(
+    grid: AxisGrid,
+    words: &[u64],
+    items: &[u8],
+    cursor: u32,
+) -> Result<i32, Fault>
+    ensures { answered_line result ≡ nearest_on grid words.now items.now cursor }
 {
-    let sought = sought_on(grid, words, items, cursor, cursor);
-    if sought.number != 0 {
-        return LineAnswer {
-            number: sought.number,
-            line: 0,
-        };
-    }
-    let line = grid_line_at(sought.nearest, grid.implicit.negative, grid.size.explicit);
-    LineAnswer { number: 0, line }
+    let sought = sought_on(grid, words, items, cursor, cursor)?;
+    Ok(grid_line_at(sought.nearest, grid.implicit.negative, grid.size.explicit))
 }
 
 // The lines of an axis around a span.
@@ -170,13 +145,12 @@ pub(crate) fn lines_on(
     items: &[u8],
     low: u32,
     high: u32,
-) -> LinesWithin
-    ensures { result ≡ lines_on grid words.now items.now low high }
+) -> Result<Between, Fault>
+    ensures { answered_between result ≡ lines_on grid words.now items.now low high }
 {
-    let sought = sought_on(grid, words, items, low, high);
-    LinesWithin {
-        number: sought.number,
+    let sought = sought_on(grid, words, items, low, high)?;
+    Ok(Between {
         below: sought.below,
         upto: sought.upto,
-    }
+    })
 }

@@ -1,4 +1,5 @@
 -- The least resize after an accepted sheet and any entry calls. Assumes nothing.
+use Rattle.std.specs.Prelude.{Option, Some}
 use Prim.Native.Nat.{ℕ}
 use mathlib.Core.Path.{◌≡◌, refl, sym, ap, ◌∙◌, subst}
 use mathlib.Core.Bool.{Bool, cond}
@@ -16,8 +17,6 @@ use Rattle.template_rules.specs.Template.{Component}
 use Rattle.template_rules.specs.Space.{whole32}
 use Rattle.template_rules.specs.Summary.{meaning_of, no_components}
 use Rattle.template_rules.specs.Explicit.{template_size_of, inner_value}
-use Rattle.template_rules.specs.declared.InnerSize.{InnerSize}
-use Rattle.template_rules.specs.declared.InnerSize.TheVariants.{Definite}
 use Rattle.template_rules.specs.declared.AutoRepeatStrategy.{AutoRepeatStrategy}
 use Rattle.template_rules.specs.declared.TemplateSize.{TemplateSize}
 use Rattle.explicit_size.specs.Repeat.{gathered_of, repetitions_in}
@@ -51,19 +50,19 @@ none-asked definite inner strategy gap cs _ (resize_refused h) e = refl
 
 -- ---- the count now
 module _ (l : AxisLine) (is : List Item) (size : ℕ) (between : Float) (a : Asked l.definite l.inner (sizing_of l.gap) (components_of is) size between) where
-  inner-is : inner_of l ≡ Definite (whole32 size)
-  inner-is = rw (ne_eqb l.definite 0 a.sized) (ap Definite a.pixels.same)
+  inner-is : inner_of l ≡ Some (whole32 size)
+  inner-is = rw (ne_eqb l.definite 0 a.sized) (ap Some a.pixels.same)
 
   -- layer 3's answer for the `axis` record, at the size that it says
-  size_is : size_for l is ≡ template_size_of (Definite (whole32 size)) (strategy_of l) (Length between) (meaning_of (whole32 size) (components_of is))
+  size_is : size_for l is ≡ template_size_of (Some (whole32 size)) (strategy_of l) (Length between) (meaning_of (whole32 size) (components_of is))
   size_is =
-      ap (λ (i : InnerSize). template_size_of i (strategy_of l) (sizing_of l.gap) (meaning_of (inner_value i) (components_of is))) inner-is
-      ∙ ap (λ (g : Sizing). template_size_of (Definite (whole32 size)) (strategy_of l) g (meaning_of (whole32 size) (components_of is))) a.apart
+      ap (λ (i : Option Float). template_size_of i (strategy_of l) (sizing_of l.gap) (meaning_of (inner_value i) (components_of is))) inner-is
+      ∙ ap (λ (g : Sizing). template_size_of (Some (whole32 size)) (strategy_of l) g (meaning_of (whole32 size) (components_of is))) a.apart
 
   count-is : repetitions_at (strategy_of l) between (components_of is) size ≡ (size_for l is).repetitions
   unfolding repetitions_in gathered_of
   count-is =
-      ap (λ (t : Bool). (template_size_of (Definite (whole32 size)) (strategy_of l) (Length between) (cond t (meaning_of (whole32 size) (components_of is)) no_components)).repetitions)
+      ap (λ (t : Bool). (template_size_of (Some (whole32 size)) (strategy_of l) (Length between) (cond t (meaning_of (whole32 size) (components_of is)) no_components)).repetitions)
       (le-leb (length (components_of is)) 64 a.few)
       ∙ ap (λ (t : TemplateSize). t.repetitions) (sym size_is)
 

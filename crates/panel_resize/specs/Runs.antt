@@ -1,12 +1,11 @@
 -- The least resize after an accepted sheet and any entry calls, refused ones included.
-use Rattle.std.specs.Prelude.{ℕ, ◌≡◌, List, Float}
+use Rattle.std.specs.Prelude.{ℕ, ◌≡◌, List, Float, Some}
 use Rattle.coordinates.specs.declared.axis.Axis.{Axis}
 use Rattle.sizing.specs.Words.{sizing_of}
 use Rattle.sizing.specs.declared.Sizing.TheVariants.{Length}
 use Rattle.template_rules.specs.Template.{Component}
 use Rattle.template_rules.specs.Space.{whole32}
 use Rattle.template_rules.specs.Css.{Repetitions}
-use Rattle.template_rules.specs.declared.InnerSize.TheVariants.{Definite}
 use Rattle.axis_tables.specs.View.{AxisLine, components_of}
 use Rattle.panel_tables.specs.Axes.{grid_in}
 use Rattle.sheet_rules.specs.Sheet.{strategy_of, counted}
@@ -49,4 +48,4 @@ pub record ResizeTheorem (s : List ℕ) (t : Tables) (calls : List Call) (a : Ax
   pub now : (size : ℕ) (between : Float) → AskedIn s a size between → count_at s a between size ≡ (size_of (run_of s t calls) a).repetitions
   -- the count at every size is CSS's
   pub css : (size : ℕ) (between : Float) → AskedIn s a size between → (tried : ℕ)
-      → Repetitions (Definite (whole32 tried)) (strategy_of (line_of s a)) (Length between) (counted_of s a) (count_at s a between tried)
+      → Repetitions (Some (whole32 tried)) (strategy_of (line_of s a)) (Length between) (counted_of s a) (count_at s a between tried)

@@ -3,33 +3,49 @@
 #![tactic(auto)]
 
 ghost use Rattle.std.specs.Prelude.{◌≡◌};
-ghost use Rattle.panel_resize.specs.Resize.{least_resize_in};
+ghost use Rattle.least_resize.specs.Answer.{answered_resize, inner_by};
+ghost use Rattle.panel_resize.specs.Resize.{axis_resize, least_resize_in};
 
-use coordinates::Axis;
-use least_resize::ResizeAnswer;
+use axis_tables::{AxisGrid, AxisSpace};
+use coordinates::{Axis, Fault};
 use least_resize::answer::resize_answer;
-use panel_calls::part::{components_of, maximums_of, minimums_of};
+use panel_calls::part::template_on;
 use panel_tables::Grid;
 use panel_tables::axis::grid_in;
 use panel_tables::region::{PANEL_WORDS, axis_words};
 use sheet_end::size::strategy_in;
 use sizing::word::sizing_of;
 
+// The bits of the inner size of an axis that has one.
+fn inner_given(space: AxisSpace) -> Option<u32>
+    ensures { result ≡ inner_by space.definite space.inner }
+{
+    match space.definite {
+        0 => None,
+        _ => Some(space.inner),
+    }
+}
+
+// The least resize of one axis, from its state and its words.
+fn resize_on(grid: AxisGrid, words: &[u64]) -> Result<Option<u32>, Fault>
+    ensures { answered_resize result ≡ axis_resize grid words.now }
+{
+    resize_answer(
+        template_on(grid, words),
+        inner_given(grid.space),
+        strategy_in(grid.space),
+        sizing_of(grid.space.gap),
+    )
+}
+
 // The nearest whole size at which the automatic repeat of an axis is written out another number of times, the wider of two. 3: the template
 // counts as none or has no automatic repeat, the axis has no inner size or none that is whole, or its gap is no length.
-pub fn least_resize(grid: Grid, words: &[u64; PANEL_WORDS], axis: Axis) -> ResizeAnswer
-    ensures { result ≡ least_resize_in grid words.now axis }
+pub fn least_resize(
+    grid: Grid,
+    words: &[u64; PANEL_WORDS],
+    axis: Axis,
+) -> Result<Option<u32>, Fault>
+    ensures { answered_resize result ≡ least_resize_in grid words.now axis }
 {
-    let own = grid_in(grid, axis);
-    let lent = axis_words(words, axis);
-    let space = own.space;
-    resize_answer(
-        components_of(own, lent),
-        minimums_of(own, lent),
-        maximums_of(own, lent),
-        space.definite,
-        space.inner,
-        strategy_in(space),
-        sizing_of(space.gap),
-    )
+    resize_on(grid_in(grid, axis), axis_words(words, axis))
 }

@@ -9,6 +9,8 @@ use lib.Dec.{eqb}
 use lib.IntN.{ℤ}
 use lib.ListN.{length, set}
 use lib.Seq.{sets, set_comm}
+use denote.Enum.Declared.{tag_of}
+use Rattle.coordinates.specs.contracts.axis.Axis.{the_type}
 use Rattle.coordinates.specs.declared.axis.Axis.{Axis}
 use Rattle.coordinates.specs.declared.axis.Axis.TheVariants.{Column, Row}
 use Rattle.name_lines.proofs.Suffixes.{never}
@@ -27,6 +29,13 @@ use Rattle.panel_resolving.specs.declared.write.Run.{Run}
 use Rattle.panel_resolving.specs.Chosen.{chosen_sets, on_axis, numbers_by, run_of}
 use Rattle.panel_resolving.specs.Placements.{numbers_of, run_numbers}
 use Rattle.panel_resolving.proofs.Numbers.{put_on}
+
+-- axes are the same where their numbers are
+pub same-axis : (a b : Axis) → eqb (tag_of the_type a) (tag_of the_type b) ≡ eqb (axis_number a) (axis_number b)
+same-axis Column Column = refl
+same-axis Column Row = refl
+same-axis Row Column = refl
+same-axis Row Row = refl
 
 -- ---- one more in the loop
 

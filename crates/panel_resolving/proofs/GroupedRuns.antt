@@ -9,37 +9,37 @@ use lib.Dec.{leb}
 use lib.IntN.{ℤ}
 use Rattle.name_lines.specs.Areas.{axis_names}
 use Rattle.name_groups.specs.Keys.{key_count}
-use Rattle.name_groups.specs.Groups.{Grouped, index_fits}
+use Rattle.name_groups.specs.Groups.{Grouped}
 use Rattle.name_groups.specs.declared.key.Grouping.{Grouping}
 use Rattle.name_groups.specs.declared.key.Grouping.TheVariants.{Whole, Few, Many}
 use Rattle.name_resolver.specs.declared.Line.{Line}
-use Rattle.name_resolver.specs.declared.Resolution.{Resolution}
+use Rattle.name_resolver.specs.Placements.{Resolution}
 use Rattle.name_resolver.specs.Placements.{resolution_of}
 use Rattle.axis_tables.specs.Runs.{part_of}
 use Rattle.panel_resolving.specs.declared.write.Run.{Run}
 use Rattle.panel_resolving.specs.Names.{bears_by, resolution_by}
-use Rattle.panel_resolving.specs.Chosen.{chosen_sets, on_axis, numbers_by, run_grouped, grouping_for}
+use Rattle.panel_resolving.specs.Chosen.{GroupsFit, chosen_sets, on_axis, numbers_by, run_grouped, grouping_for}
 use Rattle.panel_resolving.proofs.Grouping.{grouped-resolving}
 
 -- groups are not all together
-pub few-parted : Few ≡ Whole → ⊥
+few-parted : Few ≡ Whole → ⊥
 few-parted e = let z : ◌≡◌ {A = ℕ} 128 0 = ap key_count e in omega arith
 
-pub many-parted : Many ≡ Whole → ⊥
+many-parted : Many ≡ Whole → ⊥
 many-parted e = let z : ◌≡◌ {A = ℕ} 1024 0 = ap key_count e in omega arith
 
 -- the entries fit their index
-pub few_fit : (n : ℕ) → n ≤ 128 → index_fits Few n 128 256 ≡ true
-few_fit n h = rw (le-leb n 4096 (omega arith), le-leb n 128 h, le-leb (128 + n) 256 (omega arith))
+few_fit : (n : ℕ) → n ≤ 128 → GroupsFit Few n 128 256
+few_fit n h = record { parted = few-parted; fit = rw (le-leb n 4096 (omega arith), le-leb n 128 h, le-leb (128 + n) 256 (omega arith)) }
 
-pub many_fit : (n : ℕ) → n ≤ 4096 → index_fits Many n 4096 5120 ≡ true
-many_fit n h = rw (le-leb n 4096 h, le-leb (1024 + n) 5120 (omega arith))
+many_fit : (n : ℕ) → n ≤ 4096 → GroupsFit Many n 4096 5120
+many_fit n h = record { parted = many-parted; fit = rw (le-leb n 4096 h, le-leb (1024 + n) 5120 (omega arith)) }
 
 -- how many there are where they are kept in groups
 module _ (n count : ℕ) where
-  pub few-entries : (g : Grouping) → g ≡ grouping_for n count → g ≡ Few → n ≤ 128
+  pub few-entries : (g : Grouping) → g ≡ grouping_for n count → g ≡ Few → GroupsFit Few n 128 256
   unfolding grouping_for
-  few-entries g e f = go (leb n (256 / (count + 1))) (leb n 128) (leb n 4096) refl (sym e ∙ f)
+  few-entries g e f = few_fit n (go (leb n (256 / (count + 1))) (leb n 128) (leb n 4096) refl (sym e ∙ f))
     where
       go : (a b d : Bool) → leb n 128 ≡ b → cond a Whole (cond b Few (cond d Many Whole)) ≡ Few → n ≤ 128
       go true b d q h = absurd (few-parted (sym h))
@@ -47,9 +47,9 @@ module _ (n count : ℕ) where
       go false false true q h = let z : ◌≡◌ {A = ℕ} 1024 128 = ap key_count h in absurd (omega arith)
       go false false false q h = absurd (few-parted (sym h))
 
-  pub many-entries : (g : Grouping) → g ≡ grouping_for n count → g ≡ Many → n ≤ 4096
+  pub many-entries : (g : Grouping) → g ≡ grouping_for n count → g ≡ Many → GroupsFit Many n 4096 5120
   unfolding grouping_for
-  many-entries g e f = go (leb n (256 / (count + 1))) (leb n 128) (leb n 4096) refl (sym e ∙ f)
+  many-entries g e f = many_fit n (go (leb n (256 / (count + 1))) (leb n 128) (leb n 4096) refl (sym e ∙ f))
     where
       go : (a b d : Bool) → leb n 4096 ≡ d → cond a Whole (cond b Few (cond d Many Whole)) ≡ Many → n ≤ 4096
       go true b d q h = absurd (many-parted (sym h))

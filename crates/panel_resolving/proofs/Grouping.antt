@@ -10,10 +10,10 @@ use Rattle.coordinates.specs.Refusals.{no_refusal}
 use Rattle.name_rules.specs.Css.{Bytes, AxisNames}
 use Rattle.name_rules.specs.Rule.{any, drawn?, named?}
 use Rattle.name_lines.specs.Areas.{axis_names, bears}
-use Rattle.name_groups.specs.Groups.{Grouped, Lists}
+use Rattle.name_groups.specs.Groups.{Grouped}
 use Rattle.name_groups.proofs.Ungrouped.{whole_grouped}
 use Rattle.name_resolver.specs.declared.Line.{Line}
-use Rattle.name_resolver.specs.declared.Resolution.{Resolution}
+use Rattle.name_resolver.specs.Placements.{Resolution}
 use Rattle.name_resolver.specs.Placements.{resolved_line, held_line, refused_resolution, resolution_of}
 use Rattle.name_resolver.specs.Questions.{answered_line}
 use Rattle.name_resolver.proofs.Questions.{line-answer}
@@ -54,10 +54,6 @@ module _ (x : Around) (entries store index areas areabytes : List ℕ) where
 
 -- entries that are kept together
 module _ (axis : Axis) (explicit held : ℕ) (x : Around) (e : x ≡ whole_around axis explicit held) (entries words store : List ℕ) (f : entries ≡ words) where
-  -- nothing is listed
-  pub whole-lists : Lists x.grouping entries store
-  whole-lists = rw e (whole_grouped entries store).lists
-
   -- a placement is resolved beside them
   pub whole-resolution : (areas areabytes bytes : List ℕ) (l : Line) (r : Resolution)
       → r ≡ resolution_by x.explicit (bears_by x entries store areas areabytes) bytes l

@@ -1,6 +1,5 @@
--- Laws of placements: numbers that are held (HeldNumbers), the lines that entries list (Counting, Ascending, Places, Listing), drawn areas
+-- Laws of placements: the lines that entries list (Counting, Ascending, Places, Listing), drawn areas
 -- (DrawnAreas), the lines of a name in its group (Sought), the answer to a question (Finding), one answer (Placed), and runs (Numbers, Choosing, Running).
-pub mod HeldNumbers
 pub mod Counting
 pub mod Ascending
 pub mod Places

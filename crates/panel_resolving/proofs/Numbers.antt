@@ -1,56 +1,51 @@
 -- Resolved placements as numbers: they are small, eight for each, and how many are written. Assumes nothing.
-use Prim.Native.Nat.{ℕ, suc, ◌+◌, ◌-◌, ◌≤◌, ◌<◌}
+use Prim.Native.Nat.{ℕ, suc, ◌+◌, ◌≤◌, ◌<◌}
 use mathlib.Core.Path.{◌≡◌, refl}
 use mathlib.Core.Bool.{Bool, true, false, cond}
 use mathlib.Core.List.{List, ◌++◌}
-use native.Mathlib.Numerals.{add-one, add-two}
 use native.Mathlib.Omega.{arith}
 use borrow.Author.Tests.{eq-eqb, ne_eqb, leb-false, ltb-false}
-use lib.Dec.{eqb, leb, ltb}
-use lib.IntN.{ℤ, pos}
-use lib.ListN.{set}
+use lib.Dec.{leb, ltb}
+use lib.IntN.{ℤ}
 use lib.Seq.{sets}
 use Rattle.coordinates.specs.declared.axis.Axis.{Axis}
 use Rattle.coordinates.specs.declared.axis.Axis.TheVariants.{Column, Row}
-use Rattle.coordinates.specs.Refusals.{count, short}
-use Rattle.name_rules.specs.Css.{Bytes}
-use Rattle.name_resolver.specs.declared.Line.{Line}
+use Rattle.std.specs.Prelude.{Result, Ok, Err}
+use Rattle.coordinates.specs.declared.refusal.Fault.{Fault}
+use Rattle.coordinates.specs.declared.refusal.Fault.TheVariants.{Unread, Name, Value, Count, Area, Twice, Late, Crowded, ZeroLine, Short, Indefinite, Overlap, Unequal, Broken, Unplaced}
+use Rattle.coordinates.specs.Refusals.{number_of, count, short}
+use Rattle.track_rules.proofs.Answers.{fault_some}
 use Rattle.name_resolver.specs.declared.NonNamedGridPlacement.{NonNamedGridPlacement}
 use Rattle.name_resolver.specs.declared.NonNamedGridPlacement.TheVariants.{Auto, Line as AtLine, Span}
-use Rattle.name_resolver.specs.declared.Resolution.{Resolution}
-use Rattle.name_resolver.specs.Placements.{resolved_kind_of, refused_resolution}
-use Rattle.name_resolver.specs.Questions.{answered_line}
-use Rattle.name_resolver.proofs.Questions.{answered-accepted}
-use Rattle.coordinates.specs.Refusals.{no_refusal}
+use Rattle.name_resolver.specs.Placements.{resolved_kind_of}
 use Rattle.panel_tables.specs.declared.Grid.{Grid}
 use Rattle.coordinates.specs.Axes.{axis_number}
-use Rattle.panel_rules.specs.declared.PlacementAnswer.{PlacementAnswer}
 use Rattle.panel_rules.specs.Calls.{NameTables, NamedWords, shorter_store}
-use Rattle.panel_rules.specs.Placing.{refused_placement, placed_by}
-use Rattle.library_numbers.specs.declared.CountAnswer.{CountAnswer}
+use Rattle.panel_rules.specs.declared.PlacedLine.{PlacedLine}
+use Rattle.panel_rules.specs.Placing.{answered_placement}
 use Rattle.library_numbers.specs.declared.PlacementNumbers.{PlacementNumbers}
-use Rattle.library_numbers.specs.Answers.{counted, mark_number, uncounted, placement_numbers}
-use Rattle.panel_resolving.specs.Names.{resolution_by}
-use Rattle.panel_resolving.specs.Placements.{end_numbers, numbers_of, SmallNumbers, run_numbers, numbers_refusal, numbers_count, placements_written}
+use Rattle.library_numbers.specs.Answers.{mark_number, answered_count, placement_numbers}
+use Rattle.panel_resolving.specs.Placements.{numbers_of, SmallNumbers, run_numbers, numbers_refusal, numbers_count, placements_written}
 
 -- ---- the numbers are small
 
--- a placement is refused by 4 or 10
-pub small_by : (explicit : ℕ) (names : Bytes → ℕ → Bool) (bytes : List ℕ) (l : Line) → (resolution_by explicit names bytes l).refusal.number ≤ 10
-unfolding resolution_by
-small_by explicit names bytes l = by (leb explicit 10000)
-  where
-    by : (t : Bool) → (cond t (answered_line names bytes explicit l) refused_resolution).refusal.number ≤ 10
-    by true = rw (answered-accepted names bytes explicit l) (omega arith)
-    by false = omega arith
-
-pub small-placed : (r : Resolution) (a : Axis) (s : Bool) → r.refusal.number ≤ 10 → (placed_by r a s).refusal.number ≤ 10
-small-placed r a s h = by (eqb r.refusal.number 0) s
-  where
-    by : (t s : Bool) → (cond t (cond s (refused_placement short) (record { refusal = no_refusal; axis = a; line = r.line; held = r.held })) (refused_placement r.refusal.number)).refusal.number ≤ 10
-    by true true = omega arith
-    by true false = omega arith
-    by false s = h
+-- the number of a fault is at most 15
+small-fault : (fault : Fault) → number_of fault < 2147483648
+small-fault Unread = omega arith
+small-fault Name = omega arith
+small-fault Value = omega arith
+small-fault Count = omega arith
+small-fault Area = omega arith
+small-fault Twice = omega arith
+small-fault Late = omega arith
+small-fault Crowded = omega arith
+small-fault ZeroLine = omega arith
+small-fault Short = omega arith
+small-fault Indefinite = omega arith
+small-fault Overlap = omega arith
+small-fault Unequal = omega arith
+small-fault Broken = omega arith
+small-fault Unplaced = omega arith
 
 small_axis : (a : Axis) → axis_number a < 2147483648
 small_axis Column = omega arith
@@ -65,11 +60,16 @@ small-mark : (m : Bool) → mark_number m < 2147483648
 small-mark true = omega arith
 small-mark false = omega arith
 
-pub small-numbers : (a : PlacementAnswer) → a.refusal.number ≤ 10 → SmallNumbers (placement_numbers a)
+small_answer : (r : Result PlacedLine Fault) → (answered_placement r).refusal.number < 2147483648
+small_answer (Ok p) = omega arith
+small_answer (Err fault) = small-fault fault
+
+pub small-numbers : (r : Result PlacedLine Fault) → SmallNumbers (placement_numbers (answered_placement r))
 unfolding placement_numbers
-small-numbers a h =
+small-numbers r =
+    let a = answered_placement r in
     record {
-      number = omega arith;
+      number = small_answer r;
       axis = small_axis a.axis;
       startkind = small_kind a.line.start;
       endkind = small_kind a.line.end;
@@ -79,25 +79,7 @@ small-numbers a h =
 
 -- ---- eight numbers
 
--- one by one
-pub put_six : (l l1 l2 l3 l4 l5 l6 : List ℤ) (place : ℕ) (n : PlacementNumbers) → l1 ≡ set l place (pos n.number) → l2 ≡ set l1 (place + 1) (pos n.axis) →
-    l3 ≡ set l2 (place + 2) (pos n.startkind) → l4 ≡ set l3 (place + 3) n.startnumber → l5 ≡ set l4 (place + 4) (pos n.endkind) →
-    l6 ≡ set l5 (place + 5) n.endnumber → l6 ≡ sets l place (end_numbers n)
-put_six l l1 l2 l3 l4 l5 l6 place n a b c d e f =
-    let three : place + 3 ≡ suc (suc (suc place)) = omega arith in
-    let four : place + 4 ≡ suc (suc (suc (suc place))) = omega arith in
-    let five : place + 5 ≡ suc (suc (suc (suc (suc place)))) = omega arith in
-    rw (f, e, d, c, b, a, add-one place, add-two place, three, four, five)
-
--- and the two marks after six
-pub put_eight : (l l6 l7 l8 : List ℤ) (place : ℕ) (n : PlacementNumbers) → l6 ≡ sets l place (end_numbers n) → l7 ≡ set l6 (place + 6) (pos n.startheld) →
-    l8 ≡ set l7 (place + 7) (pos n.endheld) → l8 ≡ sets l place (numbers_of n)
-put_eight l l6 l7 l8 place n a b c =
-    let six : place + 6 ≡ suc (suc (suc (suc (suc (suc place))))) = omega arith in
-    let seven : place + 7 ≡ suc (suc (suc (suc (suc (suc (suc place)))))) = omega arith in
-    rw (c, b, a, six, seven)
-
--- with those after them
+-- eight numbers with those after them
 pub put_on : (l : List ℤ) (place : ℕ) (n : PlacementNumbers) (rest : List ℤ) → sets l place (numbers_of n ++ rest) ≡ sets (sets l place (numbers_of n)) (place + 8) rest
 put_on l place n rest = let e : place + 8 ≡ suc (suc (suc (suc (suc (suc (suc (suc place))))))) = omega arith in rw e
 
@@ -127,19 +109,14 @@ pub few-written : (held first n : ℕ) → first < held → n ≡ numbers_count 
 unfolding numbers_count
 few-written held first n h e = omega (arith, e)
 
--- and of the 256 that a panel holds at most, all
-pub all-written : (held first : ℕ) → held ≤ 256 → numbers_count held first ≡ held - first
-unfolding numbers_count
-all-written held first h = omega arith
-
 module _ (p : Grid) (t : NameTables) (areas placements : NamedWords) (first : ℕ) (lent : List ℤ) where
-  pub run-refused : (number : ℕ) (answer : CountAnswer) → number ≡ numbers_refusal p.placements (shorter_store t) first → (number ≡ 0 → ⊥) →
-      answer ≡ uncounted number → record { answer = answer; numbers = lent } ≡ placements_written p t areas placements first lent
+  pub run-refused : (fault : Fault) → number_of fault ≡ numbers_refusal p.placements (shorter_store t) first →
+      record { answer = answered_count (Err fault); numbers = lent } ≡ placements_written p t areas placements first lent
   unfolding placements_written
-  run-refused number answer e out a = rw (← e, ne_eqb number 0 out, a)
+  run-refused fault e = rw (← e, ne_eqb (number_of fault) 0 (fault_some fault))
 
-  pub run-written : (n : ℕ) (answer : CountAnswer) (after : List ℤ) → numbers_refusal p.placements (shorter_store t) first ≡ 0 →
-      n ≡ numbers_count p.placements first → answer ≡ counted n → after ≡ sets lent 0 (run_numbers p t areas placements first n) →
-      record { answer = answer; numbers = after } ≡ placements_written p t areas placements first lent
+  pub run-written : (n : ℕ) (after : List ℤ) → numbers_refusal p.placements (shorter_store t) first ≡ 0 →
+      n ≡ numbers_count p.placements first → after ≡ sets lent 0 (run_numbers p t areas placements first n) →
+      record { answer = answered_count (Ok n); numbers = after } ≡ placements_written p t areas placements first lent
   unfolding placements_written
-  run-written n answer after z e a w = rw (eq-eqb (numbers_refusal p.placements (shorter_store t) first) 0 z, a, w, e)
+  run-written n after z e w = rw (eq-eqb (numbers_refusal p.placements (shorter_store t) first) 0 z, w, e)

@@ -3,12 +3,14 @@ use mathlib.Core.Logic.{⊎_elim}
 use mathlib.Core.Path.{◌≡◌, refl, ap}
 use mathlib.Core.Bool.{Bool, true, false, cond}
 use mathlib.Core.List.{List, [], ◌∷◌}
-use Prim.Native.Nat.{ℕ, zero, suc, ◌+◌, ◌≤◌, ◌<◌}
+use Prim.Native.Nat.{ℕ, zero, suc, ◌≤◌, ◌<◌}
 use native.Mathlib.Omega.{arith}
 use borrow.Author.Tests.{le-leb, lt-leb, leb-true, leb-false}
 use lib.Dec.{leb}
 use lib.ListN.{length}
 use Rattle.coordinates.proofs.Lines.{lt_or_ge}
+use Rattle.std.specs.List.Sorted.{IsNonDecreasingBy}
+use Rattle.std.proofs.lemmas.List.Sorted.{IsNonDecreasingBy-from_default}
 use Rattle.name_entries.specs.Entries.{entry_of}
 use Rattle.panel_resolving.specs.Listing.{line_at, up_to}
 use Rattle.panel_resolving.proofs.Counting.{Parted}
@@ -57,11 +59,9 @@ count-parted (w ∷ ws) h n = go (leb (entry_of w).line n) refl (count-parted ws
         above zero a b = leb-false (entry_of w).line n e
         above (suc i) a b = omega (arith, h 0 (suc i) (omega arith) b, leb-false (entry_of w).line n e)
 
-module _ (ws : List ℕ) (h : Ascending ws) (n k : ℕ) where
-  -- where the line at place k is at most n, so are those before it
-  pub below-through : k < length ws → line_at ws k ≤ n → (i : ℕ) → i < k + 1 → line_at ws i ≤ n
-  below-through a e i g = ⊎_elim (λ b. omega (arith, h i k b a)) (λ b. let s : k ≡ i = omega arith in rw s at e) (lt_or_ge i k)
-
-  -- where it is above n, so are those after it
-  pub above_from : n < line_at ws k → (i : ℕ) → k ≤ i → i < length ws → n < line_at ws i
-  above_from e i g a = ⊎_elim (λ b. omega (arith, h k i b a)) (λ b. let s : k ≡ i = omega arith in rw s at e) (lt_or_ge k i)
+-- no line is above one after it
+pub non_decreasing_lem : (ws : List ℕ) → Ascending ws → IsNonDecreasingBy (λ w. (entry_of w).line) ws
+non_decreasing_lem ws h = IsNonDecreasingBy-from_default (λ w. (entry_of w).line) ws 0 go
+  where
+    go : (i j : ℕ) → i ≤ j → j < length ws → line_at ws i ≤ line_at ws j
+    go i j a b = ⊎_elim (λ c. omega (arith, h i j c b)) (λ c. let s : j ≡ i = omega arith in rw s (omega arith)) (lt_or_ge i j)

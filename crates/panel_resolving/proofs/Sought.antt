@@ -9,7 +9,6 @@ use Rattle.name_rules.specs.Rule.{any, written?}
 use Rattle.name_entries.specs.Entries.{entries_of}
 use Rattle.name_lines.specs.Areas.{areas_of, edged_by, bears_joined, sought_in}
 use Rattle.name_lines.specs.Suffixes.{tail_of}
-use Rattle.name_lines.specs.declared.suffix.AreaEdge.{AreaEdge}
 use Rattle.name_lines.proofs.Marking.{or_false}
 use Rattle.name_lines.proofs.Suffixes.{never}
 use Rattle.name_groups.specs.Listed.{listed, listed_from}
@@ -21,13 +20,15 @@ use Rattle.panel_resolving.specs.Listing.{LinesAscend, on_line, first_named, nam
 use Rattle.panel_resolving.specs.Drawn.{edges_drawn}
 use Rattle.panel_resolving.proofs.Listing.{ascends, all_named, none_named}
 use Rattle.panel_resolving.proofs.DrawnAreas.{none_edged_by}
+use Rattle.std.specs.Prelude.{Option}
+use Rattle.name_lines.specs.declared.GridAreaEnd.{GridAreaEnd}
 
 -- what is asked of listed entries only
 pub has_when : (flag x has : Bool) → has ≡ (flag && x) → flag ≡ true → has ≡ x
 has_when true x has e p = e
 has_when false x has e p = never p
 
-module _ (axis : Axis) (store edges areas areastore : List ℕ) (stem : Bytes) (edge : AreaEdge) (part own : List ℕ) (flag has : Bool)
+module _ (axis : Axis) (store edges areas areastore : List ℕ) (stem : Bytes) (edge : Option GridAreaEnd) (part own : List ℕ) (flag has : Bool)
     (l : flag ≡ true → listed store part ≡ true) (f : flag ≡ true → has ≡ first_named store part (stem ++ tail_of edge)) (o : own ≡ named_part part flag has) where
   -- where the entries list another name, none of them has this one
   own-entries : (k : ℕ) → any (written? (stem ++ tail_of edge) (suc k)) (entries_of own store) ≡ any (written? (stem ++ tail_of edge) (suc k)) (entries_of part store)
@@ -73,6 +74,6 @@ module _ (axis : Axis) (store edges areas areastore : List ℕ) (stem : Bytes) (
         ∙ ap (λ (b : Bool). any (written? (stem ++ tail_of edge) (suc k)) (entries_of part store) || b) (sym (none_edged_by axis edges areas areastore stem edge (suc k) d)))
 
 -- the entries of a group that is said to be listed are
-pub part_listed : (g : Grouping) (index store : List ℕ) (stem : Bytes) (edge : AreaEdge) → Lists g index store → (group : Group) (part : List ℕ)
+pub part_listed : (g : Grouping) (index store : List ℕ) (stem : Bytes) (edge : Option GridAreaEnd) → Lists g index store → (group : Group) (part : List ℕ)
     → group ≡ group_at g index (joined_key g stem edge) → part ≡ group_part index group → group.listed ≡ true → listed store part ≡ true
 part_listed g index store stem edge h group part e f l = rw (f, e) (h stem edge (ap (λ (x : Group). x.listed) (sym e) ∙ l))

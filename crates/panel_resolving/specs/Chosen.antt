@@ -3,11 +3,12 @@ use Rattle.std.specs.Prelude.{◌≡◌, ℕ, zero, suc, ◌+◌, ◌/◌, Bool,
 use Rattle.std.proofs.lemmas.List.Edits.{sets}
 use Rattle.coordinates.specs.declared.axis.Axis.{Axis}
 use Rattle.name_resolver.specs.declared.Line.{Line}
-use Rattle.name_resolver.specs.declared.Resolution.{Resolution}
+use Rattle.name_resolver.specs.Placements.{Resolution}
 use Rattle.coordinates.specs.Axes.{axis_number}
 use Rattle.panel_tables.specs.Placements.{placement_at}
 use Rattle.panel_rules.specs.Placing.{line_placement, placed_by}
 use Rattle.library_numbers.specs.Answers.{placement_numbers}
+use Rattle.name_groups.specs.Groups.{index_fits}
 use Rattle.name_groups.specs.declared.key.Grouping.{Grouping}
 use Rattle.name_groups.specs.declared.key.Grouping.TheVariants.{Whole, Few, Many}
 use Rattle.panel_resolving.specs.declared.write.Run.{Run}
@@ -44,6 +45,11 @@ grouping_for entries count =
     cond (leb entries (256 / (count + 1))) Whole
     (cond (leb entries 128) Few
     (cond (leb entries 4096) Many Whole))
+
+-- so many entries are kept in groups, with so many keys lent, and fit an index of so many words
+pub record GroupsFit (g : Grouping) (entries keys words : ℕ) : Type 0 where
+  pub parted : g ≡ Whole → ⊥
+  pub fit : index_fits g entries keys words ≡ true
 
 -- the placements of an axis in a run, its entries kept together
 abbrev pub run_of : Axis → ℕ → ℕ → ℕ → ℕ → Run

@@ -8,11 +8,13 @@ use Rattle.name_groups.specs.Groups.{group_at, group_part}
 use Rattle.name_search.specs.Sought.{marks_of}
 use Rattle.name_search.specs.declared.Sought.{Sought}
 use Rattle.name_resolver.specs.declared.Line.{Line}
-use Rattle.name_resolver.specs.declared.Resolution.{Resolution}
+use Rattle.name_resolver.specs.Placements.{Resolution}
 use Rattle.name_resolver.specs.Placements.{refused_resolution}
 use Rattle.name_resolver.specs.Questions.{answered_line}
 use Rattle.axis_tables.specs.Runs.{part_of}
+use Rattle.panel_tables.specs.Regions.{area_words_in, area_bytes_in}
 use Rattle.panel_resolving.specs.declared.Around.{Around}
+use Rattle.panel_resolving.specs.declared.Beside.{Beside}
 
 -- the entries of a name's group
 abbrev pub part_of_name : Around → List ℕ → Bytes → List ℕ
@@ -37,3 +39,10 @@ resolution_by explicit names bytes l =
     cond (leb explicit 10000)
     (answered_line names bytes explicit l)
     refused_resolution
+
+-- the same beside an index, a store and the tables of a panel
+abbrev pub names_beside : Beside → Bytes → ℕ → Bool
+names_beside x = bears_by x.around x.index.now x.store.now (area_words_in x.words.now) (area_bytes_in x.bytes.now)
+
+abbrev pub sought_beside : Beside → Sought → Bytes → ℕ → Bool
+sought_beside x s stem = sought_by x.around s x.index.now x.store.now (area_words_in x.words.now) (area_bytes_in x.bytes.now) stem

@@ -1,5 +1,5 @@
 // Placements of the table as the resolver reads them.
-ghost use Rattle.std.specs.Prelude.{◌≡◌, min};
+ghost use Rattle.std.specs.Prelude.{◌≡◌};
 ghost use Rattle.panel_rules.specs.Placing.{held_index, held_span, name_at, end_by, end_placement, line_placement};
 
 use coordinates::GridLine;
@@ -14,22 +14,12 @@ fn held_index(number: i32) -> i16
     joined(split(number))
 }
 
-// A count of 16 bits, or the largest.
-fn held_count(count: u32) -> u16
-    ensures { result ≡ min count 65535 }
-{
-    if count < 65535 {
-        return count as u16;
-    }
-    65535
-}
-
 // A span, or the nearest.
 fn held_span(number: i32) -> u16
     ensures { result ≡ held_span number }
 {
     match split(number) {
-        Signed::NonNegative(n) => held_count(n),
+        Signed::NonNegative(n) => n.min(65535) as u16,
         Signed::Negative(_) => 0,
     }
 }
@@ -48,8 +38,7 @@ fn name_at(end: EndPlace) -> Name
 fn end_by(kind: u32, end: EndPlace) -> GridPlacement
     ensures { result ≡ end_by kind end }
 {
-    let written = end.end;
-    let number = written.number;
+    let number = end.end.number;
     match kind {
         0 => GridPlacement::Auto,
         1 => GridPlacement::Line(GridLine(held_index(number))),
@@ -64,15 +53,15 @@ fn end_by(kind: u32, end: EndPlace) -> GridPlacement
 fn end_placement(end: EndPlace) -> GridPlacement
     ensures { result ≡ end_placement end }
 {
-    let written = end.end;
-    end_by(written.kind, end)
+    end_by(end.end.kind, end)
 }
 
 // Both ends.
 pub fn line_placement(place: PlacementPlace) -> Line
     ensures { result ≡ line_placement place }
 {
-    let start = end_placement(place.start);
-    let end = end_placement(place.end);
-    Line { start, end }
+    Line {
+        start: end_placement(place.start),
+        end: end_placement(place.end),
+    }
 }

@@ -15,12 +15,23 @@ mod write;
 
 use coordinates::Axis;
 use name_groups::key::Grouping;
+use panel_tables::region::{PANEL_BYTES, PANEL_WORDS};
 
 // What a placement is resolved beside: the axis and its explicit count, how many areas are drawn, and how the name entries are kept.
-#[derive(Clone, Copy)]
+#[derive(Clone, Copy, Debug, PartialEq, Eq)]
 pub(crate) struct Around {
     pub axis: Axis,
     pub explicit: u32,
     pub areas: u32,
     pub grouping: Grouping,
+}
+
+// What a placement of a run is resolved beside: the index of the name entries with the store of their names, and the words and bytes of the panel.
+#[derive(Clone, Copy)]
+pub(crate) struct Beside<'a> {
+    pub around: Around,
+    pub index: &'a [u64],
+    pub store: &'a [u8],
+    pub words: &'a [u64; PANEL_WORDS],
+    pub bytes: &'a [u8; PANEL_BYTES],
 }

@@ -1,12 +1,14 @@
 // A resolved placement as eight numbers.
 ghost use Rattle.std.specs.Prelude.{◌≡◌, ◌+◌, ◌≤◌, ◌<◌, pos, length, set};
 ghost use Rattle.std.proofs.lemmas.List.Edits.{sets};
+ghost use Rattle.panel_rules.specs.Placing.{answered_placement};
 ghost use Rattle.library_numbers.specs.Answers.{placement_numbers};
 ghost use Rattle.panel_resolving.specs.Placements.{SmallNumbers, end_numbers, numbers_of};
 
+use coordinates::Fault;
 use library_numbers::PlacementNumbers;
 use library_numbers::numbers::placement_numbers;
-use panel_rules::PlacementAnswer;
+use panel_rules::PlacedLine;
 
 // How many numbers a placement takes.
 pub(crate) const PLACEMENT_NUMBERS: usize = 8;
@@ -16,8 +18,7 @@ fn put_whole(numbers: &mut [i32], place: usize, number: u32)
     requires { (place < length numbers.old) × (number < 2147483648) }
     ensures { numbers.new ≡ set numbers.old place (pos number) }
 {
-    let signed = number as i32;
-    numbers[place] = signed;
+    numbers[place] = number as i32;
 }
 
 // Writes a number with a sign at a place.
@@ -52,9 +53,9 @@ fn put_numbers(numbers: &mut [i32], place: usize, answer: PlacementNumbers)
 }
 
 // Writes a resolved placement at a place.
-pub(crate) fn put_placement(numbers: &mut [i32], place: usize, answer: PlacementAnswer)
-    requires { (place + 8 ≤ length numbers.old) × (answer.refusal.number ≤ 10) }
-    ensures { numbers.new ≡ sets numbers.old place (numbers_of (placement_numbers answer)) }
+pub(crate) fn put_placement(numbers: &mut [i32], place: usize, answer: Result<PlacedLine, Fault>)
+    requires { place + 8 ≤ length numbers.old }
+    ensures { numbers.new ≡ sets numbers.old place (numbers_of (placement_numbers (answered_placement answer))) }
 {
     put_numbers(numbers, place, placement_numbers(answer));
 }

@@ -2,17 +2,17 @@
 ghost use Rattle.std.specs.Prelude.{◌≡◌, ◌*◌, ◌+◌, ◌≤◌, length};
 ghost use Rattle.std.proofs.lemmas.List.Edits.{sets};
 ghost use Rattle.panel_rules.specs.Calls.{NameTables, NamedWords, area_table_in, name_tables_in, placement_table_in, shorter_store};
+ghost use Rattle.coordinates.specs.Refusals.{refused_by};
+ghost use Rattle.library_numbers.specs.Answers.{answered_count};
 ghost use Rattle.panel_resolving.specs.Chosen.{run_of};
 ghost use Rattle.panel_resolving.specs.Placements.{WrittenNumbers, numbers_count, numbers_refusal, placements_written, run_numbers};
 
 use crate::placing::whole_around;
 use crate::write::{Run, write_axis};
 use axis_tables::layout::AXIS_BYTES;
-use coordinates::Axis;
-use coordinates::refusal::{COUNT, SHORT};
-use library_numbers::CountAnswer;
-use library_numbers::numbers::{counted, uncounted};
-use panel_names::store::{entries_of, smaller};
+use coordinates::{Axis, Fault};
+use name_entries::Names;
+use panel_names::store::entries_of;
 use panel_tables::Grid;
 use panel_tables::region::{PANEL_BYTES, PANEL_WORDS, axis_words};
 
@@ -22,38 +22,35 @@ const MOST_PLACEMENTS: u32 = 256;
 // The numbers of a run: eight for each placement.
 pub const PLACEMENT_RUN: usize = 2048;
 
-// What a run is refused by: `held` placements, the bytes of the shorter store.
-fn numbers_refusal(held: u32, shorter: usize, first: u32) -> u32
-    ensures { result ≡ numbers_refusal held shorter first }
+// Whether a run can be given: `held` placements, the bytes of the shorter store.
+#[tactic(auto, unfolding(crate::specs::Placements::numbers_refusal))]
+fn check_numbers(held: u32, shorter: usize, first: u32) -> Result<(), Fault>
+    ensures { refused_by result ≡ numbers_refusal held shorter first }
 {
     if held <= first {
-        return COUNT;
+        return Err(Fault::Count);
     }
     if shorter < AXIS_BYTES {
-        return SHORT;
+        return Err(Fault::Short);
     }
-    0
+    Ok(())
 }
 
 // How many placements are written from one that there is.
+#[tactic(auto, unfolding(crate::specs::Placements::numbers_count))]
 fn numbers_count(held: u32, first: u32) -> u32
     requires { first ≤ held }
     ensures { (result ≡ numbers_count held first) × (first + result ≤ 4294967295) × (8 * result ≤ 2048) }
 {
-    let left = held - first;
-    if left < MOST_PLACEMENTS {
-        return left;
-    }
-    MOST_PLACEMENTS
+    MOST_PLACEMENTS.min(held - first)
 }
 
 // The placements of an axis in a run, its name entries kept together.
 fn run_of(axis: Axis, explicit: u32, areas: u32, first: u32, count: u32) -> Run
     ensures { result ≡ run_of axis explicit areas first count }
 {
-    let around = whole_around(axis, explicit, areas);
     Run {
-        around,
+        around: whole_around(axis, explicit, areas),
         first,
         count,
     }
@@ -79,10 +76,16 @@ fn write_numbers(
     let rows = grid.rows;
     let ofcolumns = run_of(Axis::Column, columns.size.explicit, held, first, count);
     let ofrows = run_of(Axis::Row, rows.size.explicit, held, first, count);
-    let columnentries = entries_of(columns, axis_words(words, Axis::Column));
-    let rowentries = entries_of(rows, axis_words(words, Axis::Row));
-    write_axis(ofcolumns, columnentries, columnstore, words, bytes, numbers);
-    write_axis(ofrows, rowentries, rowstore, words, bytes, numbers);
+    let columnnames = Names {
+        entries: entries_of(columns, axis_words(words, Axis::Column)),
+        store: columnstore,
+    };
+    let rownames = Names {
+        entries: entries_of(rows, axis_words(words, Axis::Row)),
+        store: rowstore,
+    };
+    write_axis(ofcolumns, columnnames, words, bytes, numbers);
+    write_axis(ofrows, rownames, words, bytes, numbers);
 }
 
 // Writes the placements of a panel from `first` on, as many as there are and fit. 4: no such placement; 10: a store below 32,768 bytes.
@@ -94,14 +97,11 @@ pub fn write_placements(
     rowstore: &[u8],
     first: u32,
     numbers: &mut [i32; PLACEMENT_RUN],
-) -> CountAnswer
-    ensures { record { answer = result; numbers = numbers.new } ≡ placements_written grid (name_tables_in words.now columnstore.now rowstore.now) (area_table_in words.now bytes.now) (placement_table_in words.now bytes.now) first numbers.old }
+) -> Result<u64, Fault>
+    ensures { record { answer = answered_count result; numbers = numbers.new } ≡ placements_written grid (name_tables_in words.now columnstore.now rowstore.now) (area_table_in words.now bytes.now) (placement_table_in words.now bytes.now) first numbers.old }
 {
-    let shorter = smaller(columnstore.len(), rowstore.len());
-    let number = numbers_refusal(grid.placements, shorter, first);
-    if number != 0 {
-        return uncounted(number);
-    }
+    let shorter = columnstore.len().min(rowstore.len());
+    check_numbers(grid.placements, shorter, first)?;
     let count = numbers_count(grid.placements, first);
     write_numbers(
         grid,
@@ -113,5 +113,5 @@ pub fn write_placements(
         count,
         numbers,
     );
-    counted(count as u64)
+    Ok(u64::from(count))
 }

@@ -1,29 +1,28 @@
 // The placements of one axis in a run, resolved and written as numbers.
-ghost use Rattle.std.specs.Prelude.{◌≡◌, ◌*◌, ◌+◌, ◌≤◌, eqb, length};
+ghost use Rattle.std.specs.Prelude.{◌≡◌, ◌*◌, ◌+◌, ◌≤◌, length};
 ghost use Rattle.name_lines.specs.Areas.{axis_names};
 ghost use Rattle.name_groups.specs.Groups.{Lists};
-ghost use Rattle.name_resolver.specs.Placements.{resolution_of};
-ghost use Rattle.coordinates.specs.Axes.{axis_number};
+ghost use Rattle.name_resolver.specs.Placements.{answered_resolution, resolution_of};
 ghost use Rattle.panel_tables.specs.Regions.{area_bytes_in, area_words_in, placement_bytes_in, placement_words_in};
 ghost use Rattle.axis_tables.specs.Runs.{part_of};
-ghost use Rattle.panel_resolving.specs.Chosen.{OnlyOne, chosen_sets, grouping_for, numbers_by, on_axis, run_grouped};
+ghost use Rattle.panel_resolving.specs.Chosen.{GroupsFit, OnlyOne, chosen_sets, grouping_for, numbers_by, on_axis, run_grouped};
 ghost use Rattle.panel_resolving.specs.Names.{bears_by, resolution_by};
 
-use crate::Around;
 use crate::ends::line_placement;
 use crate::placing::placed_by;
 use crate::put::put_placement;
-use crate::resolve::{refused_resolution, resolve_line_names};
-use coordinates::Axis;
-use coordinates::axis::axis_number;
+use crate::resolve::resolve_line_names;
+use crate::{Around, Beside};
+use coordinates::Fault;
+use name_entries::Names;
 use name_groups::index::group_entries;
 use name_groups::key::Grouping;
-use name_resolver::Resolution;
+use name_resolver::ResolvedPlacement;
 use panel_tables::placement::placement_at;
 use panel_tables::region::{PANEL_BYTES, PANEL_WORDS, placement_words};
 
 // The placements of an axis among `count` from `first` on, and what they are resolved beside.
-#[derive(Clone, Copy)]
+#[derive(Clone, Copy, Debug, PartialEq, Eq)]
 pub(crate) struct Run {
     pub around: Around,
     pub first: u32,
@@ -43,13 +42,6 @@ const FEW_WORDS: usize = 256;
 
 const MANY_WORDS: usize = 5120;
 
-// Whether two axes are the same.
-fn same_axis(a: Axis, b: Axis) -> bool
-    ensures { result ≡ eqb (axis_number a) (axis_number b) }
-{
-    axis_number(a) == axis_number(b)
-}
-
 // Writes the placements of the axis beside an index of the names; the others' numbers stay as they are. Answers the last that it resolved, so that one
 // placement is a run of one.
 pub(crate) fn write_beside(
@@ -59,27 +51,27 @@ pub(crate) fn write_beside(
     words: &[u64; PANEL_WORDS],
     bytes: &[u8; PANEL_BYTES],
     numbers: &mut [i32],
-) -> Resolution
+) -> Result<ResolvedPlacement, Fault>
     requires count_bound { (run.first + run.count ≤ 4294967295) × (8 * run.count ≤ length numbers.old) }
     requires lists { Lists run.around.grouping index.now store.now }
-    ensures { (numbers.new ≡ chosen_sets (on_axis run.around.axis (placement_words_in words.now)) (numbers_by (resolution_by run.around.explicit (bears_by run.around index.now store.now (area_words_in words.now) (area_bytes_in bytes.now)) (placement_bytes_in bytes.now)) (placement_words_in words.now)) 0 run.first run.count numbers.old) × OnlyOne run (placement_words_in words.now) (resolution_by run.around.explicit (bears_by run.around index.now store.now (area_words_in words.now) (area_bytes_in bytes.now)) (placement_bytes_in bytes.now)) result }
+    ensures { (numbers.new ≡ chosen_sets (on_axis run.around.axis (placement_words_in words.now)) (numbers_by (resolution_by run.around.explicit (bears_by run.around index.now store.now (area_words_in words.now) (area_bytes_in bytes.now)) (placement_bytes_in bytes.now)) (placement_words_in words.now)) 0 run.first run.count numbers.old) × OnlyOne run (placement_words_in words.now) (resolution_by run.around.explicit (bears_by run.around index.now store.now (area_words_in words.now) (area_bytes_in bytes.now)) (placement_bytes_in bytes.now)) (answered_resolution result) }
 {
     let around = run.around;
-    let mut last = refused_resolution();
-    let mut i: u32 = 0;
-    while i < run.count {
+    let beside = Beside {
+        around,
+        index,
+        store,
+        words,
+        bytes,
+    };
+    let mut last = Err(Fault::Count);
+    for i in 0..run.count {
         let place = placement_at(placement_words(words), run.first + i);
-        let axis = place.axis;
-        let own = around.axis;
-        if !same_axis(axis, own) {
-            i += 1;
-            continue;
+        if place.axis == around.axis {
+            let line = line_placement(place);
+            last = resolve_line_names(beside, line);
+            put_placement(numbers, 8 * i as usize, placed_by(last, place.axis, false));
         }
-        let line = line_placement(place);
-        let resolved = resolve_line_names(around, index, store, words, bytes, line);
-        put_placement(numbers, 8 * i as usize, placed_by(resolved, axis, false));
-        last = resolved;
-        i += 1;
     }
     last
 }
@@ -88,62 +80,39 @@ pub(crate) fn write_beside(
 fn run_grouped(run: Run, grouping: Grouping) -> Run
     ensures { result ≡ run_grouped run grouping }
 {
-    let beside = run.around;
-    let axis = beside.axis;
-    let around = Around {
-        axis,
-        explicit: beside.explicit,
-        areas: beside.areas,
-        grouping,
-    };
     Run {
-        around,
-        first: run.first,
-        count: run.count,
+        around: Around {
+            grouping,
+            ..run.around
+        },
+        ..run
     }
 }
 
-// Writes the placements of the axis beside at most 128 entries, which are grouped first.
-fn write_few(
+// Writes the placements of the axis beside entries that are grouped first, by an index of so many words.
+fn write_grouped<const KEYS: usize, const WORDS: usize>(
+    grouping: Grouping,
     run: Run,
-    entries: &[u64],
-    store: &[u8],
+    names: Names,
     words: &[u64; PANEL_WORDS],
     bytes: &[u8; PANEL_BYTES],
     numbers: &mut [i32],
 )
     requires count_bound { (run.first + run.count ≤ 4294967295) × (8 * run.count ≤ length numbers.old) }
-    requires entries_len_bound { length entries.now ≤ 128 }
-    ensures { numbers.new ≡ chosen_sets (on_axis run.around.axis (placement_words_in words.now)) (numbers_by (resolution_of (axis_names run.around.explicit run.around.axis entries.now store.now (part_of (area_words_in words.now) 0 run.around.areas) (part_of (area_words_in words.now) 64 run.around.areas) (area_bytes_in bytes.now)) (placement_bytes_in bytes.now)) (placement_words_in words.now)) 0 run.first run.count numbers.old }
+    requires keys_bound { KEYS ≤ 4096 }
+    requires words_bound { WORDS ≤ 5120 }
+    requires grouped { GroupsFit grouping (length names.entries.now) KEYS WORDS }
+    ensures { numbers.new ≡ chosen_sets (on_axis run.around.axis (placement_words_in words.now)) (numbers_by (resolution_of (axis_names run.around.explicit run.around.axis names.entry.entries.now names.entry.store.now (part_of (area_words_in words.now) 0 run.around.areas) (part_of (area_words_in words.now) 64 run.around.areas) (area_bytes_in bytes.now)) (placement_bytes_in bytes.now)) (placement_words_in words.now)) 0 run.first run.count numbers.old }
 {
-    let mut index = [0u64; FEW_WORDS];
-    let mut keys = [0u16; FEW_ENTRIES];
-    group_entries(Grouping::Few, entries, store, &mut keys, &mut index);
-    let grouped = run_grouped(run, Grouping::Few);
-    let _last = write_beside(grouped, &index, store, words, bytes, numbers);
-}
-
-// Writes the placements of the axis beside at most 4,096 entries, which are grouped first.
-fn write_many(
-    run: Run,
-    entries: &[u64],
-    store: &[u8],
-    words: &[u64; PANEL_WORDS],
-    bytes: &[u8; PANEL_BYTES],
-    numbers: &mut [i32],
-)
-    requires count_bound { (run.first + run.count ≤ 4294967295) × (8 * run.count ≤ length numbers.old) }
-    requires entries_len_bound { length entries.now ≤ 4096 }
-    ensures { numbers.new ≡ chosen_sets (on_axis run.around.axis (placement_words_in words.now)) (numbers_by (resolution_of (axis_names run.around.explicit run.around.axis entries.now store.now (part_of (area_words_in words.now) 0 run.around.areas) (part_of (area_words_in words.now) 64 run.around.areas) (area_bytes_in bytes.now)) (placement_bytes_in bytes.now)) (placement_words_in words.now)) 0 run.first run.count numbers.old }
-{
-    let mut index = [0u64; MANY_WORDS];
-    let mut keys = [0u16; MANY_ENTRIES];
-    group_entries(Grouping::Many, entries, store, &mut keys, &mut index);
-    let grouped = run_grouped(run, Grouping::Many);
-    let _last = write_beside(grouped, &index, store, words, bytes, numbers);
+    let mut index = [0u64; WORDS];
+    let mut keys = [0u16; KEYS];
+    group_entries(grouping, names, &mut keys, &mut index);
+    let grouped = run_grouped(run, grouping);
+    let _last = write_beside(grouped, &index, names.store, words, bytes, numbers);
 }
 
 // How the entries are kept for a run of so many placements: together where they are few, or more than an axis has.
+#[tactic(auto, unfolding(crate::specs::Chosen::grouping_for))]
 fn grouping_for(entries: usize, count: u32) -> Grouping
     ensures { result ≡ grouping_for entries count }
 {
@@ -162,21 +131,38 @@ fn grouping_for(entries: usize, count: u32) -> Grouping
 // Writes the placements of the axis; the others' numbers stay as they are.
 pub(crate) fn write_axis(
     run: Run,
-    entries: &[u64],
-    store: &[u8],
+    names: Names,
     words: &[u64; PANEL_WORDS],
     bytes: &[u8; PANEL_BYTES],
     numbers: &mut [i32],
 )
     requires { (run.first + run.count ≤ 4294967295) × (8 * run.count ≤ length numbers.old) }
-    ensures { numbers.new ≡ chosen_sets (on_axis run.around.axis (placement_words_in words.now)) (numbers_by (resolution_of (axis_names run.around.explicit run.around.axis entries.now store.now (part_of (area_words_in words.now) 0 run.around.areas) (part_of (area_words_in words.now) 64 run.around.areas) (area_bytes_in bytes.now)) (placement_bytes_in bytes.now)) (placement_words_in words.now)) 0 run.first run.count numbers.old }
+    ensures { numbers.new ≡ chosen_sets (on_axis run.around.axis (placement_words_in words.now)) (numbers_by (resolution_of (axis_names run.around.explicit run.around.axis names.entry.entries.now names.entry.store.now (part_of (area_words_in words.now) 0 run.around.areas) (part_of (area_words_in words.now) 64 run.around.areas) (area_bytes_in bytes.now)) (placement_bytes_in bytes.now)) (placement_words_in words.now)) 0 run.first run.count numbers.old }
 {
-    match grouping_for(entries.len(), run.count) {
+    match grouping_for(names.entries.len(), run.count) {
         Grouping::Whole => {
             let together = run_grouped(run, Grouping::Whole);
-            let _last = write_beside(together, entries, store, words, bytes, numbers);
+            let _last = write_beside(together, names.entries, names.store, words, bytes, numbers);
         }
-        Grouping::Few => write_few(run, entries, store, words, bytes, numbers),
-        Grouping::Many => write_many(run, entries, store, words, bytes, numbers),
+        Grouping::Few => {
+            write_grouped::<FEW_ENTRIES, FEW_WORDS>(
+                Grouping::Few,
+                run,
+                names,
+                words,
+                bytes,
+                numbers,
+            )
+        }
+        Grouping::Many => {
+            write_grouped::<MANY_ENTRIES, MANY_WORDS>(
+                Grouping::Many,
+                run,
+                names,
+                words,
+                bytes,
+                numbers,
+            )
+        }
     }
 }

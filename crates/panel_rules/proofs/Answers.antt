@@ -31,7 +31,7 @@ use Rattle.sheet_rules.specs.Sheet.{counted, explicit_of, end_fault}
 use Rattle.sheet_rules.specs.Panels.{Tables, entry_words, sized_state, sized_panel, tables_of}
 use Rattle.sheet_rules.specs.Read.{short_stores}
 use Rattle.sheet_end.proofs.Entries.{entries_read}
-use Rattle.panel_rules.specs.declared.PlacementAnswer.{PlacementAnswer}
+use Rattle.panel_rules.specs.Placing.{PlacementAnswer}
 use Rattle.panel_rules.specs.Calls.{words_in, store_in, short_names, book_in, template_in, spares_in, names_in, explicit_size, line_count_in, line_name_in, axis_tracks, track_record}
 use Rattle.panel_rules.specs.Placing.{line_placement, placed_by, refused_placement, resolve_placement}
 use Rattle.panel_rules.specs.Runs.{Held, names_of, areas_of, size_of, placement_of, lists_of, name_of, record_with}

@@ -1,4 +1,5 @@
 -- Where the conditions of the third demand hold, what layers 3 and 4 make of a sheet is what the book says. Assumes nothing.
+use Rattle.std.specs.Prelude.{Float, Option}
 use Prim.Native.Nat.{ℕ, zero, suc, ◌+◌, ◌*◌, ◌≤◌, ◌<◌, max}
 use mathlib.Core.Path.{◌≡◌, refl, sym, ap, ◌∙◌, subst}
 use mathlib.Core.Logic.{◌⊎◌, inl, inr, ⊎_elim}
@@ -14,7 +15,6 @@ use Rattle.sizing.specs.Words.{sizing_of}
 use Rattle.sizing.specs.declared.Sizing.{Sizing}
 use Rattle.template_rules.specs.Template.{Component, count_of}
 use Rattle.template_rules.specs.Counts.{is_automatic, outside_of, outside_count, automatic_count, automatic_tracks}
-use Rattle.template_rules.specs.declared.InnerSize.{InnerSize}
 use Rattle.template_rules.specs.declared.AutoRepeatStrategy.{AutoRepeatStrategy}
 use Rattle.template_rules.specs.declared.TemplateSize.{TemplateSize}
 use Rattle.template_rules.specs.Css.{Valid, Repetitions}
@@ -149,7 +149,7 @@ module _ (m : CssTemplate) (v : PanelView) (a : Axis) (calls : List Call) (f : F
   abbrev found : ℕ
   found = (size_of va).repetitions
 
-  abbrev inner : InnerSize
+  abbrev inner : Option Float
   inner = inner_of va.line
 
   abbrev strategy : AutoRepeatStrategy

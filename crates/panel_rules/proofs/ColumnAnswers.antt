@@ -17,7 +17,7 @@ use Rattle.panel_tables.specs.View.{Area, Placement, PanelView, no_placement}
 use Rattle.panel_tables.specs.Axes.{state_in}
 use Rattle.sheet_rules.specs.Panels.{Tables}
 use Rattle.sheet_rules.specs.Sheet.{explicit_of}
-use Rattle.panel_rules.specs.declared.PlacementAnswer.{PlacementAnswer}
+use Rattle.panel_rules.specs.Placing.{PlacementAnswer}
 use Rattle.panel_rules.specs.Placing.{refused_placement}
 use Rattle.panel_rules.specs.Runs.{marks_of, size_of, lists_of, record_with, run_with, fill_with}
 use Rattle.panel_rules.specs.Calls.{explicit_size, line_count_in}

@@ -15,7 +15,7 @@ use Rattle.panel_tables.specs.Axes.{state_in}
 use Rattle.sheet_rules.specs.Panels.{entry_words}
 use Rattle.sheet_rules.specs.Read.{short_stores}
 use Rattle.sheet_rules.specs.Sheet.{sheet_of}
-use Rattle.panel_rules.specs.declared.PlacementAnswer.{PlacementAnswer}
+use Rattle.panel_rules.specs.Placing.{PlacementAnswer}
 use Rattle.panel_rules.specs.Runs.{Held, Call, refusal_in, sheet_held, marks_of, size_of, placement_of, lists_of, name_of, record_with, run_with, fill_with}
 use Rattle.panel_rules.specs.Views.{held_after, name_after, placement_after}
 use Rattle.panel_rules.specs.Book.{added_from}

@@ -23,7 +23,7 @@ use Rattle.sheet_rules.specs.Sheet.{size_of, counted, explicit_of, items_of, ent
 use Rattle.sheet_rules.specs.Valid.{ValidTemplate}
 use Rattle.sheet_rules.proofs.Counted.{counted_css, template_or_not}
 use Rattle.panel_rules.specs.Views.{entries_after, areas_in, names_after, css_end, placement_at, answer_at, size_after, lists_after, name_after, record_after, tracks_after, placement_after}
-use Rattle.panel_rules.specs.declared.PlacementAnswer.{PlacementAnswer}
+use Rattle.panel_rules.specs.Placing.{PlacementAnswer}
 use Rattle.panel_rules.specs.Placing.{refused_placement}
 use Rattle.panel_rules.specs.Added.{sheet_axis, added}
 use Rattle.panel_rules.specs.Alone.{Run}

@@ -11,14 +11,15 @@ use lib.ListN.{length}
 use borrow.Author.Tests.{ltb-false}
 use Rattle.text.specs.Split.{index, same}
 use Rattle.text.specs.Whole.{Written, none, whole, whole_of, index_in}
-use Rattle.text.specs.declared.Index.TheVariants.{Outside, Value}
-use Rattle.sheet_forms.specs.declared.Record.{Record}
-use Rattle.sheet_forms.specs.declared.Record.TheVariants.{Fault, Axis as AxisLine, Area as AreaLine, Name, Track, Repeat, End as EndLine, Spare, Extra, Item, Place, PictureRow}
+use Rattle.std.specs.Prelude.{Ok, Err}
+use Rattle.text.specs.declared.NumberFault.TheVariants.{Outside}
+use Rattle.sheet_forms.specs.Said.{Record}
+use Rattle.sheet_forms.specs.Said.{Fault, Axis as AxisLine, Area as AreaLine, Name, Track, Repeat, End as EndLine, Spare, Extra, Item, Place, PictureRow}
 use Rattle.sheet_forms.specs.Words.{at, nought, end_words}
 use Rattle.sheet_forms.specs.Fields.{word_of, axis_of}
 use Rattle.sheet_forms.specs.Ends.{end_kind, index_field, faulty_number, end_number, end_of}
-use Rattle.sheet_forms.specs.declared.field.AxisField.{AxisField}
-use Rattle.sheet_forms.specs.declared.EndField.{EndField}
+use Rattle.sheet_forms.specs.Answers.{AxisField}
+use Rattle.sheet_forms.specs.Answers.{EndField}
 use Rattle.sheet_forms.specs.Faults.{first_of}
 use Rattle.sheet_forms.specs.Records.{made_place, place_line, record_of}
 use Rattle.sheet_forms.specs.Forms.{place}
@@ -37,12 +38,12 @@ unfolding index_in
 index_in_lem none = zero-le
 index_in_lem (whole (pos n)) = go (ltb 32767 n) refl
   where
-    go : (t : Bool) → ltb 32767 n ≡ t → IsIndex (index_field (cond t Outside (Value (pos n)))).value
+    go : (t : Bool) → ltb 32767 n ≡ t → IsIndex (index_field (cond t (Err Outside) (Ok (pos n)))).value
     go true e = zero-le
     go false e = ltb-false 32767 n e
 index_in_lem (whole (negsuc k)) = go (ltb 32767 k) refl
   where
-    go : (t : Bool) → ltb 32767 k ≡ t → IsIndex (index_field (cond t Outside (Value (negsuc k)))).value
+    go : (t : Bool) → ltb 32767 k ≡ t → IsIndex (index_field (cond t (Err Outside) (Ok (negsuc k)))).value
     go true e = zero-le
     go false e = ltb-false 32767 k e
 

@@ -26,7 +26,7 @@ use Rattle.panel_tables.specs.View.{Placement, PanelView}
 use Rattle.panel_tables.specs.Axes.{view_in}
 use Rattle.sheet_rules.specs.Sheet.{entries_of, sheet_of, explicit_of}
 use Rattle.sheet_rules.specs.Panels.{Tables}
-use Rattle.panel_rules.specs.declared.PlacementAnswer.{PlacementAnswer}
+use Rattle.panel_rules.specs.Placing.{PlacementAnswer}
 use Rattle.panel_rules.specs.Placing.{refused_placement}
 use Rattle.panel_rules.specs.Runs.{Call, Accepted, run_of, placement_of}
 use Rattle.panel_rules.specs.Views.{entries_after, names_after, css_end, placement_at, answer_at, placement_after}

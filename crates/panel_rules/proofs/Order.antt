@@ -22,7 +22,7 @@ use Rattle.panel_tables.specs.View.{Area, Placement, PanelView, no_placement}
 use Rattle.panel_tables.specs.Areas.{edges_in}
 use Rattle.panel_tables.specs.Axes.{view_in}
 use Rattle.sheet_rules.specs.Sheet.{size_of, explicit_of}
-use Rattle.panel_rules.specs.declared.PlacementAnswer.{PlacementAnswer}
+use Rattle.panel_rules.specs.Placing.{PlacementAnswer}
 use Rattle.panel_rules.specs.Placing.{refused_placement}
 use Rattle.panel_rules.specs.Runs.{Call}
 use Rattle.panel_rules.specs.Views.{area_in, areas_in, css_end, placement_at, names_after, answer_at, placement_after}

@@ -5,7 +5,8 @@ use mathlib.Core.List.{List, [], ◌∷◌}
 use native.Mathlib.Omega.{arith}
 use lib.ListN.{length, get_or}
 use Rattle.name_rules.specs.Css as Css
-use Rattle.name_resolver.specs.Placements.{placement_of}
+use Rattle.coordinates.specs.declared.axis.Axis.TheVariants.{Column}
+use Rattle.name_resolver.specs.Placements.{placement_of, zero_line, no_marks}
 use Rattle.axis_tables.proofs.Runs.{All}
 use Rattle.panel_tables.specs.declared.EndPlace.{EndPlace}
 use Rattle.panel_tables.specs.declared.PlacementPlace.{PlacementPlace}
@@ -14,10 +15,14 @@ use Rattle.panel_tables.specs.Placements.{placement_at, end_in, placement_in}
 use Rattle.panel_tables.specs.Written.{placement_words, placement_store}
 use Rattle.panel_tables.proofs.Fits.{GoodPlacement}
 use Rattle.panel_tables.proofs.Back.{placement_held}
-use Rattle.panel_rules.specs.Placing.{end_by, end_placement}
+use Rattle.panel_rules.specs.Placing.{end_by, end_placement, refused_placement}
 use Rattle.panel_rules.specs.Views.{css_by, css_end}
 use Rattle.panel_rules.specs.Ranges.{NumberOf, EndRange, PlacementRange}
 use Rattle.panel_rules.proofs.Numbers.{index-held, span-held}
+
+-- a refused answer has zeros beside its number
+pub refused-zeros : (n : ℕ) → ((refused_placement n).axis ≡ Column) × ((refused_placement n).line ≡ zero_line) × ((refused_placement n).held ≡ no_marks)
+refused-zeros n = (refl, refl, refl)
 
 -- ---- an end: a number in the range of its kind is read as it is
 end_says : (bytes : List ℕ) (e : EndPlace) → EndRange (end_in bytes e) → placement_of bytes (end_placement e) ≡ css_end (end_in bytes e)

@@ -35,7 +35,7 @@ use Rattle.sheet_forms.specs.Records.{axis_line, area_line, name_line, sizes_lin
 use Rattle.name_entries.specs.Names.{is_name}
 use Rattle.name_entries.proofs.Booleans.{both}
 use Rattle.name_entries.specs.LineNames.{shown_after, explicit_line_names}
-use Rattle.track_rules.specs.declared.RecordAnswer.{RecordAnswer}
+use Rattle.track_rules.specs.Tracks.{RecordAnswer}
 use Rattle.track_rules.specs.Tracks.{refused_record}
 use Rattle.track_rules.specs.Written.{written_out}
 use Rattle.track_rules.specs.Records.{listed, open_to, all_tracks, records_of, axis_refusal, record_answer_of}
@@ -52,7 +52,7 @@ use Rattle.sheet_rules.specs.Contents.{drawn_in}
 use Rattle.sheet_rules.proofs.Chosen.{accepted_former}
 use Rattle.sheet_rules.specs.Panels.{Tables}
 use Rattle.sheet_rules.specs.Read.{SheetRead, short_stores, read_by}
-use Rattle.panel_rules.specs.declared.PlacementAnswer.{PlacementAnswer}
+use Rattle.panel_rules.specs.Placing.{PlacementAnswer}
 use Rattle.axis_tables.specs.declared.AxisSize.{AxisSize}
 use Rattle.panel_rules.specs.Placing.{refused_placement}
 use Rattle.panel_rules.specs.Runs.{Held, Call, Accepted, run_of, marks_of, size_of, name_of, record_of}

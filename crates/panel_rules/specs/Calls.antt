@@ -1,9 +1,11 @@
 -- The calls on a panel: what each answers and leaves, whatever the state, the tables and the stores hold (document 01, layers 3 to 5).
-use Rattle.std.specs.Prelude.{ℕ, ◌+◌, min, Bool, cond, ◌||◌, List, [], eqb, ltb, length, get_or, set}
+use Rattle.std.specs.Prelude.{ℕ, ◌+◌, min, Bool, cond, ◌||◌, List, [], eqb, ltb, length, get_or, set, Result, Ok, Err}
 use Rattle.std.proofs.lemmas.List.Edits.{sets}
 use Rattle.coordinates.specs.declared.axis.Axis.{Axis}
 use Rattle.coordinates.specs.declared.axis.Axis.TheVariants.{Column, Row}
-use Rattle.coordinates.specs.Refusals.{no_refusal, refusal_of}
+use Rattle.coordinates.specs.declared.refusal.Refusal.{Refusal}
+use Rattle.coordinates.specs.declared.refusal.Fault.{Fault}
+use Rattle.coordinates.specs.Refusals.{no_refusal, refusal_of, number_of}
 use Rattle.sizing.specs.Words.{sizing_of}
 use Rattle.sizing.specs.declared.MinMax.{MinMax}
 use Rattle.template_rules.specs.Template.{Component, template_of}
@@ -13,7 +15,7 @@ use Rattle.name_entries.specs.Enter.{entry_refusal}
 use Rattle.name_entries.specs.LineNames.{explicit_line_names, of_axis, line_count}
 use Rattle.name_lines.specs.Areas.{axis_names}
 use Rattle.track_rules.specs.declared.AxisTracks.{AxisTracks}
-use Rattle.track_rules.specs.declared.RecordAnswer.{RecordAnswer}
+use Rattle.track_rules.specs.Tracks.{RecordAnswer}
 use Rattle.track_rules.specs.Written.{spares_of}
 use Rattle.track_rules.specs.Records.{record_answer_of}
 use Rattle.axis_tables.specs.declared.AxisGrid.{AxisGrid}
@@ -24,7 +26,6 @@ use Rattle.panel_tables.specs.declared.Grid.{Grid}
 use Rattle.panel_tables.specs.declared.Panel.{Panel}
 use Rattle.panel_tables.specs.Axes.{grid_in, state_in, with_state}
 use Rattle.panel_tables.specs.Regions.{axis_words_in, area_words_in, placement_words_in, area_bytes_in, placement_bytes_in}
-use Rattle.panel_rules.specs.declared.EntryAnswer.{EntryAnswer}
 
 -- ---- what is lent
 
@@ -124,6 +125,16 @@ entered_in t Row s line name =
       column_store = t.column_store;
       row_store = sets t.row_store s.room.used name;
     }
+
+-- the answer of an entry call: its refusal, and the panel with the entry, on a refusal as it came
+pub record EntryAnswer : Type 0 where
+  pub refusal : Refusal
+  pub panel : Panel
+
+-- the numbers and values of what a call on that panel answers
+abbrev pub answered_entry : Panel → Result Panel Fault → EntryAnswer
+answered_entry p (Ok q) = record { refusal = no_refusal; panel = q }
+answered_entry p (Err fault) = record { refusal = refusal_of (number_of fault); panel = p }
 
 -- an answer, and what is lent then
 pub record EnteredName : Type 0 where

@@ -1,19 +1,23 @@
 -- `resolve_placement`: a placement of the table as layer 4 reads it, and the answer (document 01, layer 4).
-use Rattle.std.specs.Prelude.{ℕ, zero, suc, min, Bool, cond, List, eqb, ltb, ℤ, pos, negsuc}
+use Rattle.std.specs.Prelude.{ℕ, zero, suc, min, Bool, cond, List, eqb, ltb, ℤ, pos, negsuc, Result, Ok, Err}
 use Rattle.coordinates.specs.declared.axis.Axis.{Axis}
 use Rattle.coordinates.specs.declared.axis.Axis.TheVariants.{Column}
-use Rattle.coordinates.specs.Refusals.{no_refusal, refusal_of, count, short}
+use Rattle.coordinates.specs.declared.refusal.Refusal.{Refusal}
+use Rattle.coordinates.specs.declared.refusal.Fault.{Fault}
+use Rattle.coordinates.specs.Refusals.{no_refusal, refusal_of, number_of, count, short}
 use Rattle.name_resolver.specs.declared.Name.{Name}
 use Rattle.name_resolver.specs.declared.GridPlacement.{GridPlacement}
 use Rattle.name_resolver.specs.declared.GridPlacement.TheVariants.{Auto, Line as AtLine, NamedLine, Span, NamedSpan}
 use Rattle.name_resolver.specs.declared.Line.{Line}
-use Rattle.name_resolver.specs.declared.Resolution.{Resolution}
+use Rattle.name_resolver.specs.declared.ResolvedLine.{ResolvedLine}
+use Rattle.name_resolver.specs.declared.HeldEnds.{HeldEnds}
+use Rattle.name_resolver.specs.Placements.{Resolution}
 use Rattle.name_resolver.specs.Placements.{grid_line_of, zero_line, no_marks, resolution_of}
 use Rattle.panel_tables.specs.declared.Grid.{Grid}
 use Rattle.panel_tables.specs.declared.EndPlace.{EndPlace}
 use Rattle.panel_tables.specs.declared.PlacementPlace.{PlacementPlace}
 use Rattle.panel_tables.specs.Placements.{placement_at}
-use Rattle.panel_rules.specs.declared.PlacementAnswer.{PlacementAnswer}
+use Rattle.panel_rules.specs.declared.PlacedLine.{PlacedLine}
 use Rattle.panel_rules.specs.Calls.{NameTables, NamedWords, names_in, short_names}
 
 -- a line index is -32,768 to 32,767, a span 0 to 65,535; what no sheet gives is held
@@ -43,9 +47,21 @@ end_placement e = end_by e.end.kind e
 abbrev pub line_placement : PlacementPlace → Line
 line_placement p = record { start = end_placement p.start; end = end_placement p.end }
 
+-- a resolved placement with its axis and the marks of its ends, or a refusal and zeros
+pub record PlacementAnswer : Type 0 where
+  pub refusal : Refusal
+  pub axis : Axis
+  pub line : ResolvedLine
+  pub held : HeldEnds
+
 -- a refused answer: its number, line 0 and zeros
 abbrev pub refused_placement : ℕ → PlacementAnswer
 refused_placement n = record { refusal = refusal_of n; axis = Column; line = zero_line; held = no_marks }
+
+-- the numbers and values of what a call answers
+abbrev pub answered_placement : Result PlacedLine Fault → PlacementAnswer
+answered_placement (Ok p) = record { refusal = no_refusal; axis = p.axis; line = p.line; held = p.held }
+answered_placement (Err fault) = refused_placement (number_of fault)
 
 -- the answer of the resolver, for the placement's axis; 10 comes after every other number
 abbrev pub placed_by : Resolution → Axis → Bool → PlacementAnswer

@@ -7,8 +7,8 @@ use Rattle.coordinates.specs.Refusals.{no_refusal}
 use Rattle.name_rules.specs.Css.{Bytes}
 use Rattle.name_entries.specs.LineNames.{of_axis}
 use Rattle.track_rules.specs.declared.GridTrack.{GridTrack}
-use Rattle.track_rules.specs.declared.RecordAnswer.{RecordAnswer}
-use Rattle.track_run.specs.declared.FillAnswer.{FillAnswer}
+use Rattle.track_rules.specs.Tracks.{RecordAnswer}
+use Rattle.track_run.specs.Run.{FillAnswer}
 use Rattle.track_run.specs.Run.{fill_answer_of, run_after}
 use Rattle.axis_tables.specs.declared.AxisGrid.{AxisGrid}
 use Rattle.axis_tables.specs.declared.AxisSize.{AxisSize}
@@ -16,7 +16,7 @@ use Rattle.panel_tables.specs.declared.Panel.{Panel}
 use Rattle.panel_tables.specs.Axes.{grid_in}
 use Rattle.sheet_rules.specs.Panels.{Tables}
 use Rattle.sheet_rules.specs.Read.{read_sheet}
-use Rattle.panel_rules.specs.declared.PlacementAnswer.{PlacementAnswer}
+use Rattle.panel_rules.specs.Placing.{PlacementAnswer}
 use Rattle.panel_rules.specs.Calls.{NameTables, NamedWords, EnteredName, enter_name, template_in, spares_in, axis_tracks, explicit_size, line_count_in, line_name_in, track_record, words_in}
 use Rattle.panel_rules.specs.Placing.{resolve_placement}
 

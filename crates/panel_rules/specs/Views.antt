@@ -13,7 +13,7 @@ use Rattle.name_entries.specs.Entries.{word_of}
 use Rattle.name_entries.specs.LineNames.{of_axis, explicit_line_names, line_count}
 use Rattle.name_resolver.specs.Placements.{answer_of, ends_of, held_answer, resolved_ends}
 use Rattle.track_rules.specs.declared.AxisTracks.{AxisTracks}
-use Rattle.track_rules.specs.declared.RecordAnswer.{RecordAnswer}
+use Rattle.track_rules.specs.Tracks.{RecordAnswer}
 use Rattle.track_rules.specs.Records.{record_answer_of}
 use Rattle.axis_tables.specs.declared.AxisSize.{AxisSize}
 use Rattle.axis_tables.specs.declared.AxisState.{AxisState}
@@ -27,7 +27,7 @@ use Rattle.panel_tables.specs.Axes.{view_in}
 use Rattle.sheet_rules.specs.Sheet as Sheet
 use Rattle.sheet_rules.specs.Sheet.{counted, explicit_of}
 use Rattle.sheet_rules.specs.Panels.{Tables, entry_words, with_axes, sized_state, sized_panel, tables_of}
-use Rattle.panel_rules.specs.declared.PlacementAnswer.{PlacementAnswer}
+use Rattle.panel_rules.specs.Placing.{PlacementAnswer}
 use Rattle.panel_rules.specs.Calls.{with_entries}
 use Rattle.panel_rules.specs.Placing.{refused_placement}
 use Rattle.panel_rules.specs.Runs.{Held}

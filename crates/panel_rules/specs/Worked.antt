@@ -19,7 +19,7 @@ use Rattle.track_rules.specs.declared.GridTrack.{GridTrack}
 use Rattle.track_rules.specs.declared.GridTrackKind.TheVariants as Kind
 use Rattle.track_rules.specs.declared.TrackSource.{TrackSource}
 use Rattle.track_rules.specs.declared.TrackSource.TheVariants as From
-use Rattle.track_rules.specs.declared.RecordAnswer.{RecordAnswer}
+use Rattle.track_rules.specs.Tracks.{RecordAnswer}
 use Rattle.track_rules.specs.Tracks.{grid_track, gutter_of, refused_record}
 use Rattle.track_rules.specs.Records.{listed}
 use Rattle.axis_tables.specs.View.{components_of}
@@ -28,7 +28,7 @@ use Rattle.panel_tables.specs.Axes.{view_in}
 use Rattle.sheet_rules.specs.Sheet.{size_of as template_size, sheet_of}
 use Rattle.sheet_rules.specs.Valid.{ValidTemplate}
 use Rattle.sheet_rules.specs.Panels.{Tables}
-use Rattle.panel_rules.specs.declared.PlacementAnswer.{PlacementAnswer}
+use Rattle.panel_rules.specs.Placing.{PlacementAnswer}
 use Rattle.axis_tables.specs.declared.AxisSize.{AxisSize}
 use Rattle.panel_rules.specs.Placing.{refused_placement}
 use Rattle.panel_rules.specs.Runs.{Held, Call, Accepted, run_of, size_of, placement_of, lists_of, name_of, record_of}

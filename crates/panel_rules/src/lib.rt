@@ -2,21 +2,12 @@
 
 #![tactic(auto)]
 
-use coordinates::{Axis, Refusal};
+use coordinates::Axis;
 use name_resolver::{HeldEnds, ResolvedLine};
-use panel_tables::Panel;
 
-// The answer of an entry call: its refusal, and the panel with the entry, on a refusal as it came.
-#[derive(Clone, Copy)]
-pub struct EntryAnswer {
-    pub refusal: Refusal,
-    pub panel: Panel,
-}
-
-// A resolved placement with its axis and the marks of its ends, or a refusal and zeros.
-#[derive(Clone, Copy)]
-pub struct PlacementAnswer {
-    pub refusal: Refusal,
+// A resolved placement with its axis and the marks of its ends.
+#[derive(Clone, Copy, Debug, PartialEq, Eq)]
+pub struct PlacedLine {
     pub axis: Axis,
     pub line: ResolvedLine,
     pub held: HeldEnds,

@@ -1,9 +1,10 @@
 -- The regions of a panel's words and bytes make them up, so that what their parts say they say.
-use Prim.Native.Nat.{ℕ, ◌+◌}
+use Prim.Native.Nat.{ℕ, ◌+◌, ◌-◌}
 use mathlib.Core.Path.{◌≡◌, sym, ap, ◌∙◌}
+use borrow.Rule.Slice.PartMut.{mid_of}
 use mathlib.Core.List.{List, ◌++◌}
 use native.Mathlib.Omega.{arith}
-use lib.ListN.{length, drop, length-drop, take-append-drop}
+use lib.ListN.{length, take, drop, length-drop, take-append-drop}
 use lib.Seq.{take_all, drop-drop}
 use Rattle.coordinates.specs.declared.axis.Axis.{Axis}
 use Rattle.coordinates.specs.declared.axis.Axis.TheVariants.{Column, Row}
@@ -61,3 +62,7 @@ module _ (w ys : List ℕ) (l : length w ≡ panel_words) (e : length ys ≡ 124
   unfolding placement_words_in
   placements-stay Column = lent-after w ys 0 12480 (omega arith) e 25088 512 (omega arith)
   placements-stay Row = lent-after w ys 12480 12480 (omega arith) e 25088 512 (omega arith)
+
+-- a part by its first place and the place after its last
+pub mid_here : (s : List ℕ) (f n : ℕ) → mid_of f (f + n - f) s ≡ part_of s f n
+mid_here s f n = let e : f + n - f ≡ n = omega arith in ap (λ (k : ℕ). take k (drop f s)) e

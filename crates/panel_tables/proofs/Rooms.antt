@@ -1,5 +1,5 @@
 -- What a placement that is accepted says of its numbers.
-use Prim.Native.Nat.{ℕ, ◌+◌}
+use Prim.Native.Nat.{ℕ, ◌+◌, ◌≤◌, ◌<◌}
 use mathlib.Core.Path.{◌≡◌, refl, sym, ◌∙◌}
 use mathlib.Core.Bool.{Bool, true, false, cond}
 use native.Mathlib.Omega.{arith}
@@ -38,3 +38,10 @@ placement_room p s m e n f a b = go (end_outside s) (end_outside e) (no_room 256
     go false false false true a b z = absurd (fault_stays n 8 (λ q. omega arith) z)
     go false false false false a b z =
         record { start = room 256 16384 p.grid.placements p.room.placementbytes m a; end = room 256 16384 p.grid.placements (p.room.placementbytes + m) n b }
+
+-- the numbers of one more placement
+pub placements_few : (p : Panel) (s : PlacementEnd) (m : ℕ) (e : PlacementEnd) (n : ℕ) → placement_fault p s m e n ≡ 0 → p.grid.placements < 256
+placements_few p s m e n h = (placement_room p s m e n (placement_fault p s m e n) refl h).start.free
+
+pub placement_bytes_few : (p : Panel) (s : PlacementEnd) (m : ℕ) (e : PlacementEnd) (n : ℕ) → placement_fault p s m e n ≡ 0 → p.room.placementbytes + m + n ≤ 16384
+placement_bytes_few p s m e n h = (placement_room p s m e n (placement_fault p s m e n) refl h).end.bytes

@@ -23,3 +23,6 @@ number_fits c h = go (leb 32768 c)
     go : (t : Bool) → SFits w32 (cond t (pos (c - 32768)) (negsuc (32767 - c)))
     go true = record { sfits = omega arith }
     go false = record { sfits = omega arith }
+
+pub number_back : (c : ℕ) → c < 131072 → to_z w32 (of_z w32 (number_of c)) ≡ number_of c
+number_back c h = to_z-of_z (number_fits c h)

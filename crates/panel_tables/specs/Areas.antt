@@ -1,7 +1,9 @@
 -- The table of the drawn areas: 64 words of edges, 64 words of names, and the bytes of these; what `area` does to them, whatever they hold.
-use Rattle.std.specs.Prelude.{ℕ, zero, suc, ◌+◌, ◌-◌, ◌*◌, ◌/◌, ◌%◌, max, min, List, Bool, true, false, cond, ltb, length, get_or, set}
+use Rattle.std.specs.Prelude.{ℕ, zero, suc, ◌+◌, ◌-◌, ◌*◌, ◌/◌, ◌%◌, max, min, List, Bool, true, false, cond, ltb, length, get_or, set, Result, Ok, Err}
 use Rattle.coordinates.specs.declared.axis.Axis.{Axis}
 use Rattle.coordinates.specs.declared.axis.Axis.TheVariants.{Column, Row}
+use Rattle.coordinates.specs.declared.refusal.Fault.{Fault}
+use Rattle.coordinates.specs.Refusals.{number_of}
 use Rattle.text.specs.Split.{same}
 use Rattle.axis_tables.specs.declared.AxisRoom.{AxisRoom}
 use Rattle.axis_tables.specs.Runs.{part_of, put_bytes}
@@ -10,7 +12,6 @@ use Rattle.axis_tables.specs.Store.{name_word, with_areas}
 use Rattle.axis_tables.specs.Reads.{name_place}
 use Rattle.panel_tables.specs.declared.Room.{Room}
 use Rattle.panel_tables.specs.declared.Panel.{Panel}
-use Rattle.panel_tables.specs.declared.PanelPut.{PanelPut}
 use Rattle.panel_tables.specs.declared.AreaEdges.{AreaEdges}
 use Rattle.panel_tables.specs.declared.EdgePair.{EdgePair}
 use Rattle.panel_tables.specs.declared.AreaPlace.{AreaPlace}
@@ -53,6 +54,12 @@ abbrev pub has_area_in : ℕ → List ℕ → List ℕ → List ℕ → Bool
 has_area_in areas words bytes n = named_in words bytes n (min areas 64)
 
 -- ---- `area`
+
+-- the answer of a record: its refusal's number, 0 where there is none, and the panel after it, on a refusal as it came
+pub record PanelPut : Type 0 where
+  pub fault : ℕ
+  pub panel : Panel
+
 pub record InAreas : Type 0 where
   pub answer : PanelPut
   pub words : List ℕ
@@ -85,6 +92,11 @@ with_area p e length =
 
 abbrev pub put : ℕ → Panel → PanelPut
 put fault p = record { fault = fault; panel = p }
+
+-- the number and the panel of what a call answers, of the panel as it came
+abbrev pub answered_panel : Panel → Result Panel Fault → PanelPut
+answered_panel p (Ok after) = put 0 after
+answered_panel p (Err fault) = put (number_of fault) p
 
 unfoldable pub put_area : Panel → List ℕ → List ℕ → List ℕ → AreaEdges → InAreas
 put_area p w b n e =

@@ -1,18 +1,20 @@
 -- One axis of a panel: taken out, and put back.
+use Rattle.std.specs.Prelude.{ℕ}
+use Rattle.coordinates.specs.Refusals.{fault_number}
 use Rattle.coordinates.specs.declared.axis.Axis.{Axis}
 use Rattle.coordinates.specs.declared.axis.Axis.TheVariants.{Column, Row}
 use Rattle.axis_tables.specs.declared.AxisGrid.{AxisGrid}
 use Rattle.axis_tables.specs.declared.AxisRoom.{AxisRoom}
 use Rattle.axis_tables.specs.declared.AxisState.{AxisState}
 use Rattle.axis_tables.specs.declared.AxisReading.{AxisReading}
-use Rattle.axis_tables.specs.declared.AxisPut.{AxisPut}
+use Rattle.axis_tables.specs.Store.{AxisPut}
 use Rattle.axis_tables.specs.View.{AxisView, AxisOutcome}
 use Rattle.axis_tables.specs.Written.{Held}
 use Rattle.panel_tables.specs.declared.Grid.{Grid}
 use Rattle.panel_tables.specs.declared.Room.{Room}
 use Rattle.panel_tables.specs.declared.Panel.{Panel}
 use Rattle.panel_tables.specs.declared.Reading.{Reading}
-use Rattle.panel_tables.specs.declared.PanelRead.{PanelRead}
+use Rattle.panel_tables.specs.declared.PanelAfter.{PanelAfter}
 use Rattle.panel_tables.specs.View.{PanelView, PanelOutcome}
 use Rattle.panel_tables.specs.Written.{PanelHeld, PanelStepped}
 
@@ -46,6 +48,16 @@ with_state p a s = record { grid = with_grid p.grid a s.grid; room = with_room p
 abbrev pub with_reading : Reading → Axis → AxisReading → Reading
 with_reading r Column a = record { stage = r.stage; picture = r.picture; columns = a; rows = r.rows }
 with_reading r Row a = record { stage = r.stage; picture = r.picture; columns = r.columns; rows = a }
+
+-- the answer of a record, for the panel: its refusal's number, and the panel and the reading after it
+pub record PanelRead : Type 0 where
+  pub fault : ℕ
+  pub panel : Panel
+  pub reading : Reading
+
+-- the number and the panel of what a call answers
+abbrev pub answered_read : PanelAfter → PanelRead
+answered_read after = record { fault = fault_number after.fault; panel = after.panel; reading = after.reading }
 
 abbrev pub read_by : Panel → Reading → Axis → AxisPut → PanelRead
 read_by p r axis a = record { fault = a.fault; panel = with_state p axis a.state; reading = with_reading r axis a.reading }

@@ -1,11 +1,10 @@
 // The drawn areas: 64 words of edges, then 64 words of names; the bytes of the names one after the other.
-ghost use Rattle.std.specs.Prelude.{◌≡◌, ◌≤◌, min};
-ghost use Rattle.panel_tables.specs.Areas.{edges_of, word_of, area_at, area_name, has_area_in};
+ghost use Rattle.std.specs.Prelude.{◌≡◌, ◌≤◌};
+ghost use Rattle.panel_tables.specs.Areas.{edges_word, edges_of, word_of, area_at, area_name, has_area_in};
 
 use crate::{AreaEdges, AreaPlace};
-use axis_tables::layout::{name_place, word_at};
-use axis_tables::name::name_part;
-use coordinates::Axis;
+use axis_tables::NamePlace;
+use axis_tables::layout::{part_from, word_at};
 
 pub const AREA_WORDS: usize = 128;
 
@@ -13,15 +12,35 @@ pub const AREA_NAMES: usize = 64;
 
 pub const AREA_BYTES: usize = 2048;
 
-// Edges from their word. Any word gives some.
-pub fn edges_of(word: u64) -> AreaEdges
-    ensures { result ≡ edges_of word }
-{
-    AreaEdges {
-        rowstart: (word % 0x1_0000) as u32,
-        rowend: (word / 0x1_0000 % 0x1_0000) as u32,
-        columnstart: (word / 0x1_0000_0000 % 0x1_0000) as u32,
-        columnend: (word / 0x1_0000_0000_0000) as u32,
+// The most drawn areas.
+pub const MOST_AREAS: u32 = 64;
+
+impl From<AreaEdges> for u64 {
+    ghost from_gives = { λ edges word. word ≡ edges_word edges };
+
+    // The word of edges.
+    #[tactic(auto, unfolding(crate::specs::Areas::edges_word))]
+    fn from(edges: AreaEdges) -> u64 {
+        let rowstart = u64::from(edges.rowstart) % 0x1_0000;
+        let rowend = u64::from(edges.rowend) % 0x1_0000;
+        let columnstart = u64::from(edges.columnstart) % 0x1_0000;
+        let columnend = u64::from(edges.columnend) % 0x1_0000;
+        rowstart + rowend * 0x1_0000 + columnstart * 0x1_0000_0000 + columnend * 0x1_0000_0000_0000
+    }
+}
+
+impl From<u64> for AreaEdges {
+    ghost from_gives = { λ word edges. edges ≡ edges_of word };
+
+    // Edges from their word. Any word gives some.
+    #[tactic(auto, unfolding(crate::specs::Areas::edges_of))]
+    fn from(word: u64) -> AreaEdges {
+        AreaEdges {
+            rowstart: (word % 0x1_0000) as u32,
+            rowend: (word / 0x1_0000 % 0x1_0000) as u32,
+            columnstart: (word / 0x1_0000_0000 % 0x1_0000) as u32,
+            columnend: (word / 0x1_0000_0000_0000) as u32,
+        }
     }
 }
 
@@ -30,18 +49,20 @@ fn word_of(words: &[u64], start: usize, index: u32) -> u64
     requires { start ≤ 64 }
     ensures { result ≡ word_of words.now start index }
 {
-    if index < 64 {
-        return word_at(words, start + index as usize);
+    if index < MOST_AREAS {
+        word_at(words, start + index as usize)
+    } else {
+        0
     }
-    0
 }
 
 // Area i of the table. Any words give one.
+#[tactic(auto, unfolding(crate::specs::Areas::area_at))]
 pub fn area_at(words: &[u64], index: u32) -> AreaPlace
     ensures { result ≡ area_at words.now index }
 {
-    let edges = edges_of(word_of(words, 0, index));
-    let name = name_place(word_of(words, AREA_NAMES, index));
+    let edges = AreaEdges::from(word_of(words, 0, index));
+    let name = NamePlace::from(word_of(words, AREA_NAMES, index));
     AreaPlace {
         edges,
         offset: name.offset,
@@ -54,29 +75,13 @@ pub fn area_name<'a>(words: &[u64], bytes: &'a [u8], index: u32) -> &'a [u8]
     ensures { result.now ≡ area_name words.now bytes.now index }
 {
     let place = area_at(words, index);
-    name_part(bytes, place.offset, place.length)
-}
-
-// The smaller of a count and 64.
-fn at_most_64(n: u32) -> u32
-    ensures { result ≡ min n 64 }
-{
-    if n < 64 {
-        return n;
-    }
-    64
+    part_from(bytes, place.offset as usize, place.length)
 }
 
 // Whether one of so many areas has that name.
+
 pub fn has_area(areas: u32, words: &[u64], bytes: &[u8], name: &[u8]) -> bool
     ensures { result ≡ has_area_in areas words.now bytes.now name.now }
 {
-    let mut k = at_most_64(areas);
-    while 0 < k {
-        k -= 1;
-        if text::words::equal(area_name(words, bytes, k), name) {
-            return true;
-        }
-    }
-    false
+    (0..areas.min(MOST_AREAS)).any(|k| text::words::equal(area_name(words, bytes, k), name))
 }

@@ -1,10 +1,11 @@
 // One axis of a panel: taken out, and put back.
 ghost use Rattle.std.specs.Prelude.{◌≡◌};
-ghost use Rattle.panel_tables.specs.Axes.{grid_in, room_in, state_in, reading_in, with_grid, with_room, with_state, with_reading, read_by};
+ghost use Rattle.panel_tables.specs.Axes.{grid_in, room_in, state_in, reading_in, with_grid, with_room, with_state, with_reading, answered_read, read_by};
+ghost use Rattle.axis_tables.specs.Store.{answered_axis};
 
-use crate::{Grid, Panel, PanelRead, Reading, Room};
-use axis_tables::{AxisGrid, AxisPut, AxisReading, AxisRoom, AxisState};
-use coordinates::Axis;
+use crate::{Grid, Panel, PanelAfter, Reading, Room};
+use axis_tables::{AxisAfter, AxisGrid, AxisReading, AxisRoom, AxisState};
+use coordinates::{Axis, Fault};
 
 // What answers on an axis.
 pub fn grid_in(grid: Grid, axis: Axis) -> AxisGrid
@@ -49,16 +50,12 @@ pub fn reading_in(reading: Reading, axis: Axis) -> AxisReading
 fn with_grid(grid: Grid, axis: Axis, own: AxisGrid) -> Grid
     ensures { result ≡ with_grid grid axis own }
 {
-    let mut after = grid;
     match axis {
-        Axis::Column => {
-            after.columns = own;
-            after
-        }
-        Axis::Row => {
-            after.rows = own;
-            after
-        }
+        Axis::Column => Grid {
+            columns: own,
+            ..grid
+        },
+        Axis::Row => Grid { rows: own, ..grid },
     }
 }
 
@@ -66,16 +63,12 @@ fn with_grid(grid: Grid, axis: Axis, own: AxisGrid) -> Grid
 fn with_room(room: Room, axis: Axis, own: AxisRoom) -> Room
     ensures { result ≡ with_room room axis own }
 {
-    let mut after = room;
     match axis {
-        Axis::Column => {
-            after.columns = own;
-            after
-        }
-        Axis::Row => {
-            after.rows = own;
-            after
-        }
+        Axis::Column => Room {
+            columns: own,
+            ..room
+        },
+        Axis::Row => Room { rows: own, ..room },
     }
 }
 
@@ -92,28 +85,37 @@ pub fn with_state(panel: Panel, axis: Axis, state: AxisState) -> Panel
 fn with_reading(reading: Reading, axis: Axis, own: AxisReading) -> Reading
     ensures { result ≡ with_reading reading axis own }
 {
-    let mut after = reading;
     match axis {
-        Axis::Column => {
-            after.columns = own;
-            after
-        }
-        Axis::Row => {
-            after.rows = own;
-            after
-        }
+        Axis::Column => Reading {
+            columns: own,
+            ..reading
+        },
+        Axis::Row => Reading {
+            rows: own,
+            ..reading
+        },
     }
 }
 
-// The panel and the reading with what a record answered for an axis.
-pub fn read_by(panel: Panel, reading: Reading, axis: Axis, answer: AxisPut) -> PanelRead
-    ensures { result ≡ read_by panel reading axis answer }
+// The panel and the reading with what a record answered for an axis: as they came where it was refused.
+pub fn read_by(
+    panel: Panel,
+    reading: Reading,
+    axis: Axis,
+    answer: Result<AxisAfter, Fault>,
+) -> PanelAfter
+    ensures { answered_read result ≡ read_by panel reading axis (answered_axis (state_in panel axis) (reading_in reading axis) answer) }
 {
-    let panel = with_state(panel, axis, answer.state);
-    let reading = with_reading(reading, axis, answer.reading);
-    PanelRead {
-        fault: answer.fault,
-        panel,
-        reading,
+    match answer {
+        Ok(after) => PanelAfter {
+            fault: None,
+            panel: with_state(panel, axis, after.state),
+            reading: with_reading(reading, axis, after.reading),
+        },
+        Err(fault) => PanelAfter {
+            fault: Some(fault),
+            panel,
+            reading,
+        },
     }
 }

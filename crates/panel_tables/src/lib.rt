@@ -10,11 +10,11 @@ pub mod region;
 pub mod state;
 
 use axis_tables::{AxisGrid, AxisReading, AxisRoom};
-use coordinates::Axis;
+use coordinates::{Axis, Fault};
 
 // What answers are read from, beside the tables: both axes, and how many areas and placements the tables hold.
 #[repr(C)]
-#[derive(Clone, Copy)]
+#[derive(Clone, Copy, Debug, PartialEq, Eq, Default)]
 pub struct Grid {
     pub columns: AxisGrid,
     pub rows: AxisGrid,
@@ -24,7 +24,7 @@ pub struct Grid {
 
 // What only an edit reads: of both axes, and how many bytes the names of areas and of placements take.
 #[repr(C)]
-#[derive(Clone, Copy)]
+#[derive(Clone, Copy, Debug, PartialEq, Eq, Default)]
 pub struct Room {
     pub columns: AxisRoom,
     pub rows: AxisRoom,
@@ -34,14 +34,14 @@ pub struct Room {
 
 // A panel by value: what answers, and what edits.
 #[repr(C)]
-#[derive(Clone, Copy)]
+#[derive(Clone, Copy, Debug, PartialEq, Eq, Default)]
 pub struct Panel {
     pub grid: Grid,
     pub room: Room,
 }
 
 // What reading keeps of a picture: how many rows were read, the number of words of the first, and whether the cells of a name are no rectangle.
-#[derive(Clone, Copy)]
+#[derive(Clone, Copy, Debug, PartialEq, Eq, Default)]
 pub struct PictureReading {
     pub rows: u32,
     pub width: u32,
@@ -50,7 +50,7 @@ pub struct PictureReading {
 
 // What only reading needs: the kind order (0 where nothing but `axis` records was read, 1 after an `area`, 2 after a `row`, 3 after any
 // other), the picture, and what each axis needs.
-#[derive(Clone, Copy)]
+#[derive(Clone, Copy, Debug, PartialEq, Eq, Default)]
 pub struct Reading {
     pub stage: u32,
     pub picture: PictureReading,
@@ -58,23 +58,16 @@ pub struct Reading {
     pub rows: AxisReading,
 }
 
-// The answer of a record: its refusal's number, 0 where there is none, and the panel after it, on a refusal as it came.
-#[derive(Clone, Copy)]
-pub struct PanelPut {
-    pub fault: u32,
-    pub panel: Panel,
-}
-
-// The answer of a record of one axis, for the panel: its refusal's number, and the panel and the reading after it.
-#[derive(Clone, Copy)]
-pub struct PanelRead {
-    pub fault: u32,
+// A panel after a record and what reading it needs, and the record's fault: a row of a picture with a fault changes them too.
+#[derive(Clone, Copy, Debug, PartialEq, Eq)]
+pub struct PanelAfter {
+    pub fault: Option<Fault>,
     pub panel: Panel,
     pub reading: Reading,
 }
 
 // The edges of an area, as lines.
-#[derive(Clone, Copy)]
+#[derive(Clone, Copy, Debug, PartialEq, Eq)]
 pub struct AreaEdges {
     pub rowstart: u32,
     pub rowend: u32,
@@ -83,14 +76,14 @@ pub struct AreaEdges {
 }
 
 // The two edges of an area in an axis.
-#[derive(Clone, Copy)]
+#[derive(Clone, Copy, Debug, PartialEq, Eq)]
 pub struct EdgePair {
     pub start: u32,
     pub end: u32,
 }
 
 // An area as its table holds it: its edges, and where the bytes of its name lie.
-#[derive(Clone, Copy)]
+#[derive(Clone, Copy, Debug, PartialEq, Eq)]
 pub struct AreaPlace {
     pub edges: AreaEdges,
     pub offset: u32,
@@ -98,14 +91,14 @@ pub struct AreaPlace {
 }
 
 // An end of a placement: kinds 0 to 4 are `auto line named span nspan`; the number is 0 where it is unused.
-#[derive(Clone, Copy)]
+#[derive(Clone, Copy, Debug, PartialEq, Eq)]
 pub struct PlacementEnd {
     pub kind: u32,
     pub number: i32,
 }
 
 // An end as its table holds it: with where the bytes of its name lie.
-#[derive(Clone, Copy)]
+#[derive(Clone, Copy, Debug, PartialEq, Eq)]
 pub struct EndPlace {
     pub end: PlacementEnd,
     pub offset: u32,
@@ -113,7 +106,7 @@ pub struct EndPlace {
 }
 
 // A placement as its table holds it.
-#[derive(Clone, Copy)]
+#[derive(Clone, Copy, Debug, PartialEq, Eq)]
 pub struct PlacementPlace {
     pub axis: Axis,
     pub start: EndPlace,

@@ -46,51 +46,51 @@ pub fn first_mark(axis: Axis) -> usize
 }
 
 // The words of an axis.
+#[tactic(auto, unfolding(crate::specs::Regions::axis_words_in), using(crate::proofs::Regions::mid_here))]
 pub fn axis_words(words: &[u64; PANEL_WORDS], axis: Axis) -> &[u64]
     ensures { result.now ≡ axis_words_in axis words.now }
 {
-    let all = &words[..];
     let first = first_word(axis);
-    &all[first..first + AXIS_WORDS]
+    &words[first..first + AXIS_WORDS]
 }
 
 // The words of the areas.
+#[tactic(auto, unfolding(crate::specs::Regions::area_words_in))]
 pub fn area_words(words: &[u64; PANEL_WORDS]) -> &[u64]
     ensures { result.now ≡ area_words_in words.now }
 {
-    let all = &words[..];
-    &all[AREAS..AREAS + AREA_WORDS]
+    &words[AREAS..AREAS + AREA_WORDS]
 }
 
 // The words of the placements.
+#[tactic(auto, unfolding(crate::specs::Regions::placement_words_in))]
 pub fn placement_words(words: &[u64; PANEL_WORDS]) -> &[u64]
     ensures { result.now ≡ placement_words_in words.now }
 {
-    let all = &words[..];
-    &all[PLACEMENTS..PLACEMENTS + PLACEMENT_WORDS]
+    &words[PLACEMENTS..PLACEMENTS + PLACEMENT_WORDS]
 }
 
 // The item marks of an axis.
+#[tactic(auto, unfolding(crate::specs::Regions::marks_in), using(crate::proofs::Regions::mid_here))]
 pub fn marks(bytes: &[u8; PANEL_BYTES], axis: Axis) -> &[u8]
     ensures { result.now ≡ marks_in axis bytes.now }
 {
-    let all = &bytes[..];
     let first = first_mark(axis);
-    &all[first..first + AXIS_MARKS]
+    &bytes[first..first + AXIS_MARKS]
 }
 
 // The bytes of the names of areas.
+#[tactic(auto, unfolding(crate::specs::Regions::area_bytes_in))]
 pub fn area_bytes(bytes: &[u8; PANEL_BYTES]) -> &[u8]
     ensures { result.now ≡ area_bytes_in bytes.now }
 {
-    let all = &bytes[..];
-    &all[AREA_NAMES_START..AREA_NAMES_START + AREA_BYTES]
+    &bytes[AREA_NAMES_START..AREA_NAMES_START + AREA_BYTES]
 }
 
 // The bytes of the names of placements.
+#[tactic(auto, unfolding(crate::specs::Regions::placement_bytes_in))]
 pub fn placement_bytes(bytes: &[u8; PANEL_BYTES]) -> &[u8]
     ensures { result.now ≡ placement_bytes_in bytes.now }
 {
-    let all = &bytes[..];
-    &all[PLACEMENT_NAMES_START..PLACEMENT_NAMES_START + PLACEMENT_BYTES]
+    &bytes[PLACEMENT_NAMES_START..PLACEMENT_NAMES_START + PLACEMENT_BYTES]
 }

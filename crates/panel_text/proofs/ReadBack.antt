@@ -12,7 +12,7 @@ use lib.ListN.{length, length-append}
 use borrow.Author.Tests.{ltb-true, ltb-false, lt-ltb, le-leb, lt-leb}
 use Rattle.text.specs.Whole.{whole_of, whole}
 use Rattle.text.specs.Hexadecimal.{bits_of}
-use Rattle.text.specs.declared.Bits.TheVariants.{Value}
+use Rattle.std.specs.Prelude.{Some}
 use Rattle.text.specs.Spelling.{Digits, NoLeadingZero, value_from, decimal as decimal_digit, WritesNatural, Writes, HexDigit, HexDigits, hexadecimal as hexadecimal_digit, WritesBits}
 use Rattle.text.proofs.Decimals.{whole-written}
 use Rattle.text.proofs.Hexadecimals.{hex_written}
@@ -138,5 +138,5 @@ hex_value (suc k) n h =
 pub bits_write : (n : ℕ) → n < 2 ^ 32 → WritesBits (hexadecimal n) n
 bits_write n h = record { eight = hex_length 8 n; digits = hex_digits 8 n; value = hex_value 8 n (omega arith) }
 
-pub bits_back : (n : ℕ) → n < 2 ^ 32 → bits_of (hexadecimal n) ≡ Value n
+pub bits_back : (n : ℕ) → n < 2 ^ 32 → bits_of (hexadecimal n) ≡ Some n
 bits_back n h = hex_written (hexadecimal n) n (bits_write n h)

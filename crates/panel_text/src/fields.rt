@@ -1,7 +1,8 @@
 // The fields of a line, each with the tab or the line feed after it.
 ghost use Rattle.std.specs.Prelude.{◌≡◌, [], ◌∷◌, ◌≤◌, length, get_or};
 ghost use Rattle.sizing.specs.Words.{bits_of};
-ghost use Rattle.sheet_forms.specs.Words.{end_words};
+ghost use Rattle.sizing.specs.Kinds.{number_of_kind};
+ghost use Rattle.sheet_forms.specs.Words.{size_words, end_words};
 ghost use Rattle.name_resolver.specs.Placements.{resolved_kind_of, resolved_number_of};
 ghost use Rattle.panel_text.specs.Numerals.{decimal, whole_number, hexadecimal};
 ghost use Rattle.panel_text.specs.Lines.{axis_word, track_word, collapsed_word, size_word, source_letter};
@@ -10,8 +11,13 @@ ghost use Rattle.panel_text.specs.Written.{Put, PutField, PutTwo};
 use crate::numerals::{put_byte, put_decimal, put_hexadecimal, put_whole};
 use coordinates::Axis;
 use name_resolver::NonNamedGridPlacement;
-use sizing::Sizing;
+use sizing::{Kind, Sizing};
 use track_rules::{GridTrackKind, TrackSource};
+
+// What parts the fields of a line, and what ends it.
+pub(crate) const TAB: u8 = b'\t';
+
+pub(crate) const LINE_FEED: u8 = b'\n';
 
 // The bytes of a word.
 fn put_word(out: &mut [u8], place: usize, word: &[u8]) -> usize
@@ -19,10 +25,8 @@ fn put_word(out: &mut [u8], place: usize, word: &[u8]) -> usize
     ensures { Put out.old place word.now out.new result 8 }
 {
     let mut at = place;
-    let mut i: usize = 0;
-    while i < word.len() {
-        at = put_byte(out, at, word[i]);
-        i += 1;
+    for byte in word {
+        at = put_byte(out, at, *byte);
     }
     at
 }
@@ -59,10 +63,11 @@ pub(crate) fn put_axis(out: &mut [u8], place: usize, axis: Axis) -> usize
     requires { place ≤ 150 }
     ensures { PutField out.old place (axis_word axis) 9 out.new result }
 {
-    match axis {
-        Axis::Column => put_field(out, place, b"c", 9),
-        Axis::Row => put_field(out, place, b"r", 9),
-    }
+    let letter = match axis {
+        Axis::Column => b"c",
+        Axis::Row => b"r",
+    };
+    put_field(out, place, letter, TAB)
 }
 
 // The kind of a record.
@@ -70,10 +75,11 @@ pub(crate) fn put_track(out: &mut [u8], place: usize, kind: GridTrackKind) -> us
     requires { place ≤ 150 }
     ensures { PutField out.old place (track_word kind) 9 out.new result }
 {
-    match kind {
-        GridTrackKind::Track => put_field(out, place, b"track", 9),
-        GridTrackKind::Gutter => put_field(out, place, b"gutter", 9),
-    }
+    let word = match kind {
+        GridTrackKind::Track => b"track".as_slice(),
+        GridTrackKind::Gutter => b"gutter",
+    };
+    put_field(out, place, word, TAB)
 }
 
 // Whether a record is collapsed.
@@ -81,10 +87,24 @@ pub(crate) fn put_collapsed(out: &mut [u8], place: usize, collapsed: bool) -> us
     requires { place ≤ 150 }
     ensures { PutField out.old place (collapsed_word collapsed) 9 out.new result }
 {
-    if collapsed {
-        return put_field(out, place, b"y", 9);
+    put_field(out, place, if collapsed { b"y" } else { b"n" }, TAB)
+}
+
+// The word of a kind of size.
+fn kind_word(kind: Kind) -> &'static [u8]
+    ensures word { result.now ≡ get_or size_words (number_of_kind kind) [] }
+    ensures short { length result.now ≤ 8 }
+{
+    match kind {
+        Kind::Length => b"len",
+        Kind::Percent => b"pct",
+        Kind::Fraction => b"fr",
+        Kind::Auto => b"auto",
+        Kind::MinContent => b"min",
+        Kind::MaxContent => b"max",
+        Kind::FitContentLength => b"fitl",
+        Kind::FitContentPercent => b"fitp",
     }
-    put_field(out, place, b"n", 9)
 }
 
 // The kind of a size.
@@ -92,9 +112,7 @@ fn put_kind(out: &mut [u8], place: usize, size: Sizing) -> usize
     requires { place ≤ 150 }
     ensures { PutField out.old place (size_word size) 9 out.new result }
 {
-    let kind = sizing::word::kind_of(size) as usize;
-    let word = text::part(b"len\tpct\tfr\tauto\tmin\tmax\tfitl\tfitp", 9, kind);
-    put_field(out, place, word, 9)
+    put_field(out, place, kind_word(size.kind()), TAB)
 }
 
 // A size: its kind and its value, each with the tab after it.
@@ -103,7 +121,7 @@ pub(crate) fn put_size(out: &mut [u8], place: usize, size: Sizing) -> usize
     ensures { PutTwo out.old place (size_word size) (hexadecimal (bits_of size)) out.new result }
 {
     let at = put_kind(out, place, size);
-    put_bits(out, at, sizing::word::bits_of(size), 9)
+    put_bits(out, at, sizing::word::bits_of(size), TAB)
 }
 
 // The letter of a record's source.
@@ -111,12 +129,12 @@ fn source_letter(source: TrackSource) -> u8
     ensures { result ≡ source_letter source }
 {
     match source {
-        TrackSource::Negative => 110,
-        TrackSource::Template => 116,
-        TrackSource::Automatic => 97,
-        TrackSource::Area => 103,
-        TrackSource::Positive => 112,
-        TrackSource::Gutter => 45,
+        TrackSource::Negative => b'n',
+        TrackSource::Template => b't',
+        TrackSource::Automatic => b'a',
+        TrackSource::Area => b'g',
+        TrackSource::Positive => b'p',
+        TrackSource::Gutter => b'-',
     }
 }
 
@@ -134,11 +152,12 @@ pub(crate) fn put_end_kind(out: &mut [u8], place: usize, end: NonNamedGridPlacem
     requires { place ≤ 150 }
     ensures { PutField out.old place (get_or end_words (resolved_kind_of end) []) 9 out.new result }
 {
-    match end {
-        NonNamedGridPlacement::Auto => put_field(out, place, b"auto", 9),
-        NonNamedGridPlacement::Line(_) => put_field(out, place, b"line", 9),
-        NonNamedGridPlacement::Span(_) => put_field(out, place, b"span", 9),
-    }
+    let word = match end {
+        NonNamedGridPlacement::Auto => b"auto",
+        NonNamedGridPlacement::Line(_) => b"line",
+        NonNamedGridPlacement::Span(_) => b"span",
+    };
+    put_field(out, place, word, TAB)
 }
 
 // A whole number.

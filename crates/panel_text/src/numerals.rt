@@ -14,7 +14,6 @@ pub(crate) fn put_byte(out: &mut [u8], place: usize, byte: u8) -> usize
 {
     if place < out.len() {
         out[place] = byte;
-        return place + 1;
     }
     place + 1
 }
@@ -25,9 +24,10 @@ fn digit(number: u32) -> u8
     ensures { result ≡ Numerals·digit number }
 {
     if number < 10 {
-        return 48 + number as u8;
+        b'0' + number as u8
+    } else {
+        b'a' + (number as u8 - 10)
     }
-    87 + number as u8
 }
 
 // Decimal digits, the highest first.
@@ -70,7 +70,7 @@ pub(crate) fn put_whole(out: &mut [u8], place: usize, number: i16) -> usize
     match signed::split_16_bits(number) {
         Signed::NonNegative(n) => put_decimal(out, place, n),
         Signed::Negative(k) => {
-            let digits = put_byte(out, place, 45);
+            let digits = put_byte(out, place, b'-');
             put_decimal(out, digits, k + 1)
         }
     }

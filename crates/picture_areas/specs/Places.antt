@@ -1,5 +1,5 @@
 -- The place of a name among the areas of the table, whatever it holds.
-use Rattle.std.specs.Prelude.{ℕ, zero, suc, min, List, cond}
+use Rattle.std.specs.Prelude.{ℕ, zero, suc, min, List, cond, ltb, Option, Some, None}
 use Rattle.text.specs.Split.{same}
 use Rattle.panel_tables.specs.Areas.{area_name}
 
@@ -11,3 +11,7 @@ seek_in words bytes n k (suc left) = cond (same (area_name words bytes k) n) k (
 -- the table has places for 64
 abbrev pub area_index_in : ℕ → List ℕ → List ℕ → List ℕ → ℕ
 area_index_in areas words bytes n = seek_in words bytes n 0 (min areas 64)
+
+-- none where none has it
+abbrev pub area_place_in : ℕ → List ℕ → List ℕ → List ℕ → Option ℕ
+area_place_in areas words bytes n = cond (ltb (area_index_in areas words bytes n) (min areas 64)) (Some (area_index_in areas words bytes n)) None

@@ -1,5 +1,5 @@
 -- What a run of a drawn name does to the table of areas, whatever it holds. proofs/Same.antt has that it follows picture_rules' step.
-use Rattle.std.specs.Prelude.{ℕ, min, List, map, Bool, true, false, cond, not, ltb, length, set}
+use Rattle.std.specs.Prelude.{ℕ, min, List, map, Bool, true, false, cond, not, ltb, length, set, Result, Ok, Err}
 use Rattle.panel_tables.specs.declared.Panel.{Panel}
 use Rattle.panel_tables.specs.declared.AreaEdges.{AreaEdges}
 use Rattle.panel_tables.specs.View.{Area as TableArea}
@@ -7,7 +7,9 @@ use Rattle.panel_tables.specs.Areas.{edges_word, area_at, InAreas, with_area, pu
 use Rattle.panel_tables.specs.Written.{area_words, area_store}
 use Rattle.picture_rules.specs.Picture.{Box, PictureArea}
 use Rattle.picture_rules.specs.Steps.{continues, drawn, fits}
-use Rattle.picture_areas.specs.declared.draw.Drawn.{Drawn}
+use Rattle.coordinates.specs.Refusals.{number_of}
+use Rattle.coordinates.specs.declared.refusal.Fault.{Fault}
+use Rattle.picture_areas.specs.declared.draw.PictureAfter.{PictureAfter}
 use Rattle.picture_areas.specs.Places.{area_index_in}
 
 -- edges as the box of an area, and a box as edges
@@ -32,6 +34,17 @@ grow_in words i run =
     cond (run_continues (area_at words i).edges run)
     (record { broken = false; words = set words i (edges_word (longer_edges (area_at words i).edges run)) })
     (record { broken = true; words = words })
+
+-- the answer to a run: its refusal's number, 0 where there is none; whether it breaks the picture; and the panel after it, on a refusal as it came
+pub record Drawn : Type 0 where
+  pub fault : ℕ
+  pub broken : Bool
+  pub panel : Panel
+
+-- the numbers and values of what a call on a panel answers
+abbrev pub answered_drawn : Panel → Result PictureAfter Fault → Drawn
+answered_drawn p (Ok after) = record { fault = 0; broken = after.broken; panel = after.panel }
+answered_drawn p (Err fault) = record { fault = number_of fault; broken = false; panel = p }
 
 pub record InPicture : Type 0 where
   pub answer : Drawn

@@ -1,16 +1,16 @@
 // One run of a drawn name.
 ghost use Rattle.std.specs.Prelude.{◌≡◌};
-ghost use Rattle.picture_areas.specs.Runs.{draw_in};
+ghost use Rattle.picture_areas.specs.Runs.{answered_drawn, draw_in};
 
 use crate::grow::grow_area;
-use crate::place::{area_index, held_areas};
+use crate::place::area_index;
+use coordinates::Fault;
 use panel_tables::{AreaEdges, Panel};
 use panel_writes::area_record::put_area;
 
-// The answer to a run: its refusal's number, 0 where there is none; whether it breaks the picture; and the panel after it, on a refusal as it came.
-#[derive(Clone, Copy)]
-pub struct Drawn {
-    pub fault: u32,
+// What a run or a row leaves: whether it breaks the picture, and the panel after it.
+#[derive(Clone, Copy, Debug, PartialEq, Eq)]
+pub struct PictureAfter {
     pub broken: bool,
     pub panel: Panel,
 }
@@ -23,24 +23,16 @@ pub fn draw_run(
     bytes: &mut [u8],
     name: &[u8],
     run: AreaEdges,
-) -> Drawn
-    ensures { record { answer = result; words = words.new; bytes = bytes.new } ≡ draw_in panel words.old bytes.old name.now run }
+) -> Result<PictureAfter, Fault>
+    ensures { record { answer = answered_drawn panel result; words = words.new; bytes = bytes.new } ≡ draw_in panel words.old bytes.old name.now run }
 {
-    let areas = panel.grid.areas;
-    let index = area_index(areas, words, bytes, name);
-    if index < held_areas(areas) {
-        let broken = grow_area(words, index, run);
-        return Drawn {
-            fault: 0,
-            broken,
-            panel,
-        };
+    if let Some(index) = area_index(panel.grid.areas, words, bytes, name) {
+        let broken = !grow_area(words, index, run);
+        return Ok(PictureAfter { broken, panel });
     }
-    let put = put_area(panel, words, bytes, name, run);
-    let after = put.panel;
-    Drawn {
-        fault: put.fault,
+    let panel = put_area(panel, words, bytes, name, run)?;
+    Ok(PictureAfter {
         broken: false,
-        panel: after,
-    }
+        panel,
+    })
 }

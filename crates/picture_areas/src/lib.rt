@@ -6,5 +6,5 @@ pub mod draw;
 pub mod grow;
 pub mod place;
 
-pub use draw::{Drawn, draw_run};
+pub use draw::{PictureAfter, draw_run};
 pub use place::area_index;

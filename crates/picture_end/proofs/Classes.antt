@@ -14,6 +14,10 @@ use Rattle.sheet_forms.specs.Words.{at, kind_words}
 use Rattle.sheet_forms.specs.Forms.{Kind, area, name, track, repeat, end, spare, extra, item, place, row, kind_number}
 use Rattle.sheet_forms.proofs.LineRows.{word-index, kind_below}
 use Rattle.sheet_rules.specs.Kinds.{is_kind}
+use Rattle.std.specs.Prelude.{Option, Some, None}
+use Rattle.sheet_lines.specs.Fields.{kind_number as number_of_kind}
+use Rattle.sheet_lines.specs.declared.kinds.LineKind.{LineKind}
+use Rattle.sheet_lines.specs.declared.kinds.LineKind.TheVariants.{Axis, Area, Name, Track, Repeat, End, Spare, Extra, Item, Place, Row}
 use Rattle.picture_end.specs.Steps.{class_of, later_fields, row_by, class_by}
 
 -- ---- by the kind's number
@@ -30,6 +34,21 @@ module _ (k n : ℕ) where
   pub class-between : (m : ℕ) → (k ≡ 10 → ⊥) → m ≡ later_fields k → (n ≡ m → ⊥) → 0 ≡ class_by k n
   unfolding class_by
   class-between m e f g = rw (ne_eqb k 10 e, ne_eqb n (later_fields k) (λ z. g (z ∙ sym f)))
+
+-- of a kind that is not the row's
+pub not_row : (kind : Option LineKind) → (kind ≡ Some Row → ⊥) → number_of_kind kind ≡ 10 → ⊥
+not_row None h e = absurd (omega arith)
+not_row (Some Axis) h e = absurd (omega arith)
+not_row (Some Area) h e = absurd (omega arith)
+not_row (Some Name) h e = absurd (omega arith)
+not_row (Some Track) h e = absurd (omega arith)
+not_row (Some Repeat) h e = absurd (omega arith)
+not_row (Some End) h e = absurd (omega arith)
+not_row (Some Spare) h e = absurd (omega arith)
+not_row (Some Extra) h e = absurd (omega arith)
+not_row (Some Item) h e = absurd (omega arith)
+not_row (Some Place) h e = absurd (omega arith)
+not_row (Some Row) h e = h refl
 
 -- ---- by the fields of a line
 

@@ -1,6 +1,6 @@
 -- The lines of a sheet from a place on: what the one that starts there says of a row that follows. Assumes nothing.
 use Prim.Native.Nat.{ℕ, ◌+◌, ◌-◌, ◌≤◌}
-use mathlib.Core.Path.{◌≡◌, refl, ap, ◌∙◌}
+use mathlib.Core.Path.{◌≡◌, refl, sym, ap, ◌∙◌}
 use mathlib.Core.List.{List, [], ◌∷◌}
 use mathlib.Core.Bool.{Bool, true, false, cond, not, ◌&&◌}
 use native.Mathlib.Omega.{arith}
@@ -14,7 +14,9 @@ use Rattle.picture_rules.specs.Steps.{taken_of}
 use Rattle.sheet_rules.specs.Contents.{Line, lines_from}
 use Rattle.sheet_rules.specs.Sheet.{broken_at}
 use Rattle.sheet_rules.specs.Kinds.{is_kind, is_one, later_kinds, row_follows}
-use Rattle.picture_end.specs.Steps.{class_of, broken_row}
+use Rattle.picture_end.specs.declared.class.LineClass.{LineClass}
+use Rattle.picture_end.specs.declared.class.LineClass.TheVariants.{Between, Row, Later}
+use Rattle.picture_end.specs.Steps.{class_number, class_of, broken_row}
 use Rattle.picture_end.proofs.Classes.{parts-some}
 
 -- ---- one line
@@ -59,6 +61,22 @@ module _ (s : List ℕ) (at e : ℕ) (fits : at ≤ length s) (found : e ≡ at 
 
   pub left-more : (e ≡ length s → ⊥) → lines_from (split 10 (drop at s)) ≡ split 9 (take (e - at) (drop at s)) ∷ lines_from (split 10 (drop (e + 1) s))
   left-more h = ap lines_from (split-more 10 s at e fits found h) ∙ lines_cons _ _ (parts-some 10 (drop (e + 1) s))
+
+module _ (fs : Line) (rest : List Line) (c : LineClass) (class : class_number c ≡ class_of fs) where
+  pub follows-row : c ≡ Row → true ≡ row_follows (fs ∷ rest)
+  follows-row h = ap (λ (d : LineClass). eqb (class_number d) 1) (sym h) ∙ follows-told fs rest (class_number c) class (λ e. omega (arith, e, ap class_number h))
+
+  pub follows-late : c ≡ Later → false ≡ row_follows (fs ∷ rest)
+  follows-late h = ap (λ (d : LineClass). eqb (class_number d) 1) (sym h) ∙ follows-told fs rest (class_number c) class (λ e. omega (arith, e, ap class_number h))
+
+  pub follows-between : c ≡ Between → row_follows (fs ∷ rest) ≡ row_follows rest
+  follows-between h = follows-later fs rest (class_number c) class (ap class_number h)
+
+-- the number of a row
+pub class_row : (c : LineClass) → class_number c ≡ 1 → c ≡ Row
+class_row Between e = absurd (omega arith)
+class_row Row e = refl
+class_row Later e = absurd (omega arith)
 
 -- ---- the last row of a broken picture
 

@@ -1,7 +1,15 @@
 -- What a line is to a picture, as a number: 1 a row, 2 a line after which a row is late, 0 any other. It mirrors the code; proofs/Classes.antt joins the two.
 use Rattle.std.specs.Prelude.{ℕ, List, Bool, cond, not, ◌&&◌, eqb, leb}
 use Rattle.sheet_forms.specs.Forms.{row}
+use Rattle.picture_end.specs.declared.class.LineClass.{LineClass}
+use Rattle.picture_end.specs.declared.class.LineClass.TheVariants.{Between, Row, Later}
 use Rattle.sheet_rules.specs.Kinds.{is_kind, is_one, later_kinds, row_follows}
+
+-- the number of what a line is to a picture
+abbrev pub class_number : LineClass → ℕ
+class_number Between = 0
+class_number Row = 1
+class_number Later = 2
 
 -- of a line as its fields
 unfoldable pub class_of : List (List ℕ) → ℕ

@@ -4,11 +4,11 @@ ghost use Rattle.text.specs.Split.{split};
 ghost use Rattle.sheet_rules.specs.Contents.{lines_from};
 ghost use Rattle.sheet_rules.specs.Kinds.{row_follows};
 
-use crate::class::{BETWEEN, ROW, line_class};
+use crate::class::{LineClass, line_class};
 use text::find;
 
 // What ends a line.
-const LINE_FEED: u8 = 10;
+const LINE_FEED: u8 = b'\n';
 
 // Whether one of the lines from a place of a sheet on is a row of the picture: no line between them ends it. What stands after the last
 // line feed is no line.
@@ -21,9 +21,10 @@ pub fn row_follows(sheet: &[u8], from: usize) -> bool
         if end == sheet.len() {
             return false;
         }
-        let class = line_class(&sheet[at..end]);
-        if class != BETWEEN {
-            return class == ROW;
+        match line_class(&sheet[at..end]) {
+            LineClass::Between => {}
+            LineClass::Row => return true,
+            LineClass::Later => return false,
         }
         at = end + 1;
     }

@@ -4,18 +4,15 @@ ghost use Rattle.text.specs.Split.{split};
 ghost use Rattle.sheet_rules.specs.Contents.{lines_from};
 ghost use Rattle.picture_end.specs.Steps.{broken_row};
 
-use crate::class::{ROW, line_class};
+use crate::class::{LineClass, line_class};
 use crate::follow::row_follows;
 
 // Whether a line of a sheet is the last row of a picture, which is broken after it or is not; the lines after it start at a place of the sheet.
 pub fn last_broken_row(broken: bool, line: &[u8], sheet: &[u8], next: usize) -> bool
     ensures { result ≡ broken_row broken (split 9 line.now) (lines_from (split 10 (drop next sheet.now))) }
 {
-    if !broken {
-        return false;
+    match line_class(line) {
+        LineClass::Row => broken && !row_follows(sheet, next),
+        _ => false,
     }
-    if line_class(line) != ROW {
-        return false;
-    }
-    !row_follows(sheet, next)
 }

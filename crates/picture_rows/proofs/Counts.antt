@@ -8,7 +8,7 @@ use Rattle.panel_tables.specs.declared.Panel.{Panel}
 use Rattle.panel_tables.specs.declared.AreaEdges.{AreaEdges}
 use Rattle.picture_rules.specs.Picture.{Word}
 use Rattle.picture_rules.specs.Steps.{runs_of}
-use Rattle.picture_areas.specs.declared.draw.Drawn.{Drawn}
+use Rattle.picture_areas.specs.Runs.{Drawn}
 use Rattle.picture_areas.specs.Runs.{InPicture}
 use Rattle.picture_rows.specs.Steps.{runs_in, started, refused_row, picture_edges, spanned, counted_row, row_in}
 

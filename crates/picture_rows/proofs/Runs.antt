@@ -13,7 +13,7 @@ use Rattle.picture_words.specs.declared.run.WordRun.{WordRun}
 use Rattle.picture_words.specs.Words.{words_left, word_at}
 use Rattle.picture_words.specs.Runs.{run_at}
 use Rattle.picture_words.proofs.Runs.{run_runs, runs_past, run_length, run-moves}
-use Rattle.picture_areas.specs.declared.draw.Drawn.{Drawn}
+use Rattle.picture_areas.specs.Runs.{Drawn}
 use Rattle.picture_areas.specs.Runs.{edges_of_box, InPicture, draw_in}
 use Rattle.picture_rows.specs.Steps.{with_broken, run_in, runs_in}
 

@@ -21,7 +21,7 @@ use Rattle.panel_tables.specs.Written.{area_bytes_of, area_words, area_store}
 use Rattle.panel_tables.proofs.Fits.{GoodArea}
 use Rattle.picture_rules.specs.Picture.{Word, PictureArea, is_dots}
 use Rattle.picture_rules.specs.Steps.{EqualRun, with_word, runs_of, run_box, grown, drawn, fits, PictureState, name_run_step, run_step, runs_from, row_step}
-use Rattle.picture_areas.specs.declared.draw.Drawn.{Drawn}
+use Rattle.picture_areas.specs.Runs.{Drawn}
 use Rattle.picture_areas.specs.Runs.{edges_of_box, InPicture, table_area, table_of, drawn_table}
 use Rattle.picture_areas.proofs.Same.{TableFits, draw_same, drawn-fits}
 use Rattle.picture_rows.specs.Steps.{joined, run_in, runs_in, refused_row, picture_edges, spanned, counted, row_in}

@@ -5,7 +5,7 @@ use Rattle.panel_tables.specs.declared.AreaEdges.{AreaEdges}
 use Rattle.panel_tables.specs.Areas.{raised}
 use Rattle.picture_rules.specs.Picture.{Word, is_dots}
 use Rattle.picture_rules.specs.Steps.{EqualRun, runs_of, run_box}
-use Rattle.picture_areas.specs.declared.draw.Drawn.{Drawn}
+use Rattle.picture_areas.specs.Runs.{Drawn}
 use Rattle.picture_areas.specs.Runs.{edges_of_box, InPicture, draw_in}
 
 -- ---- runs
@@ -36,6 +36,10 @@ started p w b = record { answer = record { fault = 0; broken = false; panel = p 
 
 abbrev pub refused_row : ℕ → Panel → Drawn
 refused_row fault p = record { fault = fault; broken = false; panel = p }
+
+-- what is left of runs: a refusal of one has the panel as it came beside it
+unfoldable pub settled : Panel → InPicture → InPicture
+settled p x = record { answer = cond (eqb x.answer.fault 0) x.answer (refused_row x.answer.fault p); words = x.words; bytes = x.bytes }
 
 -- the edges around the cells of a picture, of so many columns and rows
 abbrev pub picture_edges : ℕ → ℕ → AreaEdges

@@ -1,12 +1,13 @@
 // The runs of a row, one after the other.
-ghost use Rattle.std.specs.Prelude.{◌≡◌, ◌+◌, ◌≤◌, length};
+ghost use Rattle.std.specs.Prelude.{◌≡◌, ◌+◌, ◌≤◌, length, Ok};
 ghost use Rattle.picture_rules.specs.Steps.{runs_of, run_box};
 ghost use Rattle.picture_words.specs.Words.{words_of};
-ghost use Rattle.picture_areas.specs.Runs.{edges_of_box};
-ghost use Rattle.picture_rows.specs.Steps.{with_broken, started, run_in, runs_in};
+ghost use Rattle.picture_areas.specs.Runs.{answered_drawn, edges_of_box};
+ghost use Rattle.picture_rows.specs.Steps.{settled, started, run_in, runs_in};
 
+use coordinates::Fault;
 use panel_tables::{AreaEdges, Panel};
-use picture_areas::{Drawn, draw_run};
+use picture_areas::{PictureAfter, draw_run};
 use picture_words::{first_word, is_dots, run_at, word_at};
 
 // The edges of a run of so many words, from a column on.
@@ -14,43 +15,32 @@ fn run_edges(row: u32, column: u32, count: usize) -> AreaEdges
     requires { (row ≤ 10000) × (column + count ≤ 10001) }
     ensures { result ≡ edges_of_box (run_box row column count) }
 {
-    let words = count as u32;
     AreaEdges {
         rowstart: row,
         rowend: row + 1,
         columnstart: column,
-        columnend: column + words,
+        columnend: column + count as u32,
     }
 }
 
-// What a run leaves, after runs that broke the picture or did not.
-fn with_broken(broken: bool, drawn: Drawn) -> Drawn
-    ensures { result ≡ with_broken broken drawn }
-{
-    if broken {
-        let mut after = drawn;
-        after.broken = true;
-        return after;
-    }
-    drawn
-}
-
-// One run, after those before it: dots draw nothing, a name is drawn.
+// One run, after those before it: dots draw nothing, a name is drawn. Nothing mends a broken picture.
 fn run_step(
-    before: Drawn,
+    before: PictureAfter,
     words: &mut [u64],
     bytes: &mut [u8],
     word: &[u8],
     edges: AreaEdges,
-) -> Drawn
-    ensures { record { answer = result; words = words.new; bytes = bytes.new } ≡ run_in word.now edges (record { answer = before; words = words.old; bytes = bytes.old }) }
+) -> Result<PictureAfter, Fault>
+    ensures { record { answer = answered_drawn before.panel result; words = words.new; bytes = bytes.new } ≡ settled before.panel (run_in word.now edges (record { answer = answered_drawn before.panel (Ok before); words = words.old; bytes = bytes.old })) }
 {
     if is_dots(word) {
-        return before;
+        return Ok(before);
     }
-    let panel = before.panel;
-    let drawn = draw_run(panel, words, bytes, word, edges);
-    with_broken(before.broken, drawn)
+    let drawn = draw_run(before.panel, words, bytes, word, edges)?;
+    Ok(PictureAfter {
+        broken: before.broken | drawn.broken,
+        panel: drawn.panel,
+    })
 }
 
 // All runs of a row, until one is refused.
@@ -60,27 +50,23 @@ pub(crate) fn draw_runs(
     bytes: &mut [u8],
     line: &[u8],
     row: u32,
-) -> Drawn
+) -> Result<PictureAfter, Fault>
     requires { (row ≤ 10000) × (length (words_of line.now) ≤ 10000) }
-    ensures { record { answer = result; words = words.new; bytes = bytes.new } ≡ runs_in row 1 (runs_of (words_of line.now)) (started panel words.old bytes.old) }
+    ensures { record { answer = answered_drawn panel result; words = words.new; bytes = bytes.new } ≡ settled panel (runs_in row 1 (runs_of (words_of line.now)) (started panel words.old bytes.old)) }
 {
-    let mut drawn = Drawn {
-        fault: 0,
+    let mut drawn = PictureAfter {
         broken: false,
         panel,
     };
     let mut at = first_word(line);
-    let mut column: u32 = 1;
+    let mut column = 1;
     while at <= line.len() {
         let run = run_at(line, at);
         let word = word_at(line, at);
         let edges = run_edges(row, column, run.count);
-        drawn = run_step(drawn, words, bytes, word, edges);
-        if drawn.fault != 0 {
-            return drawn;
-        }
+        drawn = run_step(drawn, words, bytes, word, edges)?;
         at = run.next;
         column = edges.columnend;
     }
-    drawn
+    Ok(drawn)
 }

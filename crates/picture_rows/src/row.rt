@@ -1,41 +1,30 @@
 // One row of a picture.
 ghost use Rattle.std.specs.Prelude.{◌≡◌, ◌≤◌};
 ghost use Rattle.picture_words.specs.Words.{words_of};
-ghost use Rattle.picture_rows.specs.Steps.{refused_row, picture_edges, spanned, counted_row, row_in};
+ghost use Rattle.picture_areas.specs.Runs.{answered_drawn};
+ghost use Rattle.picture_rows.specs.Steps.{picture_edges, spanned, row_in};
 
 use crate::draw::draw_runs;
-use coordinates::refusal::COUNT;
+use coordinates::Fault;
 use panel_tables::{AreaEdges, Panel};
 use panel_writes::area_record::raised;
-use picture_areas::Drawn;
+use picture_areas::PictureAfter;
 use picture_words::row::MOST_WORDS;
 use picture_words::words_in;
 
 // The most rows of a picture.
 pub const MOST_ROWS: u32 = 10000;
 
-// A refusal: the panel stays as it came.
-fn refused_row(fault: u32, panel: Panel) -> Drawn
-    ensures { result ≡ refused_row fault panel }
-{
-    Drawn {
-        fault,
-        broken: false,
-        panel,
-    }
-}
-
 // The edges around the cells of a picture, of so many columns and rows.
 fn picture_edges(width: usize, row: u32) -> AreaEdges
     requires { (width ≤ 10000) × (row ≤ 10000) }
     ensures { result ≡ picture_edges width row }
 {
-    let columns = width as u32;
     AreaEdges {
         rowstart: 1,
         rowend: row + 1,
         columnstart: 1,
-        columnend: columns + 1,
+        columnend: width as u32 + 1,
     }
 }
 
@@ -43,41 +32,31 @@ fn picture_edges(width: usize, row: u32) -> AreaEdges
 fn spanned(panel: Panel, edges: AreaEdges) -> Panel
     ensures { result ≡ spanned panel edges }
 {
-    let room = panel.room;
-    let mut after = panel;
-    after.room = raised(room, edges);
-    after
-}
-
-// The answer to a row whose runs are drawn: both axes have the tracks of the picture; or the refusal of a run.
-fn counted_row(panel: Panel, edges: AreaEdges, drawn: Drawn) -> Drawn
-    ensures { result ≡ counted_row panel edges drawn }
-{
-    if drawn.fault != 0 {
-        return refused_row(drawn.fault, panel);
-    }
-    let before = drawn.panel;
-    let after = spanned(before, edges);
-    Drawn {
-        fault: drawn.fault,
-        broken: drawn.broken,
-        panel: after,
+    Panel {
+        room: raised(panel.room, edges),
+        ..panel
     }
 }
 
 // Row number `row` of a picture, from 1: the words of a line. Each run of a name is drawn; the answer says whether one of them breaks the picture,
 // and its panel has the tracks of the row on both axes. 4: more than 10,000 words or rows; 8: a 65th name; 2: a name of more than 32 bytes. On a
 // refusal the panel is as it came, and the runs before the refused one stay in the table.
-pub fn draw_row(panel: Panel, words: &mut [u64], bytes: &mut [u8], line: &[u8], row: u32) -> Drawn
-    ensures { record { answer = result; words = words.new; bytes = bytes.new } ≡ row_in panel words.old bytes.old (words_of line.now) row }
+pub fn draw_row(
+    panel: Panel,
+    words: &mut [u64],
+    bytes: &mut [u8],
+    line: &[u8],
+    row: u32,
+) -> Result<PictureAfter, Fault>
+    ensures { record { answer = answered_drawn panel result; words = words.new; bytes = bytes.new } ≡ row_in panel words.old bytes.old (words_of line.now) row }
 {
     let width = words_in(line);
-    if MOST_WORDS < width {
-        return refused_row(COUNT, panel);
+    if MOST_WORDS < width || MOST_ROWS < row {
+        return Err(Fault::Count);
     }
-    if MOST_ROWS < row {
-        return refused_row(COUNT, panel);
-    }
-    let drawn = draw_runs(panel, words, bytes, line, row);
-    counted_row(panel, picture_edges(width, row), drawn)
+    let drawn = draw_runs(panel, words, bytes, line, row)?;
+    Ok(PictureAfter {
+        broken: drawn.broken,
+        panel: spanned(drawn.panel, picture_edges(width, row)),
+    })
 }

@@ -2,7 +2,7 @@
 use Prim.Native.Nat.{ℕ, zero, suc, ◌+◌, ◌-◌, ◌≤◌, ◌<◌}
 use mathlib.Core.Path.{◌≡◌, refl, sym, ap, ◌∙◌}
 use mathlib.Core.List.{List, [], ◌∷◌}
-use mathlib.Core.Bool.{Bool, true, false, cond}
+use mathlib.Core.Bool.{Bool, true, false, cond, not}
 use mathlib.Core.Logic.{⊎_elim}
 use native.Mathlib.Nat.{le_of_suc-le-suc, not-suc-le-zero}
 use native.Mathlib.Numerals.{add-one}
@@ -11,6 +11,9 @@ use lib.ListN.{length, get_or, take, drop, length-drop}
 use Rattle.text.specs.Split.{same}
 use Rattle.text.specs.Places.{starts_from}
 use Rattle.text.proofs.Which.{same_self}
+use Rattle.text.proofs.Library.{same_pointwise}
+use Rattle.std.specs.Prelude.{nat_eq}
+use Rattle.std.specs.Cmp.Lexicographic.{pointwise}
 use Rattle.picture_rules.specs.Picture.{Word}
 use Rattle.picture_rules.specs.Steps.{runs_of, again_of, first_run}
 use Rattle.picture_rules.proofs.Runs.{runs_first}
@@ -18,6 +21,21 @@ use Rattle.picture_rules.proofs.Cells.{le_or_lt}
 use Rattle.picture_words.specs.Words.{words_left, word_end, word_at}
 use Rattle.picture_words.specs.Runs.{start_at, run_at}
 use Rattle.picture_words.proofs.Words.{words_past, words-next, starts-here}
+
+-- two words that were compared
+pub other_word : (a b : Word) (r : Bool) → r ≡ not (pointwise nat_eq a b) → r ≡ true → same a b ≡ false
+other_word a b r e h = sym (same_pointwise a b) ∙ go (pointwise nat_eq a b) (sym h ∙ e)
+  where
+    go : (t : Bool) → true ≡ not t → t ≡ false
+    go true q = q
+    go false q = refl
+
+pub equal_word : (a b : Word) (r : Bool) → r ≡ not (pointwise nat_eq a b) → r ≡ false → same a b ≡ true
+equal_word a b r e h = sym (same_pointwise a b) ∙ go (pointwise nat_eq a b) (sym h ∙ e)
+  where
+    go : (t : Bool) → false ≡ not t → t ≡ true
+    go true q = refl
+    go false q = q
 
 -- the words equal to the first, it included
 first_again : (ws : List Word) → first_run ws ≡ again_of (get_or ws 0 []) ws

@@ -6,6 +6,6 @@ pub mod row;
 pub mod run;
 pub mod word;
 
-pub use row::{row_fault, words_in};
+pub use row::{check_row, words_in};
 pub use run::{WordRun, run_at};
-pub use word::{first_word, is_dots, word_at, word_end, word_fault};
+pub use word::{check_word, first_word, is_dots, word_at, word_end};

@@ -1,11 +1,12 @@
 // All words of a line: how many there are, and the first of their faults.
 ghost use Rattle.std.specs.Prelude.{◌≡◌, length};
+ghost use Rattle.coordinates.specs.Refusals.{refused_by};
 ghost use Rattle.picture_words.specs.Words.{words_of};
 ghost use Rattle.sheet_forms.specs.Fields.{words_fault, many_fault, row_fault};
 
-use crate::word::{TAB, first_word, word_end, word_fault};
-use coordinates::refusal::COUNT;
-use sheet_forms::first_fault;
+use crate::word::{TAB, check_word, first_word, word_end};
+use coordinates::Fault;
+use sheet_forms::both;
 use text::cut_parts;
 use text::fields::STARTS;
 
@@ -21,35 +22,33 @@ pub fn words_in(line: &[u8]) -> usize
     fields - 1
 }
 
-// The fault of the first word that has one, else 0.
-fn words_fault(line: &[u8]) -> u32
-    ensures { result ≡ words_fault (words_of line.now) }
+// Every word of a line is dots or a name; else the line has the fault of the first that is neither.
+fn check_words(line: &[u8]) -> Result<(), Fault>
+    ensures { refused_by result ≡ words_fault (words_of line.now) }
 {
     let mut at = first_word(line);
     while at <= line.len() {
         let end = word_end(line, at);
-        let fault = word_fault(&line[at..end]);
-        if fault != 0 {
-            return fault;
-        }
+        check_word(&line[at..end])?;
         at = end + 1;
     }
-    0
+    Ok(())
 }
 
-// 4 for more words than a row may have, else 0.
-fn many_fault(words: usize) -> u32
-    ensures { result ≡ many_fault words }
+// More words than a row may have are refused by 4.
+fn check_count(words: usize) -> Result<(), Fault>
+    ensures { refused_by result ≡ many_fault words }
 {
     if MOST_WORDS < words {
-        return COUNT;
+        return Err(Fault::Count);
     }
-    0
+    Ok(())
 }
 
-// The fault of a row by itself: 2 for a word that is neither dots nor a name, 4 for too many words, else 0.
-pub fn row_fault(line: &[u8]) -> u32
-    ensures { result ≡ row_fault (words_of line.now) }
+// A row by itself is refused by 2 for a word that is neither dots nor a name, by 4 for too many words.
+pub fn check_row(line: &[u8]) -> Result<(), Fault>
+    ensures { refused_by result ≡ row_fault (words_of line.now) }
 {
-    first_fault(words_fault(line), many_fault(words_in(line)))
+    both(check_words(line), check_count(words_in(line)))?;
+    Ok(())
 }

@@ -3,10 +3,9 @@ ghost use Rattle.std.specs.Prelude.{◌≡◌};
 ghost use Rattle.picture_words.specs.Runs.{run_at};
 
 use crate::word::{word_at, word_end};
-use text::equal;
 
 // How many words a run has, and where the word after it starts: past the end where there is none.
-#[derive(Clone, Copy)]
+#[derive(Clone, Copy, Debug, PartialEq, Eq)]
 pub struct WordRun {
     pub count: usize,
     pub next: usize,
@@ -17,11 +16,11 @@ pub fn run_at(line: &[u8], at: usize) -> WordRun
     ensures { result ≡ run_at line.now at }
 {
     let word = word_at(line, at);
-    let mut count: usize = 0;
+    let mut count = 0;
     let mut next = at;
     while next <= line.len() {
         let end = word_end(line, next);
-        if !equal(&line[next..end], word) {
+        if &line[next..end] != word {
             return WordRun { count, next };
         }
         next = end + 1;

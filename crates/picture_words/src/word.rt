@@ -1,17 +1,20 @@
 // One word of a line: where it lies, and what it is.
-ghost use Rattle.std.specs.Prelude.{◌≡◌};
-ghost use Rattle.picture_rules.specs.Picture.{all_dots, is_dots};
+ghost use Rattle.std.specs.Prelude.{◌≡◌, eqb};
+ghost use Rattle.std.specs.List.{list_all};
+ghost use Rattle.coordinates.specs.Refusals.{refused_by};
+ghost use Rattle.picture_rules.specs.Picture.{is_dots};
 ghost use Rattle.picture_words.specs.Words.{first_start, word_end, word_at};
 ghost use Rattle.sheet_forms.specs.Fields.{word_fault};
 
-use sheet_forms::name_fault;
+use coordinates::Fault;
+use sheet_forms::check_name;
 use text::find;
 
 // What parts the fields of a line.
-pub const TAB: u8 = 9;
+pub const TAB: u8 = b'\t';
 
 // An empty cell is a run of these.
-pub const DOT: u8 = 46;
+pub const DOT: u8 = b'.';
 
 // Where the first word starts: after the first field. Past the end of a line that has none.
 pub fn first_word(line: &[u8]) -> usize
@@ -40,34 +43,26 @@ pub fn word_at(line: &[u8], at: usize) -> &[u8]
 
 // Whether every byte is a dot.
 fn all_dots(word: &[u8]) -> bool
-    ensures { result ≡ all_dots word.now }
+    ensures { result ≡ list_all (λ b. eqb b 46) word.now }
 {
-    let mut i: usize = 0;
-    while i < word.len() {
-        if word[i] != DOT {
-            return false;
-        }
-        i += 1;
-    }
-    true
+    word.iter().all(|b| *b == DOT)
 }
 
 // Whether a word is one or more dots.
+#[tactic(auto, using(crate::proofs::Dots::dots_all))]
 pub fn is_dots(word: &[u8]) -> bool
     ensures { result ≡ is_dots word.now }
 {
-    if word.len() == 0 {
-        return false;
-    }
-    all_dots(word)
+    !word.is_empty() && all_dots(word)
 }
 
-// The fault of a word: 2 where it is neither dots nor a name, else 0.
-pub fn word_fault(word: &[u8]) -> u32
-    ensures { result ≡ word_fault word.now }
+// A word is dots or a name; else it is refused by 2.
+#[tactic(auto, unfolding(sheet_forms::specs::Fields::word_fault))]
+pub fn check_word(word: &[u8]) -> Result<(), Fault>
+    ensures { refused_by result ≡ word_fault word.now }
 {
     if is_dots(word) {
-        return 0;
+        return Ok(());
     }
-    name_fault(word)
+    check_name(word)
 }

@@ -15,7 +15,7 @@ use Rattle.track_counts.specs.Counts.{tracks_of}
 use Rattle.track_counts.specs.declared.counts.TrackCounts.{TrackCounts}
 use Rattle.placement_hits.specs.Hits.{AtPlace}
 use Rattle.placement_hits.specs.Steps.{place_in, place_of}
-use Rattle.placement_hits.specs.declared.LinePlace.TheVariants.{Off, At}
+use Rattle.std.specs.Prelude.{Some, None}
 
 module _ (c : TrackCounts) where
   abbrev m : ℕ
@@ -45,22 +45,22 @@ module _ (c : TrackCounts) where
 
   -- ---- the place that is found
 
-  found_after : (a k : ℕ) (t : Bool) → leb (m + a) (tracks_of c) ≡ t → cond t (At (m + a)) Off ≡ At k → AtPlace c (pos a) k
+  found_after : (a k : ℕ) (t : Bool) → leb (m + a) (tracks_of c) ≡ t → cond t (Some (m + a)) None ≡ Some k → AtPlace c (pos a) k
   found_after a k true e q = let z : m + a ≡ k = cc in after-place a k (omega arith) (rw z at (leb-true (m + a) (tracks_of c) e))
   found_after a k false e q = absurd (let z : ◌≡◌ {A = ℕ} 0 1 = cc in omega arith)
 
-  found-ahead : (a k : ℕ) (t : Bool) → ltb a m ≡ t → cond t (At (m - suc a)) Off ≡ At k → AtPlace c (negsuc a) k
+  found-ahead : (a k : ℕ) (t : Bool) → ltb a m ≡ t → cond t (Some (m - suc a)) None ≡ Some k → AtPlace c (negsuc a) k
   found-ahead a k true e q = let z : m - suc a ≡ k = cc in let h : a < m = ltb-true a m e in ahead-place a k (omega arith)
   found-ahead a k false e q = absurd (let z : ◌≡◌ {A = ℕ} 0 1 = cc in omega arith)
 
-  pub found-place : (l : ℤ) (k : ℕ) → place_in c l ≡ At k → AtPlace c l k
+  pub found-place : (l : ℤ) (k : ℕ) → place_in c l ≡ Some k → AtPlace c l k
   found-place (pos a) k q = found_after a k (leb (m + a) (tracks_of c)) refl q
   found-place (negsuc a) k q = found-ahead a k (ltb a m) refl q
 
-  pub place_found : (l : ℤ) (k : ℕ) → AtPlace c l k → place_in c l ≡ At k
+  pub place_found : (l : ℤ) (k : ℕ) → AtPlace c l k → place_in c l ≡ Some k
   place_found (pos a) k p =
       let e : m + a ≡ k = omega (arith, place_after a k p) in let h : k ≤ tracks_of c = p.on in rw (e, le-leb k (tracks_of c) h)
-  place_found (negsuc a) k p = let e : k + suc a ≡ m = place-ahead a k p in rw (lt-ltb a m (omega arith)) (ap At (omega arith))
+  place_found (negsuc a) k p = let e : k + suc a ≡ m = place-ahead a k p in rw (lt-ltb a m (omega arith)) (ap Some (omega arith))
 
   -- a grid line that is not 0
   pub line-not-0 : (g : ℤ) → (g ≡ pos 0 → ⊥) → place_of c g ≡ place_in c (uncut c.explicit g)
@@ -69,7 +69,7 @@ module _ (c : TrackCounts) where
   line-not-0 (pos (suc g)) h = refl
   line-not-0 (negsuc g) h = refl
 
-  pub placed-not-0 : (g : ℤ) (k : ℕ) → place_of c g ≡ At k → g ≡ pos 0 → ⊥
+  pub placed-not-0 : (g : ℤ) (k : ℕ) → place_of c g ≡ Some k → g ≡ pos 0 → ⊥
   unfolding place_of
   placed-not-0 (pos zero) k q e = let z : ◌≡◌ {A = ℕ} 0 1 = cc in omega arith
   placed-not-0 (pos (suc g)) k q e = let z : suc g ≡ 0 = cc in omega arith

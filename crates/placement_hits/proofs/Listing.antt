@@ -25,9 +25,6 @@ module _ (test : ℕ → Bool) where
   pub listed-turn : (i n : ℕ) (l r whole : Listed) → i < n → r ≡ one_listed (test i) i l → listed_from test i (n - i) l ≡ whole → listed_from test (i + 1) (n - (i + 1)) r ≡ whole
   listed-turn i n l r whole h e w = ap (listed_from test (i + 1) (n - (i + 1))) e ∙ sym (listed-step i n l h) ∙ w
 
-  pub listed-begins : (n : ℕ) (l : Listed) → listed_from test 0 (n - 0) l ≡ listed_from test 0 n l
-  listed-begins n l = ap (λ (k : ℕ). listed_from test 0 k l) (omega arith)
-
   -- none is left
   pub listed-done : (i n : ℕ) (l : Listed) → n ≤ i → listed_from test i (n - i) l ≡ l
   unfolding listed_from

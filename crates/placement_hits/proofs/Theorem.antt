@@ -14,11 +14,23 @@ use Rattle.name_rules.specs.CssOrder.{OrderedLines, in_order, swapped, one_track
 use Rattle.name_rules.proofs.CssOrder.{ordered_below}
 use Rattle.placement_hits.specs.Hits.{AtPlace, OnGrid, LinesInside, LineBetween}
 use Rattle.placement_hits.specs.Steps.{nowhere, places_at, place_in, place_of, ordered_places, both_places, end_place, occupied_of, within_places, around_place}
-use Rattle.placement_hits.specs.declared.LinePlace.{LinePlace}
-use Rattle.placement_hits.specs.declared.LinePlace.TheVariants.{Off, At}
+use Rattle.std.specs.Prelude.{Option, Some, None}
 use Rattle.placement_hits.specs.declared.Places.{Places}
 use Rattle.placement_hits.proofs.GridLines.{one_place, found-place, place_found, line-not-0, placed-not-0, places-ordered, lines-ordered, lines_same, next_place, between-place}
-use Rattle.placement_hits.proofs.Tests.{never, all_hold}
+use Rattle.placement_hits.proofs.Tests.{never, both_hold}
+
+-- whether there are places, and which
+is_there : Option Places → Bool
+is_there None = false
+is_there (Some p) = true
+
+first_of : Option Places → ℕ
+first_of None = 0
+first_of (Some p) = p.first
+
+last_of : Option Places → ℕ
+last_of None = 0
+last_of (Some p) = p.last
 
 -- equal lines have one pair of places, and so on
 ordered_up : (last s e : ℕ) → s < e → ordered_places last s e ≡ places_at s e
@@ -54,30 +66,31 @@ module _ (c : TrackCounts) where
 
   ordered_lines : (s e : ℤ) (j k first last : ℕ) → AtPlace c s j → AtPlace c e k → (a b d : Bool) → ltb j k ≡ a → ltb k j ≡ b → ltb j (tracks_of c) ≡ d
       → cond a (places_at j k) (cond b (places_at k j) (cond d (places_at j (j + 1)) nowhere)) ≡ places_at first last → FromLines s e first last
+  unfolding is_there first_of last_of
   ordered_lines s e j k first last p q true b d x y z r =
-      let f : j ≡ first = ap (λ (p : Places). p.first) r in let l : k ≡ last = ap (λ (p : Places). p.last) r in (s, e, in_order (lines-ordered c s e j k p q (ltb-true j k x)), rw f at p, rw l at q)
+      let f : j ≡ first = ap first_of r in let l : k ≡ last = ap last_of r in (s, e, in_order (lines-ordered c s e j k p q (ltb-true j k x)), rw f at p, rw l at q)
   ordered_lines s e j k first last p q false true d x y z r =
-      let f : k ≡ first = ap (λ (p : Places). p.first) r in let l : j ≡ last = ap (λ (p : Places). p.last) r in (e, s, swapped (lines-ordered c e s k j q p (ltb-true k j y)), rw f at q, rw l at p)
+      let f : k ≡ first = ap first_of r in let l : j ≡ last = ap last_of r in (e, s, swapped (lines-ordered c e s k j q p (ltb-true k j y)), rw f at q, rw l at p)
   ordered_lines s e j k first last p q false false true x y z r =
-      let f : j ≡ first = ap (λ (p : Places). p.first) r in let l : j + 1 ≡ last = ap (λ (p : Places). p.last) r in
+      let f : j ≡ first = ap first_of r in let l : j + 1 ≡ last = ap last_of r in
       let n : k ≡ j = omega (arith, ltb-false j k x, ltb-false k j y) in
       (s, s +ℤ pos 1, one_track (lines_same c s e j p (rw n at q)), rw f at p, rw l at (next_place c s j p (ltb-true j (tracks_of c) z)))
-  ordered_lines s e j k first last p q false false false x y z r = never (sym (ap (λ (p : Places). p.on) r))
+  ordered_lines s e j k first last p q false false false x y z r = never (sym (ap is_there r))
 
   pub places-lines : (s e : ℤ) (first last : ℕ) → both_places (tracks_of c) (place_in c s) (place_in c e) ≡ places_at first last → FromLines s e first last
-  unfolding ordered_places
+  unfolding ordered_places is_there
   places-lines s e first last r = go (place_in c s) (place_in c e) refl refl r
     where
-      go : (x y : LinePlace) → place_in c s ≡ x → place_in c e ≡ y → both_places (tracks_of c) x y ≡ places_at first last → FromLines s e first last
-      go Off y p q r = never (sym (ap (λ (p : Places). p.on) r))
-      go (At j) Off p q r = never (sym (ap (λ (p : Places). p.on) r))
-      go (At j) (At k) p q r =
+      go : (x y : Option ℕ) → place_in c s ≡ x → place_in c e ≡ y → both_places (tracks_of c) x y ≡ places_at first last → FromLines s e first last
+      go None y p q r = never (sym (ap is_there r))
+      go (Some j) None p q r = never (sym (ap is_there r))
+      go (Some j) (Some k) p q r =
           ordered_lines s e j k first last (found-place c s j p) (found-place c e k q) (ltb j k) (ltb k j) (ltb j (tracks_of c)) refl refl refl r
 
   -- ---- a placement
 
   -- an end with a place is a line
-  line-end : (x : Resolved) (k : ℕ) → end_place c x ≡ At k → (g : ℤ) × (x ≡ at_line g) × (place_of c g ≡ At k)
+  line-end : (x : Resolved) (k : ℕ) → end_place c x ≡ Some k → (g : ℤ) × (x ≡ at_line g) × (place_of c g ≡ Some k)
   line-end free k e = absurd (let n : ◌≡◌ {A = ℕ} 0 1 = cc in omega arith)
   line-end (at_line g) k e = (g, refl, e)
   line-end (spanning n) k e = absurd (let n : ◌≡◌ {A = ℕ} 0 1 = cc in omega arith)
@@ -92,20 +105,20 @@ module _ (c : TrackCounts) where
 
   -- and what is found there is on it, at the places found
   pub found-on-grid : (r : ResolvedEnds) (first last : ℕ) → occupied_of c r ≡ places_at first last → (o : OnGrid c r) × (o.first ≡ first) × (o.last ≡ last)
-  unfolding occupied_of
+  unfolding occupied_of is_there
   found-on-grid r first last q = go (end_place c r.first) (end_place c r.last) refl refl q
     where
-      go : (x y : LinePlace) → end_place c r.first ≡ x → end_place c r.last ≡ y → both_places (tracks_of c) x y ≡ places_at first last
+      go : (x y : Option ℕ) → end_place c r.first ≡ x → end_place c r.last ≡ y → both_places (tracks_of c) x y ≡ places_at first last
           → (o : OnGrid c r) × (o.first ≡ first) × (o.last ≡ last)
-      go Off y d e q = never (sym (ap (λ (p : Places). p.on) q))
-      go (At j) Off d e q = never (sym (ap (λ (p : Places). p.on) q))
-      go (At j) (At k) d e q =
+      go None y d e q = never (sym (ap is_there q))
+      go (Some j) None d e q = never (sym (ap is_there q))
+      go (Some j) (Some k) d e q =
           let s = line-end r.first j d in
           let f = line-end r.last k e in
           let n = placed-not-0 c s.0 j s.2 in
           let m = placed-not-0 c f.0 k f.2 in
-          let a : place_in c (uncut c.explicit s.0) ≡ At j = sym (line-not-0 c s.0 n) ∙ s.2 in
-          let b : place_in c (uncut c.explicit f.0) ≡ At k = sym (line-not-0 c f.0 m) ∙ f.2 in
+          let a : place_in c (uncut c.explicit s.0) ≡ Some j = sym (line-not-0 c s.0 n) ∙ s.2 in
+          let b : place_in c (uncut c.explicit f.0) ≡ Some k = sym (line-not-0 c f.0 m) ∙ f.2 in
           let l = places-lines (uncut c.explicit s.0) (uncut c.explicit f.0) first last (rw (a, b) q) in (
             record {
               low = l.0;
@@ -120,10 +133,6 @@ module _ (c : TrackCounts) where
             refl,
           )
 
-  -- places that are there
-  places-there : (p : Places) → p.on ≡ true → p ≡ places_at p.first p.last
-  places-there p e = ap (λ (t : Bool). record { on = t; first = p.first; last = p.last }) e
-
   -- the first own line lies before the last
   pub own-ordered : (r : ResolvedEnds) (o : OnGrid c r) → o.first < o.last
   own-ordered r o = places-ordered c o.low o.high o.first o.last o.at_low o.at_high (ordered_below o.own.ordered)
@@ -132,19 +141,22 @@ module _ (c : TrackCounts) where
 
   module _ (Inside : ℕ → Type 0) (below upto : ℕ) (r : ResolvedEnds) where
     pub within-inside : ((k : ℕ) → k ≤ tracks_of c → below ≤ k → k < upto → Inside k) → within_places below upto (occupied_of c r) ≡ true → LinesInside c Inside r
-    within-inside to t =
-        let p = occupied_of c r in
-        let h = all_hold p.on (leb below p.first) (ltb p.last upto) t in
-        let f = found-on-grid r p.first p.last (places-there p h.0) in
-        let o = f.0 in
-        let a : below ≤ o.first = rw f.1 (leb-true below p.first h.1) in
-        let b : o.last < upto = rw f.2 (ltb-true p.last upto h.2) in
-        let l : o.first < o.last = own-ordered r o in
-        record {
-          on = o;
-          low = to o.first o.at_low.on a (omega arith);
-          high = to o.last o.at_high.on (omega arith) b;
-        }
+    within-inside to t = go (occupied_of c r) refl t
+      where
+        go : (x : Option Places) → occupied_of c r ≡ x → within_places below upto x ≡ true → LinesInside c Inside r
+        go None q t = never (sym t)
+        go (Some p) q t =
+            let h = both_hold (leb below p.first) (ltb p.last upto) t in
+            let f = found-on-grid r p.first p.last q in
+            let o = f.0 in
+            let a : below ≤ o.first = rw f.1 (leb-true below p.first h.0) in
+            let b : o.last < upto = rw f.2 (ltb-true p.last upto h.1) in
+            let l : o.first < o.last = own-ordered r o in
+            record {
+              on = o;
+              low = to o.first o.at_low.on a (omega arith);
+              high = to o.last o.at_high.on (omega arith) b;
+            }
 
     pub inside-within : ((k : ℕ) → k ≤ tracks_of c → Inside k → (below ≤ k) × (k < upto)) → LinesInside c Inside r → within_places below upto (occupied_of c r) ≡ true
     inside-within from i =
@@ -157,18 +169,18 @@ module _ (c : TrackCounts) where
 
   module _ (line : ℤ) (not-0 : line ≡ pos 0 → ⊥) (r : ResolvedEnds) where
     pub around-between : around_place (place_of c line) (occupied_of c r) ≡ true → LineBetween c line r
-    around-between t = go (place_of c line) refl t
+    around-between t = go (place_of c line) (occupied_of c r) refl refl t
       where
-        go : (x : LinePlace) → place_of c line ≡ x → around_place x (occupied_of c r) ≡ true → LineBetween c line r
-        go Off e t = never (sym t)
-        go (At k) e t =
-            let p = occupied_of c r in
-            let h = all_hold p.on (ltb p.first k) (ltb k p.last) t in
-            let f = found-on-grid r p.first p.last (places-there p h.0) in
+        go : (x : Option ℕ) (y : Option Places) → place_of c line ≡ x → occupied_of c r ≡ y → around_place x y ≡ true → LineBetween c line r
+        go None y e d t = never (sym t)
+        go (Some k) None e d t = never (sym t)
+        go (Some k) (Some p) e d t =
+            let h = both_hold (ltb p.first k) (ltb k p.last) t in
+            let f = found-on-grid r p.first p.last d in
             let o = f.0 in
             let q : AtPlace c (uncut c.explicit line) k = found-place c (uncut c.explicit line) k (sym (line-not-0 c line not-0) ∙ e) in
-            let a : o.first < k = rw f.1 (ltb-true p.first k h.1) in
-            let b : k < o.last = rw f.2 (ltb-true k p.last h.2) in
+            let a : o.first < k = rw f.1 (ltb-true p.first k h.0) in
+            let b : k < o.last = rw f.2 (ltb-true k p.last h.1) in
             record {
               on = o;
               after = lines-ordered c o.low (uncut c.explicit line) o.first k o.at_low q a;
@@ -180,7 +192,7 @@ module _ (c : TrackCounts) where
         let o = i.on in
         let l = uncut c.explicit line in
         let g = between-place c o.low l o.high o.first o.last o.at_low o.at_high i.after i.before in
-        let e : place_of c line ≡ At g.0 = line-not-0 c line not-0 ∙ place_found c l g.0 g.1 in
+        let e : place_of c line ≡ Some g.0 = line-not-0 c line not-0 ∙ place_found c l g.0 g.1 in
         let a : o.first < g.0 = places-ordered c o.low l o.first g.0 o.at_low g.1 i.after in
         let b : g.0 < o.last = places-ordered c l o.high g.0 o.last g.1 o.at_high i.before in
         rw (e, on-grid-found r o, lt-ltb o.first g.0 a, lt-ltb g.0 o.last b)

@@ -1,13 +1,14 @@
 -- The steps of the code: the place of a line, the places of a placement, the test of one placement and the list of those that pass.
-use Rattle.std.specs.Prelude.{Bool, false, true, cond, ◌&&◌, List, [], ◌∷◌, ℕ, zero, suc, ◌+◌, ◌*◌, ◌-◌, eqb, leb, ltb, ℤ, pos, negsuc, nat_abs, length, get_or, set}
+use Rattle.std.specs.Prelude.{Bool, false, cond, ◌&&◌, List, [], ◌∷◌, ℕ, zero, suc, ◌+◌, ◌*◌, ◌-◌, eqb, leb, ltb, ℤ, pos, negsuc, nat_abs, length, get_or, set, Option, Some, None}
 use Rattle.std.proofs.lemmas.List.Edits.{sets}
+use Rattle.coordinates.specs.Axes.{axis_number}
 use Rattle.coordinates.specs.Lines.{uncut}
 use Rattle.track_counts.specs.Counts.{tracks_of}
 use Rattle.track_counts.specs.declared.counts.TrackCounts.{TrackCounts}
 use Rattle.name_rules.specs.Css.{Resolved, free, at_line, spanning, ResolvedEnds}
-use Rattle.placement_hits.specs.declared.LinePlace.{LinePlace}
-use Rattle.placement_hits.specs.declared.LinePlace.TheVariants.{Off, At}
 use Rattle.placement_hits.specs.declared.Places.{Places}
+use Rattle.placement_hits.specs.declared.SettledEnd.{SettledEnd}
+use Rattle.placement_hits.specs.declared.SettledEnd.TheVariants.{Auto, Line, Span}
 use Rattle.placement_hits.specs.declared.Ends.{Ends}
 use Rattle.placement_hits.specs.declared.Question.{Question}
 use Rattle.placement_hits.specs.declared.Question.TheVariants.{Within, Around}
@@ -16,57 +17,59 @@ use Rattle.placement_hits.specs.declared.Asked.{Asked}
 -- ---- the place of a line
 
 -- the place of an origin-zero line, where it is on the grid
-abbrev pub place_in : TrackCounts → ℤ → LinePlace
-place_in c (pos l) = cond (leb (c.negative_implicit + l) (tracks_of c)) (At (c.negative_implicit + l)) Off
-place_in c (negsuc k) = cond (ltb k c.negative_implicit) (At (c.negative_implicit - suc k)) Off
+abbrev pub place_in : TrackCounts → ℤ → Option ℕ
+place_in c (pos l) = cond (leb (c.negative_implicit + l) (tracks_of c)) (Some (c.negative_implicit + l)) None
+place_in c (negsuc k) = cond (ltb k c.negative_implicit) (Some (c.negative_implicit - suc k)) None
 
 -- the place of a grid line, not held; line 0 has none
-unfoldable pub place_of : TrackCounts → ℤ → LinePlace
-place_of c (pos zero) = Off
+unfoldable pub place_of : TrackCounts → ℤ → Option ℕ
+place_of c (pos zero) = None
 place_of c (pos (suc g)) = place_in c (uncut c.explicit (pos (suc g)))
 place_of c (negsuc g) = place_in c (uncut c.explicit (negsuc g))
 
 -- ---- the places of a placement
 
-abbrev pub nowhere : Places
-nowhere = record { on = false; first = 0; last = 0 }
+abbrev pub nowhere : Option Places
+nowhere = None
 
-abbrev pub places_at : ℕ → ℕ → Places
-places_at first last = record { on = true; first = first; last = last }
+abbrev pub places_at : ℕ → ℕ → Option Places
+places_at first last = Some (record { first = first; last = last })
 
 -- CSS 8.3.1 on places: reversed ends are swapped, equal ones span one track, which has to be on the grid
-unfoldable pub ordered_places : ℕ → ℕ → ℕ → Places
+unfoldable pub ordered_places : ℕ → ℕ → ℕ → Option Places
 ordered_places last s e =
     cond (ltb s e) (places_at s e)
     (cond (ltb e s) (places_at e s)
     (cond (ltb s last) (places_at s (s + 1)) nowhere))
 
-abbrev pub both_places : ℕ → LinePlace → LinePlace → Places
-both_places last Off e = nowhere
-both_places last (At s) Off = nowhere
-both_places last (At s) (At e) = ordered_places last s e
+abbrev pub both_places : ℕ → Option ℕ → Option ℕ → Option Places
+both_places last None e = nowhere
+both_places last (Some s) None = nowhere
+both_places last (Some s) (Some e) = ordered_places last s e
 
 -- an end that is no line has no place
-abbrev pub end_place : TrackCounts → Resolved → LinePlace
-end_place c free = Off
+abbrev pub end_place : TrackCounts → Resolved → Option ℕ
+end_place c free = None
 end_place c (at_line g) = place_of c g
-end_place c (spanning n) = Off
+end_place c (spanning n) = None
 
-unfoldable pub occupied_of : TrackCounts → ResolvedEnds → Places
+unfoldable pub occupied_of : TrackCounts → ResolvedEnds → Option Places
 occupied_of c r = both_places (tracks_of c) (end_place c r.first) (end_place c r.last)
 
 -- ---- the test of a placement
 
 -- both places from `below` on and before `upto`
-abbrev pub within_places : ℕ → ℕ → Places → Bool
-within_places below upto p = p.on && (leb below p.first && ltb p.last upto)
+abbrev pub within_places : ℕ → ℕ → Option Places → Bool
+within_places below upto None = false
+within_places below upto (Some p) = leb below p.first && ltb p.last upto
 
 -- the place strictly between
-abbrev pub around_place : LinePlace → Places → Bool
-around_place Off p = false
-around_place (At k) p = p.on && (ltb p.first k && ltb k p.last)
+abbrev pub around_place : Option ℕ → Option Places → Bool
+around_place None p = false
+around_place (Some k) None = false
+around_place (Some k) (Some p) = ltb p.first k && ltb k p.last
 
-unfoldable pub answers : Question → Places → Bool
+unfoldable pub answers : Question → Option Places → Bool
 answers (Within below upto) p = within_places below upto p
 answers (Around place) p = around_place place p
 
@@ -81,19 +84,23 @@ end_by (pos (suc (suc (suc zero)))) n = spanning (nat_abs n)
 end_by (pos (suc (suc (suc (suc k))))) n = free
 end_by (negsuc k) n = free
 
+-- what a settled end says, in the words of CSS; the number of a span is its absolute value
+abbrev pub end_of : SettledEnd → Resolved
+end_of Auto = free
+end_of (Line g) = at_line g
+end_of (Span n) = spanning (nat_abs n)
+
 abbrev pub ends_by : Ends → ResolvedEnds
-ends_by e = record { first = end_by e.startkind e.startnumber; last = end_by e.endkind e.endnumber }
+ends_by e = record { first = end_of e.start; last = end_of e.end }
 
 abbrev pub number_at : List ℤ → ℕ → ℕ → ℤ
 number_at numbers i j = get_or numbers (8 * i + j) (pos 0)
 
-unfoldable pub ends_at : List ℤ → ℕ → Ends
+unfoldable pub ends_at : List ℤ → ℕ → ResolvedEnds
 ends_at numbers i =
     record {
-      startkind = number_at numbers i 2;
-      startnumber = number_at numbers i 3;
-      endkind = number_at numbers i 4;
-      endnumber = number_at numbers i 5;
+      first = end_by (number_at numbers i 2) (number_at numbers i 3);
+      last = end_by (number_at numbers i 4) (number_at numbers i 5);
     }
 
 abbrev pub same_number : ℤ → ℤ → Bool
@@ -105,7 +112,7 @@ same_number (negsuc a) (negsuc b) = eqb a b
 -- placement i is one of the axis, and what is asked holds of it
 unfoldable pub is_hit : Asked → List ℤ → ℕ → Bool
 unfolding answers occupied_of ends_at
-is_hit a numbers i = same_number (number_at numbers i 1) a.axis && answers a.question (occupied_of a.counts (ends_by (ends_at numbers i)))
+is_hit a numbers i = same_number (number_at numbers i 1) (pos (axis_number a.axis)) && answers a.question (occupied_of a.counts (ends_at numbers i))
 
 -- ---- the list
 

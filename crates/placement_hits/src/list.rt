@@ -8,16 +8,6 @@ use crate::member::{RUN_NUMBERS, is_hit};
 // The most placements of a list, which is as many as a panel holds.
 pub const MOST_HITS: usize = 256;
 
-// The smaller of a count and the most placements.
-fn held_count(count: u32) -> u32
-    ensures { result ≡ min count 256 }
-{
-    if count < MOST_HITS as u32 {
-        return count;
-    }
-    MOST_HITS as u32
-}
-
 // Writes a placement after those written so far where it is asked for; how many there are then.
 fn put_hit(
     asked: Asked,
@@ -45,12 +35,10 @@ pub fn write_hits(
 ) -> u32
     ensures { record { count = result; hits = hits.new } ≡ listed_of (passing (is_hit asked numbers.now) 0 (min count 256)) hits.old }
 {
-    let held = held_count(count);
+    let held = count.min(MOST_HITS as u32);
     let mut written: u32 = 0;
-    let mut index: u32 = 0;
-    while index < held {
+    for index in 0..held {
         written = put_hit(asked, numbers, index, written, hits);
-        index += 1;
     }
     written
 }

@@ -1,80 +1,60 @@
 // The places of a placement.
 ghost use Rattle.std.specs.Prelude.{◌≡◌};
-ghost use Rattle.placement_hits.specs.Steps.{nowhere, places_at, ordered_places, both_places, end_by, end_place, ends_by, occupied_of};
+ghost use Rattle.placement_hits.specs.Steps.{ordered_places, both_places, end_of, end_place, ends_by, occupied_of};
 
 use crate::place::{last_place, line_place};
-use crate::{Ends, LinePlace, Places};
+use crate::{Ends, Places, SettledEnd};
 use track_counts::counts::TrackCounts;
 
-// The kind of an end that is a line.
-const LINE: i32 = 1;
-
-// No places.
-fn nowhere() -> Places
-    ensures { result ≡ nowhere }
-{
-    Places {
-        on: false,
-        first: 0,
-        last: 0,
-    }
-}
-
-// Two places.
-fn places_at(first: u32, last: u32) -> Places
-    ensures { result ≡ places_at first last }
-{
-    Places {
-        on: true,
-        first,
-        last,
-    }
-}
-
 // The places of a placement from the places of its ends: reversed ones are swapped, equal ones span one track.
-fn ordered_places(last: u32, start: u32, end: u32) -> Places
+#[tactic(auto, unfolding(crate::specs::Steps::ordered_places))]
+fn ordered_places(last: u32, start: u32, end: u32) -> Option<Places>
     ensures { result ≡ ordered_places last start end }
 {
     if start < end {
-        return places_at(start, end);
+        return Some(Places {
+            first: start,
+            last: end,
+        });
     }
     if end < start {
-        return places_at(end, start);
+        return Some(Places {
+            first: end,
+            last: start,
+        });
     }
     if start < last {
-        return places_at(start, start + 1);
+        return Some(Places {
+            first: start,
+            last: start + 1,
+        });
     }
-    nowhere()
+    None
 }
 
 // The same where both ends have a place.
-fn both_places(last: u32, start: LinePlace, end: LinePlace) -> Places
+fn both_places(last: u32, start: Option<u32>, end: Option<u32>) -> Option<Places>
     ensures { result ≡ both_places last start end }
 {
-    match start {
-        LinePlace::Off => nowhere(),
-        LinePlace::At(first) => match end {
-            LinePlace::Off => nowhere(),
-            LinePlace::At(second) => ordered_places(last, first, second),
-        },
-    }
+    ordered_places(last, start?, end?)
 }
 
-// The place of an end by its kind and number.
-fn end_place(counts: TrackCounts, kind: i32, number: i32) -> LinePlace
-    ensures { result ≡ end_place counts (end_by kind number) }
+// The place of an end; one that is no line has none.
+fn end_place(counts: TrackCounts, end: SettledEnd) -> Option<u32>
+    ensures { result ≡ end_place counts (end_of end) }
 {
-    if kind == LINE {
-        return line_place(counts, number);
+    match end {
+        SettledEnd::Line(number) => line_place(counts, number),
+        SettledEnd::Auto | SettledEnd::Span(_) => None,
     }
-    LinePlace::Off
 }
 
 // The places of a settled placement.
-pub fn occupied(counts: TrackCounts, ends: Ends) -> Places
+#[tactic(auto, unfolding(crate::specs::Steps::occupied_of))]
+pub fn occupied(counts: TrackCounts, ends: Ends) -> Option<Places>
     ensures { result ≡ occupied_of counts (ends_by ends) }
 {
-    let start = end_place(counts, ends.startkind, ends.startnumber);
-    let end = end_place(counts, ends.endkind, ends.endnumber);
+    let start = end_place(counts, ends.start);
+    let end = end_place(counts, ends.end);
     both_places(last_place(counts), start, end)
 }

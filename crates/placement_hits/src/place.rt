@@ -1,10 +1,8 @@
 // The place of a grid line.
-ghost use Rattle.std.specs.Prelude.{◌≡◌, ◌+◌, ◌-◌, ◌<◌, leb, pos, negsuc, cond};
+ghost use Rattle.std.specs.Prelude.{◌≡◌, leb, cond, Some, None};
 ghost use Rattle.track_counts.specs.Counts.{tracks_of};
 ghost use Rattle.placement_hits.specs.Steps.{place_of};
-ghost use Rattle.placement_hits.specs.declared.LinePlace.TheVariants.{At, Off};
 
-use crate::LinePlace;
 use coordinates::signed::{Signed, split};
 use track_counts::counts::TrackCounts;
 
@@ -12,42 +10,26 @@ use track_counts::counts::TrackCounts;
 pub fn last_place(counts: TrackCounts) -> u32
     ensures { result ≡ tracks_of counts }
 {
-    counts.negative_implicit as u32 + counts.explicit as u32 + counts.positive_implicit as u32
+    u32::from(counts.negative_implicit)
+        + u32::from(counts.explicit)
+        + u32::from(counts.positive_implicit)
 }
 
-// A place, where there is one.
-fn place_up_to(last: u32, place: u32) -> LinePlace
-    ensures { result ≡ cond (leb place last) (At place) Off }
+// A place that is not past the last.
+fn place_up_to(last: u32, place: u32) -> Option<u32>
+    ensures { result ≡ cond (leb place last) (Some place) None }
 {
-    if place <= last {
-        return LinePlace::At(place);
-    }
-    LinePlace::Off
+    if place <= last { Some(place) } else { None }
 }
 
-// The place of a line before the first explicit one by n more than the explicit count; a line in the grid is at the rest.
-fn place_back(from: u32, back: u32) -> LinePlace
-    ensures { result ≡ cond (leb back from) (At (from - back)) Off }
-{
-    if back <= from {
-        return LinePlace::At(from - back);
-    }
-    LinePlace::Off
-}
-
-// The place of a grid line, counted from the grid's edge and not held; line 0 has none.
-pub fn line_place(counts: TrackCounts, line: i32) -> LinePlace
+// The place of a grid line, from 0 at the grid's first, counted from the grid's edge and not held; line 0 and a line off the grid have none.
+pub fn line_place(counts: TrackCounts, line: i32) -> Option<u32>
     ensures { result ≡ place_of counts line }
 {
-    let last = last_place(counts);
-    let before = counts.negative_implicit as u32;
+    let before = u32::from(counts.negative_implicit);
     match split(line) {
-        Signed::NonNegative(g) => {
-            if g == 0 {
-                return LinePlace::Off;
-            }
-            place_up_to(last, before + (g - 1))
-        }
-        Signed::Negative(k) => place_back(before + counts.explicit as u32, k),
+        Signed::NonNegative(0) => None,
+        Signed::NonNegative(g) => place_up_to(last_place(counts), before + (g - 1)),
+        Signed::Negative(k) => (before + u32::from(counts.explicit)).checked_sub(k),
     }
 }

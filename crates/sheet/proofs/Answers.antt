@@ -1,5 +1,6 @@
 -- What reading a sheet answers and leaves, from what the arrays that it reads into hold. Assumes nothing.
-use Prim.Native.Nat.{ℕ, ◌+◌, ◌-◌, ◌≤◌, ◌<◌}
+use Rattle.std.specs.Prelude.{Result, Ok, Err}
+use Prim.Native.Nat.{ℕ, ◌+◌, ◌-◌, ◌≤◌, ◌<◌, min}
 use mathlib.Core.Path.{◌≡◌, refl, sym, ap, ◌∙◌, subst}
 use mathlib.Core.List.{List, ◌++◌}
 use mathlib.Core.Bool.{Bool, true, false, cond, ◌||◌, true≢false}
@@ -7,7 +8,7 @@ use lib.Dec.{eqb, ltb}
 use native.Mathlib.Omega.{arith}
 use lib.ListN.{length, drop, replicate}
 use lib.Seq.{sets-eq}
-use borrow.Author.Tests.{ltb-false, lt-ltb, le-ltb, eq-eqb, ne_eqb, eqb-true}
+use borrow.Author.Tests.{ltb-true, ltb-false, lt-ltb, le-ltb, eq-eqb, ne_eqb, eqb-true}
 use Rattle.coordinates.specs.Refusals.{no_refusal, refusal_of, short, unread}
 use Rattle.text.specs.Split.{split}
 use Rattle.axis_tables.specs.Runs.{put_bytes, part_of}
@@ -23,14 +24,18 @@ use Rattle.panel_tables.specs.Written.{zero_panel, zero_panel_reading, PanelHeld
 use Rattle.panel_tables.proofs.Fits.{FitsPanel}
 use Rattle.panel_tables.proofs.Same.{zeros_same}
 use Rattle.sheet_rules.specs.declared.Overlap.{Overlap}
-use Rattle.sheet_rules.specs.declared.SheetAnswer.{SheetAnswer}
+use Rattle.sheet_rules.specs.declared.LineFault.{LineFault}
+use Rattle.sheet_rules.specs.declared.SheetFault.{SheetFault}
+use Rattle.sheet_rules.specs.declared.SheetFault.TheVariants.{Overlap as Overlaps, Line}
+use Rattle.sheet_rules.specs.Answers.{SheetAnswer, accepted_with, refused_with}
 use Rattle.sheet_rules.specs.Sheet.{Outcome, run, fold_of, broken_of, with_broken as outcome_with, display_of, no_overlap, overlap_of}
 use Rattle.sheet_rules.specs.Panels.{sized_state, sized_panel, Tables, tables_in, pasted, tables_of}
-use Rattle.sheet_rules.specs.Read.{SheetRead, short_stores, refused_sheet, read_by, strict_by, read_sheet}
+use Rattle.sheet_rules.specs.Read.{SheetRead, short_stores, refused_sheet, refused_overlap, read_by, strict_by, read_sheet}
 use Rattle.sheet_rules.proofs.Fits.{empty_fits_sheet, display_fits}
 use Rattle.sheet_rules.proofs.Chosen.{none-overlap}
 use Rattle.sheet.specs.Runs.{HeldRun, stopped, held_run, held_overlap, held_broken, held_after, held_sheet, with_broken, held_judged}
-use Rattle.sheet.specs.Steps.{refused_answer, overlap_answer, judged_by, read_under}
+use Rattle.sheet.specs.Steps.{fault_in, line_of, EndsAs, refused_answer, overlap_answer, judged_by, judgement, read_under}
+use Rattle.sheet.proofs.Steps.{has_number}
 use Rattle.sheet.proofs.Follows.{held_sized, Follows, run_follows, overlap_follows, broken_follows}
 
 -- ---- the store of an axis
@@ -144,6 +149,22 @@ sheet_overlap s k =
     rw (le-ltb 32768 (length s) k)
     (ap (held_overlap 1 (split 10 s)) (sym zeros_same) ∙ overlap_follows 1 (split 10 s) empty_view empty_fits_sheet)
 
+-- ---- the stores, by the shorter of them
+short-true : (a b m : ℕ) → m ≡ min a b → m < 32768 → (ltb a 32768 || ltb b 32768) ≡ true
+short-true a b m e k = go (ltb a 32768) refl
+  where
+    go : (t : Bool) → ltb a 32768 ≡ t → (t || ltb b 32768) ≡ true
+    go true x = refl
+    go false x = let h = ltb-false a 32768 x in lt-ltb b 32768 (omega arith)
+
+short-false : (a b m : ℕ) → m ≡ min a b → 32768 ≤ m → (ltb a 32768 || ltb b 32768) ≡ false
+short-false a b m e k = rw (le-ltb a 32768 (omega arith), le-ltb b 32768 (omega arith))
+
+-- a refusal has a number
+refused-number : (f : SheetFault) → (refused_with f).refusal.number ≡ 0 → ⊥
+refused-number (Overlaps p) e = absurd (omega arith)
+refused-number (Line f) e = has_number f.fault e
+
 -- a sheet too long
 pub read_long : (former : Bool) (s : List ℕ) (t : Tables) → 32768 < length s → refused_read (refused_answer unread 0) t ≡ read_under former s t
 unfolding read_under read_sheet strict_by overlap_of display_of fold_of broken_of read_by
@@ -153,10 +174,29 @@ read_long former s t k = rw (lt-ltb 32768 (length s) k) (go former)
     go true = refl
     go false = refl
 
+pub start-zero : (p : Panel) (r : Reading) → p ≡ zero_panel → r ≡ zero_panel_reading
+    → panel_held_of p r (replicate panel_words 0) (replicate panel_bytes 0) (replicate 32768 0) (replicate 32768 0) ≡ zero_held
+start-zero p r e d = rw (e, d)
+
+-- a sheet that ended as the run into zeros did follows its outcome
+follows-end : (s : List ℕ) → length s ≤ 32768 → (end : Result (Unit {0}) LineFault) (h : PanelHeld) → EndsAs end h (held_judged s zero_held) → Follows (stopped (fault_in end) (line_of end) h) (display_of s)
+follows-end s few (Ok u) h e =
+    let f = sheet_follows s few in
+    record { fault = sym e.0 ∙ f.fault; line = λ y. absurd (y (sym f.fault ∙ e.0)); held = λ z. e.1 ∙ f.held z }
+follows-end s few (Err g) h e =
+    let f = sheet_follows s few in
+    record { fault = e.0 ∙ f.fault; line = λ y. e.1 ∙ f.line y; held = λ z. absurd (has_number g.fault (e.0 ∙ f.fault ∙ z)) }
+
 -- what was read into zeros, under one of the rules
-module _ (former : Bool) (s : List ℕ) (r : HeldRun) (e : r ≡ held_judged s zero_held) (o : Overlap) (d : o ≡ held_overlap 1 (split 10 s) zero_held) (few : length s ≤ 32768) where
+module _ (former : Bool) (s : List ℕ) (few : length s ≤ 32768) (end : Result (Unit {0}) LineFault) (h start : PanelHeld) (zero : start ≡ zero_held) (ends : EndsAs end h (held_judged s start)) (o : Overlap) (d₀ : o ≡ held_overlap 1 (split 10 s) start) where
+  abbrev r : HeldRun
+  r = stopped (fault_in end) (line_of end) h
+
   read-follows : Follows r (display_of s)
-  read-follows = subst (λ (x : HeldRun). Follows x (display_of s)) (sym e) (sheet_follows s few)
+  read-follows = follows-end s few end h (subst (λ (x : PanelHeld). EndsAs end h (held_judged s x)) zero ends)
+
+  d : o ≡ held_overlap 1 (split 10 s) zero_held
+  d = d₀ ∙ ap (held_overlap 1 (split 10 s)) zero
 
   noted : o ≡ overlap_of s
   noted = d ∙ sheet_overlap s few
@@ -173,7 +213,7 @@ module _ (former : Bool) (s : List ℕ) (r : HeldRun) (e : r ≡ held_judged s z
       let y : (display_of s).fault ≡ 0 → ⊥ = λ x. z (f.fault ∙ x) in
       rw (f.fault, f.line y) (answer-refused p (display_of s) t y)
 
-  pub read-refused : (t : Tables) → ((judged_by former o r.fault r.line).refusal.number ≡ 0 → ⊥) → refused_read (judged_by former o r.fault r.line) t ≡ read_under former s t
+  read-refused : (t : Tables) → ((judged_by former o r.fault r.line).refusal.number ≡ 0 → ⊥) → refused_read (judged_by former o r.fault r.line) t ≡ read_under former s t
   unfolding strict_by
   read-refused t z = go former (eqb o.later 0) z ∙ under t
     where
@@ -183,6 +223,12 @@ module _ (former : Bool) (s : List ℕ) (r : HeldRun) (e : r ≡ held_judged s z
       go true b y = fault-read o t y
       go false true y = fault-read no_overlap t y
       go false false y = refl
+
+  -- a refusal that was found
+  pub judged-refused : (f : SheetFault) → refused_with f ≡ judged_by former o (fault_in end) (line_of end) → (t : Tables) → refused_read (refused_with f) t ≡ read_under former s t
+  judged-refused f e t =
+      ap (λ (a : SheetAnswer). refused_read a t) e
+      ∙ read-refused t (λ z. refused-number f (ap (λ (a : SheetAnswer). a.refusal.number) e ∙ z))
 
   -- nothing is: then there is no pair to hide
   unrefused : (t : Tables) → (judged_by former o r.fault r.line).refusal.number ≡ 0 → (r.fault ≡ 0) × (read_by o (display_of s) t ≡ read_under former s t)
@@ -199,19 +245,22 @@ module _ (former : Bool) (s : List ℕ) (r : HeldRun) (e : r ≡ held_judged s z
       go false false x y = absurd (omega arith)
 
   -- into the words and the bytes that are lent, and the stores
-  module _ (w b cs rs : List ℕ) (z : (judged_by former o r.fault r.line).refusal.number ≡ 0) where
+  module _ (w b cs rs : List ℕ) (found : judgement (Ok tt) ≡ judged_by former o (fault_in end) (line_of end)) where
+    z : (judged_by former o r.fault r.line).refusal.number ≡ 0
+    z = sym (ap (λ (a : SheetAnswer). a.refusal.number) found)
+
     accepted : (display_of s).fault ≡ 0
     accepted = sym read-follows.fault ∙ (unrefused (tables_in w b cs rs) z).0
 
-    pub read_short : (ltb (length cs) 32768 || ltb (length rs) 32768) ≡ true → refused_read (refused_answer short 0) (tables_in w b cs rs) ≡ read_under former s (tables_in w b cs rs)
+    pub read_short : (m : ℕ) → m ≡ min (length cs) (length rs) → m < 32768 → refused_read (refused_answer short 0) (tables_in w b cs rs) ≡ read_under former s (tables_in w b cs rs)
     unfolding tables_in
-    read_short k = answer-short o (display_of s) (tables_in w b cs rs) accepted k ∙ (unrefused (tables_in w b cs rs) z).1
+    read_short m e k = answer-short o (display_of s) (tables_in w b cs rs) accepted (short-true (length cs) (length rs) m e k) ∙ (unrefused (tables_in w b cs rs) z).1
 
-    pub read_done : (ltb (length cs) 32768 || ltb (length rs) 32768) ≡ false → answer_in o r.held (tables_in w b cs rs) ≡ read_under former s (tables_in w b cs rs)
+    pub read_done : (m : ℕ) → m ≡ min (length cs) (length rs) → 32768 ≤ m → answer_in o h (tables_in w b cs rs) ≡ read_under former s (tables_in w b cs rs)
     unfolding tables_in
-    read_done k =
-        ap (λ (h : PanelHeld). answer_in o h (tables_in w b cs rs)) (read-follows.held accepted)
-        ∙ answer-done o (display_of s) (tables_in w b cs rs) (display_fits s) accepted k
+    read_done m e k =
+        ap (λ (x : PanelHeld). answer_in o x (tables_in w b cs rs)) (read-follows.held accepted)
+        ∙ answer-done o (display_of s) (tables_in w b cs rs) (display_fits s) accepted (short-false (length cs) (length rs) m e k)
         ∙ (unrefused (tables_in w b cs rs) z).1
 
 -- what is answered from words and bytes, where nothing is refused
@@ -220,3 +269,29 @@ pub answer_in_lem : (o : Overlap) (p : Panel) (q : Reading) (v a c d w b cs rs :
     ≡ answer_in o (panel_held_of p q v a c d) (tables_in w b cs rs)
 unfolding tables_in panel_held_of
 answer_in_lem o p q v a c d w b cs rs = refl
+
+-- ---- a sheet that is accepted has no pair
+
+-- without a pair
+abbrev unpaired : SheetRead → SheetRead
+unpaired r = record { answer = record { refusal = r.answer.refusal; earlier = 0; later = 0; panel = r.answer.panel }; tables = r.tables }
+
+no-pair-by : (p : Overlap) (o : Outcome) (t : Tables) → (strict_by p o t).answer.refusal.number ≡ 0 → unpaired (strict_by p o t) ≡ strict_by p o t
+unfolding strict_by read_by
+no-pair-by p o t z = go (eqb p.later 0) (eqb o.fault 0) (short_stores t) z
+  where
+    read : Bool → Bool → SheetRead
+    read b c =
+        cond b
+        (cond c (refused_sheet (refusal_of short) t) (record { answer = accepted_with no_overlap (sized_panel o.view); tables = tables_of o.view t }))
+        (refused_sheet (record { number = o.fault; line = o.line }) t)
+
+    go : (a b c : Bool) → (cond a (read b c) (refused_overlap p t)).answer.refusal.number ≡ 0 → unpaired (cond a (read b c) (refused_overlap p t)) ≡ cond a (read b c) (refused_overlap p t)
+    go true true true z = refl
+    go true true false z = refl
+    go true false c z = refl
+    go false b c z = absurd (omega arith)
+
+pub no-pair : (s : List ℕ) (t u : Tables) (p : Overlap) (panel : Panel) → record { answer = accepted_with p panel; tables = u } ≡ read_sheet s t → record { answer = accepted_with no_overlap panel; tables = u } ≡ read_sheet s t
+unfolding read_sheet
+no-pair s t u p panel e = ap unpaired e ∙ no-pair-by (overlap_of s) (display_of s) t (ap (λ (r : SheetRead). r.answer.refusal.number) (sym e))

@@ -1,94 +1,83 @@
 // What comes after the last line of a sheet: the end of both axes.
 ghost use Rattle.std.specs.Prelude.{◌≡◌, ◌≤◌, length};
-ghost use Rattle.coordinates.specs.declared.axis.Axis.TheVariants.{Column, Row};
-ghost use Rattle.panel_tables.specs.Regions.{axis_words_in, area_words_in, placement_words_in};
-ghost use Rattle.panel_tables.specs.Written.{zero_panel, zero_panel_reading, panel_held_of};
 ghost use Rattle.text.specs.Split.{split};
-ghost use Rattle.sheet.specs.Runs.{EndedPanel, ended_panel, held_overlap, broken_fault, broken_place, held_judged};
-ghost use Rattle.sheet.specs.Steps.{ended_in};
+ghost use Rattle.coordinates.specs.Refusals.{refused_by};
+ghost use Rattle.sheet_rules.specs.Answers.{noted, Numbered};
+ghost use Rattle.sheet_end.specs.End.{answered_end};
+ghost use Rattle.sheet_step.specs.Drafts.{held_of};
+ghost use Rattle.sheet.specs.Runs.{held_end, held_overlap, held_judged};
+ghost use Rattle.sheet.specs.Steps.{ended_in, at_line, EndsAs};
 
+use crate::SheetRun;
 use crate::lines::read_lines;
-use crate::{PanelEnd, SheetRun};
-use axis_tables::layout::{AXIS_BYTES, AXIS_WORDS};
+use axis_tables::layout::AXIS_WORDS;
 use axis_tables::{AxisReading, AxisState};
-use coordinates::Axis;
-use coordinates::refusal::BROKEN;
+use coordinates::{Axis, Fault};
 use panel_tables::axis::{state_in, with_state};
-use panel_tables::region::{PANEL_BYTES, PANEL_WORDS, first_word};
-use panel_tables::{Panel, Reading};
-use sheet_end::{AxisEnd, end_axis};
-use sheet_forms::first_fault;
+use panel_tables::region::first_word;
+use sheet_end::end_axis;
+use sheet_rules::LineFault;
+use sheet_step::{Draft, first_refusal};
 
 // One axis, in its part of the words.
-fn end_in(axis: Axis, state: AxisState, reading: AxisReading, words: &mut [u64]) -> AxisEnd
+fn end_in(
+    axis: Axis,
+    state: AxisState,
+    reading: AxisReading,
+    words: &mut [u64],
+) -> Result<AxisState, Fault>
     requires { length words.old ≡ 25600 }
-    ensures { record { answer = result; words = words.new } ≡ ended_in axis state reading words.old }
+    ensures { record { answer = answered_end state result; words = words.new } ≡ ended_in axis state reading words.old }
 {
     let first = first_word(axis);
     let end = first + AXIS_WORDS;
     end_axis(state, reading, &mut words[first..end])
 }
 
-// Both axes: the first of their faults, and the panel with their sizes. All other words stay.
-pub(crate) fn end_panel(panel: Panel, reading: Reading, words: &mut [u64; PANEL_WORDS]) -> PanelEnd
-    ensures words_after { record { fault = result.fault; panel = result.panel; columns = axis_words_in Column words.new; rows = axis_words_in Row words.new } ≡ ended_panel panel reading (axis_words_in Column words.old) (axis_words_in Row words.old) }
-    ensures others { (area_words_in words.new ≡ area_words_in words.old) × (placement_words_in words.new ≡ placement_words_in words.old) }
+// Both axes: the first of their faults, and the panel with their sizes. All else stays.
+pub(crate) fn end_panel(draft: &mut Draft) -> Result<(), Fault>
+    ensures { record { fault = refused_by result; line = 0; held = held_of draft.new } ≡ held_end 0 (held_of draft.old) }
 {
-    let columnstate = state_in(panel, Axis::Column);
-    let rowstate = state_in(panel, Axis::Row);
-    let columnreading = reading.columns;
-    let rowreading = reading.rows;
-    let columnend = end_in(Axis::Column, columnstate, columnreading, words);
-    let rowend = end_in(Axis::Row, rowstate, rowreading, words);
-    let columnsended = with_state(panel, Axis::Column, columnend.state);
-    let ended = with_state(columnsended, Axis::Row, rowend.state);
-    PanelEnd {
-        fault: first_fault(columnend.fault, rowend.fault),
-        panel: ended,
-    }
+    let columns = state_in(draft.panel, Axis::Column);
+    let rows = state_in(draft.panel, Axis::Row);
+    let columns_end = end_in(
+        Axis::Column,
+        columns,
+        draft.reading.columns,
+        &mut draft.words,
+    );
+    let rows_end = end_in(Axis::Row, rows, draft.reading.rows, &mut draft.words);
+    let columns_ended = with_state(draft.panel, Axis::Column, columns_end.unwrap_or(columns));
+    draft.panel = with_state(columns_ended, Axis::Row, rows_end.unwrap_or(rows));
+    first_refusal(columns_end, rows_end)
 }
 
-// A broken picture is refused by 14 at its last row: no line before that one is refused.
-fn with_broken(run: SheetRun) -> SheetRun
-    ensures { result ≡ record { fault = broken_fault run.broken run.fault; line = broken_place run.broken run.line; panel = run.panel; reading = run.reading; overlap = run.overlap; broken = run.broken } }
+// A fault at a line.
+fn at_line(end: Result<(), Fault>, line: u32) -> Result<(), LineFault>
+    ensures { result ≡ at_line line end }
 {
-    if run.broken == 0 {
-        return run;
-    }
-    let mut refused = run;
-    refused.fault = BROKEN;
-    refused.line = run.broken;
-    refused
+    end.map_err(|fault| LineFault { fault, line })
 }
 
-// The lines and the end of a sheet into the arrays. A refusal has its number and its line.
-pub(crate) fn read_panel(
-    sheet: &[u8],
-    words: &mut [u64; PANEL_WORDS],
-    bytes: &mut [u8; PANEL_BYTES],
-    columnbytes: &mut [u8; AXIS_BYTES],
-    rowbytes: &mut [u8; AXIS_BYTES],
-) -> SheetRun
+// The lines and the end of a sheet into the draft. A broken picture is refused by 14 at its last row: no line before that one is refused.
+pub(crate) fn read_panel(sheet: &[u8], draft: &mut Draft) -> SheetRun
     requires { length sheet.now ≤ 32768 }
-    ensures rowbytes_after { record { fault = result.fault; line = result.line; held = panel_held_of result.panel result.reading words.new bytes.new columnbytes.new rowbytes.new } ≡ held_judged sheet.now (panel_held_of zero_panel zero_panel_reading words.old bytes.old columnbytes.old rowbytes.old) }
-    ensures overlap { result.overlap ≡ held_overlap 1 (split 10 sheet.now) (panel_held_of zero_panel zero_panel_reading words.old bytes.old columnbytes.old rowbytes.old) }
+    ensures run { EndsAs result.end (held_of draft.new) (held_judged sheet.now (held_of draft.old)) }
+    ensures overlap { noted result.overlap ≡ held_overlap 1 (split 10 sheet.now) (held_of draft.old) }
+    ensures numbered { Numbered result.overlap }
 {
-    let run = read_lines(sheet, words, bytes, columnbytes, rowbytes);
-    let fault = run.fault;
-    if fault != 0 {
-        return with_broken(run);
+    let lines = read_lines(sheet, draft);
+    let overlap = lines.overlap;
+    if let Some(line) = lines.broken {
+        let end = Err(LineFault {
+            fault: Fault::Broken,
+            line,
+        });
+        return SheetRun { overlap, end };
     }
-    let panel = run.panel;
-    let reading = run.reading;
-    let end = end_panel(panel, reading, words);
-    let sized = end.panel;
-    let overlap = run.overlap;
-    with_broken(SheetRun {
-        fault: end.fault,
-        line: run.line,
-        panel: sized,
-        reading,
-        overlap,
-        broken: run.broken,
-    })
+    let end = match lines.end {
+        Ok(line) => at_line(end_panel(draft), line),
+        Err(refused) => Err(refused),
+    };
+    SheetRun { overlap, end }
 }

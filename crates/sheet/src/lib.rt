@@ -6,25 +6,29 @@ mod end;
 mod lines;
 mod read;
 
-use panel_tables::{Panel, Reading};
+use panel_tables::Panel;
 pub use read::{display_sheet, read_sheet};
-use sheet_rules::Overlap;
+use sheet_rules::{LineFault, Overlap};
 
-// Lines that were read: the number of the refusal, 0 where there is none, its line or else the one after the last, the state then, and the
-// first overlap on the way, and the line of the last row of a broken picture, 0 where there is none.
-#[derive(Clone, Copy)]
-pub(crate) struct SheetRun {
-    pub fault: u32,
-    pub line: u32,
-    pub panel: Panel,
-    pub reading: Reading,
-    pub overlap: Overlap,
-    pub broken: u32,
+// The lines of a sheet that were read: the first overlap on the way, the line of the last row of a broken picture, and the line after the
+// last, or what the lines are refused by.
+#[derive(Clone, Copy, Debug, PartialEq, Eq)]
+pub(crate) struct LinesRead {
+    pub overlap: Option<Overlap>,
+    pub broken: Option<u32>,
+    pub end: Result<u32, LineFault>,
 }
 
-// A panel after the last line: the number of its refusal, 0 where there is none, and the panel with the sizes of its axes.
+// A sheet that was read: its first overlap, and what it is refused by beside that.
+#[derive(Clone, Copy, Debug, PartialEq, Eq)]
+pub(crate) struct SheetRun {
+    pub overlap: Option<Overlap>,
+    pub end: Result<(), LineFault>,
+}
+
+// The panel of a sheet, and the first two of its areas that share a cell.
 #[derive(Clone, Copy)]
-pub(crate) struct PanelEnd {
-    pub fault: u32,
+pub(crate) struct ReadPanel {
     pub panel: Panel,
+    pub overlap: Option<Overlap>,
 }

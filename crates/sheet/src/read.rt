@@ -1,69 +1,48 @@
 // A sheet read as a whole.
-ghost use Rattle.std.specs.Prelude.{◌≡◌};
+ghost use Rattle.std.specs.Prelude.{◌≡◌, IfOk};
 ghost use Rattle.axis_tables.specs.Runs.{put_bytes, part_of};
+ghost use Rattle.sheet_rules.specs.Answers.{noted, Numbered, answered_sheet, answered_display};
 ghost use Rattle.sheet_rules.specs.Panels.{tables_in};
 ghost use Rattle.sheet_rules.specs.Read.{SheetRead, read_sheet, DisplayRead, read_display};
-ghost use Rattle.sheet.specs.Steps.{refused_answer, overlap_answer, judged_by, read_under};
+ghost use Rattle.sheet.specs.Steps.{fault_in, line_of, judged_by, judgement, answered_read, read_under};
 
 use crate::end::read_panel;
-use axis_tables::layout::AXIS_BYTES;
-use axis_tables::name::{name_part, put_bytes};
-use coordinates::Refusal;
-use coordinates::refusal::{OVERLAP, SHORT, UNREAD, no_refusal};
+use crate::{ReadPanel, SheetRun};
+use axis_tables::layout::{AXIS_BYTES, part_from};
+use axis_tables::name::put_bytes;
+use coordinates::Fault;
+use panel_tables::Panel;
 use panel_tables::region::{PANEL_BYTES, PANEL_WORDS};
-use panel_tables::state::zero_panel;
-use sheet_rules::{DisplayAnswer, Overlap, SheetAnswer};
+use panel_tables::state::{zero_panel, zero_panel_reading};
+use sheet_rules::{Display, LineFault, SheetFault};
+use sheet_step::Draft;
 
 // The most bytes of a sheet.
 const SHEET_BYTES: usize = 32768;
 
-// A refusal with zeros in place of the pair and the panel.
-fn refused_sheet(number: u32, line: u32) -> SheetAnswer
-    ensures { result ≡ refused_answer number line }
+// A fault of the sheet as a whole.
+fn whole_fault(fault: Fault) -> SheetFault
+    ensures { result ≡ SheetFault.Line (record { fault = fault; line = 0 }) }
 {
-    let panel = zero_panel();
-    SheetAnswer {
-        refusal: Refusal { number, line },
-        earlier: 0,
-        later: 0,
-        panel,
-    }
+    SheetFault::Line(LineFault { fault, line: 0 })
 }
 
-// The refusal of two areas that share a cell, with zeros in place of the panel.
-fn refused_overlap(overlap: Overlap) -> SheetAnswer
-    ensures { result ≡ overlap_answer overlap }
+// What a sheet is refused by: two areas that share a cell, but not under the former rule, else its own fault.
+fn judged(former: bool, run: SheetRun) -> Result<(), SheetFault>
+    requires { Numbered run.overlap }
+    ensures { judgement result ≡ judged_by former (noted run.overlap) (fault_in run.end) (line_of run.end) }
 {
-    let panel = zero_panel();
-    SheetAnswer {
-        refusal: Refusal {
-            number: OVERLAP,
-            line: overlap.line,
-        },
-        earlier: overlap.earlier,
-        later: overlap.later,
-        panel,
+    match run.overlap {
+        Some(overlap) if !former => Err(SheetFault::Overlap(overlap)),
+        _ => run.end.map_err(|fault| SheetFault::Line(fault)),
     }
-}
-
-// What lines and end are refused by: an overlap, but not under the former rule, else their own fault; number 0 where nothing is refused.
-fn judged(former: bool, overlap: Overlap, fault: u32, line: u32) -> SheetAnswer
-    ensures { result ≡ judged_by former overlap fault line }
-{
-    if former {
-        return refused_sheet(fault, line);
-    }
-    if overlap.later == 0 {
-        return refused_sheet(fault, line);
-    }
-    refused_overlap(overlap)
 }
 
 // The names of an axis at the start of a store, of which the rest stays.
 fn copy_names(store: &mut [u8], bytes: &[u8; AXIS_BYTES], used: u32)
     ensures { store.new ≡ put_bytes store.old 0 (part_of bytes.now 0 used) }
 {
-    put_bytes(store, 0, name_part(bytes, 0, used));
+    put_bytes(store, 0, part_from(bytes, 0, used));
 }
 
 // The panel that a sheet describes under one of the two rules, in the answer and the lent arrays and stores, with the first overlap. On a
@@ -75,43 +54,36 @@ fn read_tables(
     bytes: &mut [u8; PANEL_BYTES],
     columnstore: &mut [u8],
     rowstore: &mut [u8],
-) -> SheetAnswer
-    ensures { record { answer = result; tables = tables_in words.new bytes.new columnstore.new rowstore.new } ≡ read_under former sheet.now (tables_in words.old bytes.old columnstore.old rowstore.old) }
+) -> Result<ReadPanel, SheetFault>
+    ensures read { record { answer = answered_read result; tables = tables_in words.new bytes.new columnstore.new rowstore.new } ≡ read_under former sheet.now (tables_in words.old bytes.old columnstore.old rowstore.old) }
+    ensures numbered { IfOk result (λ r. Numbered r.overlap) }
 {
     if SHEET_BYTES < sheet.len() {
-        return refused_sheet(UNREAD, 0);
+        return Err(whole_fault(Fault::Unread));
     }
-    let mut panelwords = [0u64; PANEL_WORDS];
-    let mut panelbytes = [0u8; PANEL_BYTES];
-    let mut columnbytes = [0u8; AXIS_BYTES];
-    let mut rowbytes = [0u8; AXIS_BYTES];
-    let run = read_panel(
-        sheet,
-        &mut panelwords,
-        &mut panelbytes,
-        &mut columnbytes,
-        &mut rowbytes,
-    );
-    let overlap = run.overlap;
-    let stop = judged(former, overlap, run.fault, run.line);
-    let number = stop.refusal.number;
-    if number != 0 {
-        return stop;
+    let mut draft = Draft {
+        panel: zero_panel(),
+        reading: zero_panel_reading(),
+        words: [0; PANEL_WORDS],
+        bytes: [0; PANEL_BYTES],
+        column_bytes: [0; AXIS_BYTES],
+        row_bytes: [0; AXIS_BYTES],
+    };
+    let run = read_panel(sheet, &mut draft);
+    judged(former, run)?;
+    let shorter = columnstore.len().min(rowstore.len());
+    if shorter < AXIS_BYTES {
+        return Err(whole_fault(Fault::Short));
     }
-    if (columnstore.len() < AXIS_BYTES) | (rowstore.len() < AXIS_BYTES) {
-        return refused_sheet(SHORT, 0);
-    }
-    *words = panelwords;
-    *bytes = panelbytes;
-    copy_names(columnstore, &columnbytes, run.panel.room.columns.used);
-    copy_names(rowstore, &rowbytes, run.panel.room.rows.used);
-    let panel = run.panel;
-    SheetAnswer {
-        refusal: no_refusal(),
-        earlier: overlap.earlier,
-        later: overlap.later,
+    let panel = draft.panel;
+    *words = draft.words;
+    *bytes = draft.bytes;
+    copy_names(columnstore, &draft.column_bytes, panel.room.columns.used);
+    copy_names(rowstore, &draft.row_bytes, panel.room.rows.used);
+    Ok(ReadPanel {
         panel,
-    }
+        overlap: run.overlap,
+    })
 }
 
 // The panel that a sheet describes, in the answer and the lent arrays and stores. Two areas that share a cell are refused, and answered as a
@@ -122,10 +94,11 @@ pub fn read_sheet(
     bytes: &mut [u8; PANEL_BYTES],
     columnstore: &mut [u8],
     rowstore: &mut [u8],
-) -> SheetAnswer
-    ensures { record { answer = result; tables = tables_in words.new bytes.new columnstore.new rowstore.new } ≡ read_sheet sheet.now (tables_in words.old bytes.old columnstore.old rowstore.old) }
+) -> Result<Panel, SheetFault>
+    ensures { record { answer = answered_sheet result; tables = tables_in words.new bytes.new columnstore.new rowstore.new } ≡ read_sheet sheet.now (tables_in words.old bytes.old columnstore.old rowstore.old) }
 {
-    read_tables(false, sheet, words, bytes, columnstore, rowstore)
+    let read = read_tables(false, sheet, words, bytes, columnstore, rowstore)?;
+    Ok(read.panel)
 }
 
 // A sheet for display, under the former rule: areas may share cells, and the first two that do are answered. What is lent is filled as by
@@ -136,16 +109,13 @@ pub fn display_sheet(
     bytes: &mut [u8; PANEL_BYTES],
     columnstore: &mut [u8],
     rowstore: &mut [u8],
-) -> DisplayAnswer
-    ensures { record { answer = result; tables = tables_in words.new bytes.new columnstore.new rowstore.new } ≡ read_display sheet.now (tables_in words.old bytes.old columnstore.old rowstore.old) }
+) -> Result<Display, SheetFault>
+    ensures display { record { answer = answered_display result; tables = tables_in words.new bytes.new columnstore.new rowstore.new } ≡ read_display sheet.now (tables_in words.old bytes.old columnstore.old rowstore.old) }
+    ensures numbered { IfOk result (λ d. Numbered d.overlap) }
 {
-    let read = read_tables(true, sheet, words, bytes, columnstore, rowstore);
-    let refusal = read.refusal;
-    let grid = read.panel.grid;
-    DisplayAnswer {
-        refusal,
-        earlier: read.earlier,
-        later: read.later,
-        grid,
-    }
+    let read = read_tables(true, sheet, words, bytes, columnstore, rowstore)?;
+    Ok(Display {
+        grid: read.panel.grid,
+        overlap: read.overlap,
+    })
 }

@@ -1,4 +1,5 @@
 -- The entries as the code puts them: written into a table, and copied from there. Assumes nothing.
+use Rattle.template_rules.specs.Explicit.{SizeAnswer}
 use Prim.Native.Nat.{ℕ, ◌+◌, ◌≤◌}
 use mathlib.Core.Path.{◌≡◌, refl, sym, ap, ◌∙◌}
 use mathlib.Core.Bool.{Bool, true, false, cond}
@@ -8,10 +9,8 @@ use borrow.Author.Tests.{le-ltb}
 use lib.Dec.{eqb, ltb}
 use lib.ListN.{length, drop, length-map}
 use lib.Seq.{sets, length-sets, sets-eq, take_at}
-use Rattle.template_rules.specs.declared.ExplicitSize.{ExplicitSize}
 use Rattle.name_entries.specs.declared.NameEntry.{NameEntry}
-use Rattle.name_template.specs.declared.WrittenNames.{WrittenNames}
-use Rattle.name_template.specs.Writing.{written_entries, entry_word, TableAfter, names_written}
+use Rattle.name_template.specs.Writing.{WrittenNames, written_entries, entry_word, TableAfter, names_written}
 use Rattle.axis_tables.specs.declared.AxisState.{AxisState}
 use Rattle.axis_tables.specs.declared.AxisReading.{AxisReading}
 use Rattle.axis_tables.specs.Runs.{part_of}
@@ -23,7 +22,7 @@ none-put w [] n e z = refl
 none-put w (x ∷ l) n e z = absurd (omega arith)
 
 -- where there is an entry the template counts
-pub some-entries : (s : AxisState) (w : List ℕ) (size : ExplicitSize) (n : ℕ) → n ≡ length (entries_by s w size) → (n ≡ 0 → ⊥)
+pub some-entries : (s : AxisState) (w : List ℕ) (size : SizeAnswer) (n : ℕ) → n ≡ length (entries_by s w size) → (n ≡ 0 → ⊥)
     → entries_by s w size ≡ written_entries (names_in s w) (components_in s w) size.repetitions
 unfolding entries_by
 some-entries s w size n e h = go (eqb size.template 0) e

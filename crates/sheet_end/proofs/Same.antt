@@ -1,11 +1,12 @@
 -- The end of a sheet on the state and words of a view is the view's: its refusal, its size and its entries. Assumes nothing.
+use Rattle.std.specs.Prelude.{None}
 use Prim.Native.Nat.{ℕ, suc, ◌+◌, ◌≤◌, ◌<◌}
-use mathlib.Core.Path.{◌≡◌, refl, sym, ap, ◌∙◌, subst}
+use mathlib.Core.Path.{◌≡◌, refl, sym, ap, ◌∙◌}
 use mathlib.Core.Bool.{Bool, true, false, cond}
 use mathlib.Core.List.{List, [], ◌∷◌, ◌++◌, map, append_assoc, append-nil}
 use native.Mathlib.Omega.{arith}
 use borrow.Author.Tests.{le-leb, lt-leb, lt-ltb, le-ltb, ltb-true, ltb-false}
-use lib.Dec.{ltb}
+use lib.Dec.{eqb, ltb}
 use lib.ListN.{length, length-map, length-append}
 use lib.Seq.{sets}
 use Rattle.coordinates.specs.Refusals.{no_refusal, count}
@@ -16,12 +17,11 @@ use Rattle.sheet_forms.proofs.Firsts.{first_left, first_one, first_zero}
 use Rattle.axis_tables.specs.View.{Repeat, Unended, none, inside, AxisView, components_of}
 use Rattle.axis_tables.specs.Written.{regions_of, words_with, axis_words, state_of, repeat_of, reading_of}
 use Rattle.axis_tables.proofs.Lays.{lay-put}
-use Rattle.axis_tables.proofs.Same.{positive}
-use Rattle.axis_tables.proofs.Fits.{Fits, SmallUnended}
+use Rattle.axis_tables.proofs.Fits.{Fits}
 use Rattle.axis_tables.proofs.Back.{template-back, components-back, name-words-back}
 use Rattle.sheet_rules.specs.Sheet.{size_of, explicit_of, entries_of, open_fault, count_fault, entries_fault, axis_fault}
 use Rattle.sheet_rules.specs.Panels.{name_entries, entry_words, sized_state}
-use Rattle.sheet_end.specs.End.{size_in, entries_by, entries_in, end_fault_in, end_in}
+use Rattle.sheet_end.specs.End.{size_in, entries_by, entries_in, ended_or, end_fault_in, end_in}
 use Rattle.sheet_end.proofs.Faults.{kept}
 use Rattle.sheet_end.proofs.Entries.{few-components, none_open, entries-count}
 
@@ -61,24 +61,22 @@ module _ (v : AxisView) (f : Fits v) where
   open-fault : (r : Repeat) → v.unended ≡ inside r → end_fault_in (state_of v) (reading_of v) (axis_words v) ≡ 1
   unfolding end_fault_in
   open-fault r e =
-      let s : SmallUnended (inside r) = subst SmallUnended e f.unended in
-      let k : (reading_of v).kind ≡ r.kind = ap (λ (u : Unended). (repeat_of v.line.seen v.template u).kind) e in
-      rw (k, positive r.kind s.some)
+      ap (λ (u : Unended). ended_or (repeat_of v.line.seen v.template u).unended (cond (eqb (size_in (state_of v) (axis_words v)).refusal.number 0) (cond (ltb 4096 (length (entries_in (state_of v) (axis_words v)))) 8 0) (size_in (state_of v) (axis_words v)).refusal.number)) e
 
   -- then an explicit count above 10,000, then the entries
   module _ (closed : v.unended ≡ none) where
-    kind-none : (reading_of v).kind ≡ 0
-    kind-none = ap (λ (u : Unended). (repeat_of v.line.seen v.template u).kind) closed
+    ended : (reading_of v).unended ≡ None
+    ended = ap (λ (u : Unended). (repeat_of v.line.seen v.template u).unended) closed
 
     within-fault : explicit_of v ≤ 10000 → end_fault_in (state_of v) (reading_of v) (axis_words v) ≡ first_of (count_fault v) (entries_fault v)
     unfolding end_fault_in
     within-fault h =
-        rw (kind-none, entries-within h, size-within h, entries-count v f closed)
+        rw (ended, entries-within h, size-within h, entries-count v f closed)
         (sym (first_left (count_fault v) (entries_fault v) (rw (le-ltb 10000 (explicit_of v) h))))
 
     beyond-fault : 10000 < explicit_of v → end_fault_in (state_of v) (reading_of v) (axis_words v) ≡ first_of (count_fault v) (entries_fault v)
     unfolding end_fault_in first_of rank_of
-    beyond-fault h = rw (kind-none, size-beyond h, lt-ltb 10000 (explicit_of v) h) (go (ltb 4096 (length (entries_of v))))
+    beyond-fault h = rw (ended, size-beyond h, lt-ltb 10000 (explicit_of v) h) (go (ltb 4096 (length (entries_of v))))
       where
         go : (t : Bool) → 4 ≡ first_of 4 (cond t 8 0)
         go true = refl

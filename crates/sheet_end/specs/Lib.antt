@@ -1,3 +1,2 @@
 -- What the contracts on the end of a sheet cite.
 pub mod End
-pub mod Steps

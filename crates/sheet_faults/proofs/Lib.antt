@@ -1,3 +1,4 @@
 -- Laws of one line.
 pub mod Same
+pub mod Noted
 pub mod Parts

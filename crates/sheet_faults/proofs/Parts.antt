@@ -6,8 +6,8 @@ use lib.ListN.{drop}
 use Rattle.picture_rules.specs.Picture.{Word}
 use Rattle.coordinates.specs.declared.axis.Axis.{Axis}
 use Rattle.coordinates.specs.declared.axis.Axis.TheVariants.{Column, Row}
-use Rattle.sheet_forms.specs.declared.Record.{Record}
-use Rattle.sheet_forms.specs.declared.Record.TheVariants.{Fault, Axis as AxisLine, Area, Name, Track, Repeat, End, Spare, Extra, Item, Place, PictureRow}
+use Rattle.sheet_forms.specs.Said.{Record}
+use Rattle.sheet_forms.specs.Said.{Fault, Axis as AxisLine, Area, Name, Track, Repeat, End, Spare, Extra, Item, Place, PictureRow}
 use Rattle.sheet_forms.specs.Words.{at}
 use Rattle.sheet_forms.specs.Faults.{first_of}
 use Rattle.sheet_forms.specs.Names.{first_name, second_name}
@@ -15,9 +15,8 @@ use Rattle.sheet_forms.specs.Records.{record_of, fault_of}
 use Rattle.panel_tables.specs.Written.{PanelHeld, PanelStepped}
 use Rattle.panel_tables.specs.Axes.{held_in}
 use Rattle.sheet_rules.specs.Steps.{axis_held, axis_record, on_held, held_step}
-use Rattle.sheet_faults.specs.declared.Part.{Part}
 use Rattle.sheet_faults.specs.Lines.{twice_in, stage_in, late_in, fault_before, shared_in, noted_by, at_stage, record_in, line_in, line_shared}
-use Rattle.sheet_faults.specs.Parts.{axis_part, part_of, named, part_step, named_step, twice_of, before_of, shared_of}
+use Rattle.sheet_faults.specs.Parts.{Part, axis_part, part_of, named, part_step, named_step, twice_of, before_of, shared_of}
 
 module _ (h : PanelHeld) where
   -- a record of an axis is written to that axis's tables

@@ -7,8 +7,8 @@ use lib.Dec.{eqb}
 use borrow.Author.Tests.{eq-eqb, eqb-true}
 use Rattle.coordinates.specs.declared.axis.Axis.{Axis}
 use Rattle.coordinates.specs.declared.axis.Axis.TheVariants.{Column, Row}
-use Rattle.sheet_forms.specs.declared.Record.{Record}
-use Rattle.sheet_forms.specs.declared.Record.TheVariants.{Fault, Axis as AxisLine, Area, Name, Track, Repeat, End, Spare, Extra, Item, Place, PictureRow}
+use Rattle.sheet_forms.specs.Said.{Record}
+use Rattle.sheet_forms.specs.Said.{Fault, Axis as AxisLine, Area, Name, Track, Repeat, End, Spare, Extra, Item, Place, PictureRow}
 use Rattle.sheet_forms.specs.Words.{at}
 use Rattle.sheet_forms.specs.Faults.{first_of}
 use Rattle.sheet_forms.specs.Records.{record_of, fault_of}
@@ -16,7 +16,7 @@ use Rattle.sheet_forms.proofs.Firsts.{first_zero, first_joined}
 use Rattle.sheet_forms.proofs.Bounds.{Bounded}
 use Rattle.sheet_forms.proofs.Theorem.{record_bounded}
 use Rattle.axis_tables.specs.View.{Unended, none, inside, AxisView}
-use Rattle.axis_tables.specs.Written.{repeat_of, reading_of}
+use Rattle.axis_tables.specs.Written.{was_seen, repeat_of, reading_of}
 use Rattle.panel_tables.specs.View.{PanelView, refused, accepted}
 use Rattle.panel_tables.specs.Axes.{reading_in, view_in}
 use Rattle.panel_tables.specs.Written.{panel_reading_of, held_panel}
@@ -32,17 +32,22 @@ use Rattle.sheet_faults.specs.Lines.{twice_in, stage_in, late_in, fault_before, 
 -- ---- the faults that a record has before it is written
 
 -- whether the `axis` record was seen is in the reading
-seen_of : (x : AxisView) → (reading_of x).seen ≡ x.line.seen
+seen_of : (x : AxisView) → (reading_of x).seen ≡ was_seen x.line.seen
 seen_of x = go x.unended
   where
-    go : (u : Unended) → (repeat_of x.line.seen x.template u).seen ≡ x.line.seen
+    go : (u : Unended) → (repeat_of x.line.seen x.template u).seen ≡ was_seen x.line.seen
     go none = refl
     go (inside r) = refl
 
 -- of either axis
-seen_in : (v : PanelView) (a : Axis) → (reading_in (panel_reading_of v) a).seen ≡ (view_in v a).line.seen
+seen_in : (v : PanelView) (a : Axis) → (reading_in (panel_reading_of v) a).seen ≡ was_seen (view_in v a).line.seen
 seen_in v Column = seen_of v.columns
 seen_in v Row = seen_of v.rows
+
+-- an `axis` record again
+again : (t : Bool) → ◌≡◌ {A = ℕ} (cond (cond t false true) 6 0) (cond t 0 6)
+again true = refl
+again false = refl
 
 -- a record has its place in the kind order
 stage_same : (v : PanelView) (r : Record) → stage_in v.stage r ≡ stage_of v r
@@ -71,7 +76,7 @@ module _ (v : PanelView) (sheet : FitsSheet v) (fs : List (List ℕ)) where
   twice_same : (r : Record) → twice_in (held_panel v) fs r ≡ twice_fault v fs r
   unfolding held_panel
   twice_same (Fault n) = refl
-  twice_same (AxisLine a) = ap (λ (n : ℕ). cond (eqb n 0) 0 6) (seen_in v a.axis)
+  twice_same (AxisLine a) = ap (λ (t : Bool). cond t 6 0) (seen_in v a.axis) ∙ again (eqb (view_in v a.axis).line.seen 0)
   twice_same (Area a) = ap (λ (t : Bool). cond t 6 0) (has_back v.areas f.drawn f.areas (at fs 1))
   twice_same (Name a) = refl
   twice_same (Track a min max) = refl

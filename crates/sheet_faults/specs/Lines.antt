@@ -1,8 +1,8 @@
 -- One line of a sheet on what a panel holds, whatever that is: the same faults as on its view. A line that is refused may have written:
 -- the sheet's reader drops what it holds then.
 use Rattle.std.specs.Prelude.{ℕ, List, cond, eqb}
-use Rattle.sheet_forms.specs.declared.Record.{Record}
-use Rattle.sheet_forms.specs.declared.Record.TheVariants.{Fault, Axis as AxisLine, Area, Name, Track, Repeat, End, Spare, Extra, Item, Place, PictureRow}
+use Rattle.sheet_forms.specs.Said.{Record}
+use Rattle.sheet_forms.specs.Said.{Fault, Axis as AxisLine, Area, Name, Track, Repeat, End, Spare, Extra, Item, Place, PictureRow}
 use Rattle.sheet_forms.specs.Words.{at}
 use Rattle.sheet_forms.specs.Faults.{first_of}
 use Rattle.sheet_forms.specs.Records.{record_of, fault_of}
@@ -16,7 +16,7 @@ use Rattle.sheet_rules.specs.Steps.{held_step}
 -- twice: an area name or axis record again
 abbrev pub twice_in : PanelHeld → List (List ℕ) → Record → ℕ
 twice_in h fs (Fault n) = 0
-twice_in h fs (AxisLine a) = cond (eqb (reading_in h.reading a.axis).seen 0) 0 6
+twice_in h fs (AxisLine a) = cond (reading_in h.reading a.axis).seen 6 0
 twice_in h fs (Area a) = cond (has_area_in h.panel.grid.areas h.areas h.area_bytes (at fs 1)) 6 0
 twice_in h fs (Name a) = 0
 twice_in h fs (Track a min max) = 0

@@ -1,15 +1,15 @@
 -- What a record is written to, and the faults of a record before it is written over no more than they look at.
-use Rattle.std.specs.Prelude.{ℕ, List, [], ◌∷◌, cond, eqb}
+use Rattle.std.specs.Prelude.{ℕ, List, [], ◌∷◌, cond}
 use Rattle.coordinates.specs.declared.axis.Axis.{Axis}
 use Rattle.coordinates.specs.declared.axis.Axis.TheVariants.{Column, Row}
-use Rattle.sheet_forms.specs.declared.Record.{Record}
-use Rattle.sheet_forms.specs.declared.Record.TheVariants.{Fault, Axis as AxisLine, Area, Name, Track, Repeat, End, Spare, Extra, Item, Place, PictureRow}
-use Rattle.sheet_forms.specs.declared.PlaceEnd.{PlaceEnd}
+use Rattle.sheet_forms.specs.Said.{Record}
+use Rattle.sheet_forms.specs.Said.{Fault, Axis as AxisLine, Area, Name, Track, Repeat, End, Spare, Extra, Item, Place, PictureRow}
+use Rattle.sheet_forms.specs.Said.{PlaceEnd}
 use Rattle.sheet_forms.specs.Faults.{first_of}
 use Rattle.sheet_forms.specs.Records.{fault_of}
 use Rattle.panel_tables.specs.declared.Panel.{Panel}
 use Rattle.panel_tables.specs.declared.Reading.{Reading}
-use Rattle.panel_tables.specs.declared.PanelRead.{PanelRead}
+use Rattle.panel_tables.specs.declared.AreaEdges.{AreaEdges}
 use Rattle.panel_tables.specs.Areas.{has_area_in, InAreas, put_area}
 use Rattle.panel_cells.specs.Steps.{first_sharing_in}
 use Rattle.panel_tables.specs.Placements.{put_placement}
@@ -18,12 +18,16 @@ use Rattle.panel_tables.specs.Written.{PanelHeld, PanelStepped, of_areas, of_pla
 use Rattle.picture_rules.specs.Picture.{Word}
 use Rattle.sheet_rules.specs.Lines.{late_at, edges_of, placed_end}
 use Rattle.sheet_rules.specs.Steps.{stayed, on_held, held_row}
-use Rattle.sheet_faults.specs.declared.LineRead.{LineRead}
-use Rattle.sheet_faults.specs.declared.Part.{Part}
-use Rattle.sheet_faults.specs.declared.Part.TheVariants.{Nothing, Columns, Rows, Areas, Placements, Picture}
 use Rattle.sheet_faults.specs.Lines.{late_in}
 
 -- ---- what a record is written to
+
+-- the tables of an axis, the areas, the placements, or the picture, a row of which has so many words
+pub data Part : Type 0 where
+  Nothing Columns Rows : Part
+  Areas : AreaEdges → Part
+  Placements : Axis → PlaceEnd → PlaceEnd → Part
+  Picture : ℕ → Part
 
 -- an axis: its tables
 abbrev pub axis_part : Axis → Part
@@ -71,7 +75,7 @@ named_step h first second ws r = part_step h first second ws r (part_of r)
 
 -- an axis record again
 abbrev pub axis_twice : Reading → Axis → ℕ
-axis_twice r a = cond (eqb (reading_in r a).seen 0) 0 6
+axis_twice r a = cond (reading_in r a).seen 6 0
 
 -- an area name again
 abbrev pub area_twice : ℕ → List ℕ → List ℕ → List ℕ → ℕ
@@ -112,10 +116,3 @@ shared_of areas words (Extra a n p) = 0
 shared_of areas words (Item a i) = 0
 shared_of areas words (Place a s e) = 0
 shared_of areas words (PictureRow n) = 0
-
--- ---- the line
-
--- an answer with a fault and the area that it shares a cell with, at a place of the kind order
-abbrev pub staged_read : ℕ → ℕ → ℕ → PanelRead → LineRead
-staged_read fault shared stage r =
-    record { fault = fault; shared = shared; panel = r.panel; reading = record { stage = stage; picture = r.reading.picture; columns = r.reading.columns; rows = r.reading.rows } }

@@ -1,10 +1,13 @@
 // The area that a line shares a cell with.
 ghost use Rattle.std.specs.Prelude.{◌≡◌, cond, eqb};
+ghost use Rattle.coordinates.specs.Refusals.{fault_number};
+ghost use Rattle.panel_cells.specs.Steps.{area_number_of};
+ghost use Rattle.sheet_forms.specs.Answers.{said_of};
 ghost use Rattle.sheet_rules.specs.Lines.{edges_of};
 ghost use Rattle.sheet_faults.specs.Lines.{noted_by};
 ghost use Rattle.sheet_faults.specs.Parts.{shared_of};
 
-use coordinates::refusal::OVERLAP;
+use coordinates::Fault;
 use panel_cells::first_sharing;
 use panel_tables::AreaEdges;
 use sheet_forms::{AreaRecord, Record, first_fault};
@@ -21,44 +24,34 @@ pub fn edges_of(area: AreaRecord) -> AreaEdges
     }
 }
 
-// The number, from 1, of the first area of the table that shares a cell with a record's; 0 where none does, or the record is no area.
-pub fn shared(count: u32, areas: &[u64], said: Record) -> u32
-    ensures { result ≡ shared_of count areas.now said }
+// The place, from 0, of the first area of the table that shares a cell with a record's, which is an area.
+pub fn shared(count: u32, areas: &[u64], said: Result<Record, Fault>) -> Option<u32>
+    ensures { area_number_of result ≡ shared_of count areas.now (said_of said) }
 {
     match said {
-        Record::Fault(_) => 0,
-        Record::Axis(_) => 0,
-        Record::Area(a) => first_sharing(count, areas, edges_of(a)),
-        Record::Name(_) => 0,
-        Record::Track(_, _, _) => 0,
-        Record::Repeat(_, _) => 0,
-        Record::End(_) => 0,
-        Record::Spare(_, _, _) => 0,
-        Record::Extra(_, _, _) => 0,
-        Record::Item(_, _) => 0,
-        Record::Place(_, _, _) => 0,
-        Record::PictureRow(_) => 0,
+        Ok(Record::Area(a)) => first_sharing(count, areas, edges_of(a)),
+        _ => None,
     }
 }
 
 // The fault of a line that shares a cell with an area.
-fn overlap_fault(shared: u32) -> u32
-    ensures { result ≡ cond (eqb shared 0) 0 12 }
+fn overlap_fault(shared: Option<u32>) -> Option<Fault>
+    ensures { fault_number result ≡ cond (eqb (area_number_of shared) 0) 0 12 }
 {
-    if shared == 0 {
-        return 0;
+    match shared {
+        Some(_) => Some(Fault::Overlap),
+        None => None,
     }
-    OVERLAP
 }
 
-// The area that a line shares a cell with, where that is the first of its faults, else 0: `before` are those that it has before it is
-// written, `written` is that of writing it.
-pub fn noted(before: u32, shared: u32, written: u32) -> u32
-    ensures { result ≡ noted_by before shared written }
+// The area that a line shares a cell with, where that is the first of its faults: `before` are those that it has before it is written,
+// `written` is that of writing it.
+#[tactic(auto, using(crate::proofs::Noted::other_fault))]
+pub fn noted(before: Option<Fault>, shared: Option<u32>, written: Option<Fault>) -> Option<u32>
+    ensures { area_number_of result ≡ noted_by (fault_number before) (area_number_of shared) (fault_number written) }
 {
-    let after = first_fault(overlap_fault(shared), written);
-    if first_fault(before, after) == OVERLAP {
-        return shared;
+    match first_fault(before, first_fault(overlap_fault(shared), written)) {
+        Some(Fault::Overlap) => shared,
+        _ => None,
     }
-    0
 }

@@ -1,36 +1,20 @@
 // How often a repeat is written: a count, `fill` or `fit`.
 ghost use Rattle.std.specs.Prelude.{◌≡◌};
-ghost use Rattle.sheet_forms.specs.Fields.{repetition_field, repetition_of};
+ghost use Rattle.sheet_forms.specs.Answers.{repetition_said};
+ghost use Rattle.sheet_forms.specs.Fields.{repetition_of};
 
-use sheet_forms::RepeatRecord;
-use sheet_forms::field::{Field, count};
+use coordinates::Fault;
+use sheet_forms::Repetition;
+use sheet_forms::field::count;
 
-fn repetition_field(c: Field) -> RepeatRecord
-    ensures { result ≡ repetition_field c }
+// A repetition that a field writes.
+#[tactic(auto, unfolding(sheet_forms::specs::Fields::repetition_of, text::specs::Split::index, text::specs::Split::same))]
+pub fn repetition(f: &[u8]) -> Result<Repetition, Fault>
+    ensures { repetition_said result ≡ repetition_of f.now }
 {
-    RepeatRecord {
-        fault: c.fault,
-        kind: 0,
-        number: c.value,
+    match f {
+        b"fill" => Ok(Repetition::Fill),
+        b"fit" => Ok(Repetition::Fit),
+        _ => Ok(Repetition::Count(count(f, 0, 65535)?)),
     }
-}
-
-pub fn repetition(f: &[u8]) -> RepeatRecord
-    ensures { result ≡ repetition_of f.now }
-{
-    if text::equal(b"fill", f) {
-        return RepeatRecord {
-            fault: 0,
-            kind: 1,
-            number: 0,
-        };
-    }
-    if text::equal(b"fit", f) {
-        return RepeatRecord {
-            fault: 0,
-            kind: 2,
-            number: 0,
-        };
-    }
-    repetition_field(count(f, 0, 65535))
 }

@@ -1,144 +1,78 @@
 // Sizes: a kind and the bits of its value, and the inner size.
 ghost use Rattle.std.specs.Prelude.{◌≡◌};
-ghost use Rattle.sheet_forms.specs.Sizes.{kind_of, allowed_at, value_field, size_field, size_of, inner_field, inner_of};
+ghost use Rattle.sizing.specs.Kinds.{number_of_kind};
+ghost use Rattle.sheet_forms.specs.Answers.{inner_said, size_said, size_kind_said};
+ghost use Rattle.sheet_forms.specs.Sizes.{kind_of, allowed_at, value_field, size_of, inner_of};
 
-use coordinates::refusal::{UNREAD, VALUE};
-use sheet_forms::field::Field;
-use sheet_forms::{InnerField, Position, SizeField};
-use text::Bits;
+use coordinates::Fault;
+use sheet_forms::Position;
+use sizing::Kind;
+use sizing::range::{length_in_range, value_in_range};
+use sizing::word::size_word;
+use text::read_bits;
 
-// The number of a kind of size; unread where the field names none.
-fn kind(f: &[u8]) -> Field
-    ensures { result ≡ kind_of f.now }
+// The kind of size that a field names, if any.
+#[tactic(auto, unfolding(sheet_forms::specs::Sizes::kind_of, text::specs::Split::index, text::specs::Split::same))]
+fn kind(f: &[u8]) -> Option<Kind>
+    ensures { size_kind_said result ≡ kind_of f.now }
 {
-    if text::equal(b"len", f) {
-        return Field { fault: 0, value: 0 };
-    }
-    if text::equal(b"fr", f) {
-        return Field { fault: 0, value: 2 };
-    }
-    if text::equal(b"auto", f) {
-        return Field { fault: 0, value: 3 };
-    }
-    if text::equal(b"pct", f) {
-        return Field { fault: 0, value: 1 };
-    }
-    if text::equal(b"min", f) {
-        return Field { fault: 0, value: 4 };
-    }
-    if text::equal(b"max", f) {
-        return Field { fault: 0, value: 5 };
-    }
-    if text::equal(b"fitl", f) {
-        return Field { fault: 0, value: 6 };
-    }
-    if text::equal(b"fitp", f) {
-        return Field { fault: 0, value: 7 };
-    }
-    Field {
-        fault: UNREAD,
-        value: 0,
+    match f {
+        b"len" => Some(Kind::Length),
+        b"fr" => Some(Kind::Fraction),
+        b"auto" => Some(Kind::Auto),
+        b"pct" => Some(Kind::Percent),
+        b"min" => Some(Kind::MinContent),
+        b"max" => Some(Kind::MaxContent),
+        b"fitl" => Some(Kind::FitContentLength),
+        b"fitp" => Some(Kind::FitContentPercent),
+        _ => None,
     }
 }
 
 // Whether a kind may stand there.
-fn allowed(position: Position, kind: u32) -> bool
-    ensures { result ≡ allowed_at position kind }
+fn allowed(position: Position, kind: Kind) -> bool
+    ensures { result ≡ allowed_at position (number_of_kind kind) }
 {
     match position {
-        Position::Minimum => sizing::range::is_kind_of_minimum(kind),
-        Position::Maximum => kind < 8,
-        Position::Gap => kind < 2,
+        Position::Minimum => kind.is_of_minimum(),
+        Position::Maximum => true,
+        Position::Gap => matches!(kind, Kind::Length | Kind::Percent),
     }
 }
 
-// A value of a kind.
-fn value_field(kind: u32, bits: u32) -> SizeField
-    ensures { result ≡ value_field kind bits }
+// A value of a kind, as a word.
+fn word(kind: Kind, bits: u32) -> Result<u64, Fault>
+    ensures { size_said result ≡ value_field (number_of_kind kind) bits }
 {
-    if sizing::range::value_in_range(kind, bits) {
-        SizeField {
-            fault: 0,
-            word: sizing::word::size_word(kind, bits),
-        }
+    if value_in_range(kind, bits) {
+        Ok(size_word(kind, bits))
     } else {
-        SizeField {
-            fault: VALUE,
-            word: 0,
-        }
-    }
-}
-
-fn size_field(position: Position, kind: Field, value: Bits) -> SizeField
-    ensures { result ≡ size_field position kind value }
-{
-    match value {
-        Bits::Unread => SizeField {
-            fault: UNREAD,
-            word: 0,
-        },
-        Bits::Value(bits) => {
-            if kind.fault != 0 {
-                return SizeField {
-                    fault: UNREAD,
-                    word: 0,
-                };
-            }
-            if allowed(position, kind.value) {
-                return value_field(kind.value, bits);
-            }
-            SizeField {
-                fault: UNREAD,
-                word: 0,
-            }
-        }
+        Err(Fault::Value)
     }
 }
 
 // A size that two fields write.
-pub fn size(position: Position, f: &[u8], g: &[u8]) -> SizeField
-    ensures { result ≡ size_of position f.now g.now }
+#[tactic(auto, unfolding(sheet_forms::specs::Sizes::size_of))]
+pub fn size(position: Position, f: &[u8], g: &[u8]) -> Result<u64, Fault>
+    ensures { size_said result ≡ size_of position f.now g.now }
 {
-    size_field(position, kind(f), text::read_bits(g))
-}
-
-fn inner_field(value: Bits) -> InnerField
-    ensures { result ≡ inner_field value }
-{
-    match value {
-        Bits::Unread => InnerField {
-            fault: UNREAD,
-            definite: false,
-            bits: 0,
-        },
-        Bits::Value(bits) => {
-            if sizing::range::length_in_range(bits) {
-                InnerField {
-                    fault: 0,
-                    definite: true,
-                    bits,
-                }
-            } else {
-                InnerField {
-                    fault: VALUE,
-                    definite: false,
-                    bits: 0,
-                }
-            }
-        }
+    match (kind(f), read_bits(g)) {
+        (Some(kind), Some(bits)) if allowed(position, kind) => word(kind, bits),
+        _ => Err(Fault::Unread),
     }
 }
 
 // An inner size, or `-` for none.
-pub fn inner(f: &[u8]) -> InnerField
-    ensures { result ≡ inner_of f.now }
+#[tactic(auto, unfolding(sheet_forms::specs::Sizes::inner_of), using(text::proofs::Library::same_pointwise))]
+pub fn inner(f: &[u8]) -> Result<Option<u32>, Fault>
+    ensures { inner_said result ≡ inner_of f.now }
 {
-    if text::equal(f, b"-") {
-        return InnerField {
-            fault: 0,
-            definite: false,
-            bits: 0,
-        };
+    if f == b"-".as_slice() {
+        return Ok(None);
     }
-    inner_field(text::read_bits(f))
+    match read_bits(f) {
+        None => Err(Fault::Unread),
+        Some(bits) if length_in_range(bits) => Ok(Some(bits)),
+        Some(_) => Err(Fault::Value),
+    }
 }

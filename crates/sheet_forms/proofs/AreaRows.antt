@@ -11,8 +11,8 @@ use lib.ListN.{length}
 use lib.Signed.{◌<ℤ◌}
 use borrow.Author.Tests.{eq-eqb, ne_eqb, leb-true, leb-false}
 use Rattle.text.specs.Spelling.{Writes}
-use Rattle.sheet_forms.specs.declared.Record.{Record}
-use Rattle.sheet_forms.specs.declared.Record.TheVariants.{Fault, Area}
+use Rattle.sheet_forms.specs.Said.{Record}
+use Rattle.sheet_forms.specs.Said.{Fault, Area}
 use Rattle.sheet_forms.specs.Words.{at}
 use Rattle.sheet_forms.specs.Faults.{rank_of, no_row, first_row}
 use Rattle.sheet_forms.specs.Fields.{count_of, name_fault}

@@ -10,15 +10,15 @@ use lib.Dec.{eqb, ltb, leb}
 use lib.ListN.{length, drop}
 use borrow.Author.Tests.{eq-eqb, ne_eqb, eqb-false, leb-false, ltb-false}
 use Rattle.text.specs.Split.{index}
-use Rattle.sheet_forms.specs.declared.Record.{Record}
-use Rattle.sheet_forms.specs.declared.Record.TheVariants.{Fault, Axis, Area, Name, Track, Repeat, End, Spare, Extra, Item, Place, PictureRow}
-use Rattle.sheet_forms.specs.declared.RepeatRecord.{RepeatRecord}
-use Rattle.sheet_forms.specs.declared.field.AxisField.{AxisField}
-use Rattle.sheet_forms.specs.declared.field.Field.{Field}
-use Rattle.sheet_forms.specs.declared.SizeField.{SizeField}
-use Rattle.sheet_forms.specs.declared.InnerField.{InnerField}
+use Rattle.sheet_forms.specs.Said.{Record}
+use Rattle.sheet_forms.specs.Said.{Fault, Axis, Area, Name, Track, Repeat, End, Spare, Extra, Item, Place, PictureRow}
+use Rattle.sheet_forms.specs.Said.{RepeatRecord}
+use Rattle.sheet_forms.specs.Answers.{AxisField}
+use Rattle.sheet_forms.specs.Answers.{Field}
+use Rattle.sheet_forms.specs.Answers.{SizeField}
+use Rattle.sheet_forms.specs.Answers.{InnerField}
 use Rattle.sheet_forms.specs.declared.Position.TheVariants.{Minimum, Maximum, Gap}
-use Rattle.sheet_forms.specs.declared.EndField.{EndField}
+use Rattle.sheet_forms.specs.Answers.{EndField}
 use Rattle.sheet_forms.specs.Words.{at, rule_words}
 use Rattle.sheet_forms.specs.Faults.{first_of}
 use Rattle.sheet_forms.specs.Fields.{axis_of, rule_of, count_of, repetition_of, name_fault, row_fault}

@@ -10,11 +10,11 @@ use lib.IntN.{ℤ, pos, negsuc}
 use lib.Signed.{◌≤ℤ◌}
 use borrow.Author.Tests.{ne_eqb, ltb-true, ltb-false}
 use Rattle.text.specs.Split.{same, index}
-use Rattle.text.specs.declared.Count.TheVariants.{Outside as Outside-as-Count, Value as Value-as-Count}
-use Rattle.text.specs.declared.Index.TheVariants.{Outside as Outside-as-Index, Value as Value-as-Index}
+use Rattle.std.specs.Prelude.{Ok, Err}
+use Rattle.text.specs.declared.NumberFault.TheVariants.{Outside}
 use Rattle.text.specs.Whole.{Written, none, whole, whole_of, count_in, index_in}
-use Rattle.sheet_forms.specs.declared.RepeatRecord.{RepeatRecord}
-use Rattle.sheet_forms.specs.declared.PlaceEnd.{PlaceEnd}
+use Rattle.sheet_forms.specs.Said.{RepeatRecord}
+use Rattle.sheet_forms.specs.Said.{PlaceEnd}
 use Rattle.sheet_forms.specs.Words.{nought, end_words, repeat_words}
 use Rattle.sheet_forms.specs.Faults.{first_of}
 use Rattle.sheet_forms.specs.Fields.{good, faulty, word_of, count_field, count_of, repetition_at, repetition_of, name_fault}
@@ -52,8 +52,8 @@ pub count_least : (least most : ℕ) (f : List ℕ) → (count_of least most f).
 unfolding count_of count_in
 count_least least most f = go (whole_of f)
   where
-    ranged : (n : ℕ) (t u : Bool) → ltb n least ≡ t → (count_field (cond t Outside-as-Count (cond u Outside-as-Count (Value-as-Count n)))).fault ≡ 0
-        → least ≤ (count_field (cond t Outside-as-Count (cond u Outside-as-Count (Value-as-Count n)))).value
+    ranged : (n : ℕ) (t u : Bool) → ltb n least ≡ t → (count_field (cond t (Err Outside) (cond u (Err Outside) (Ok n)))).fault ≡ 0
+        → least ≤ (count_field (cond t (Err Outside) (cond u (Err Outside) (Ok n)))).value
     ranged n true u e z = absurd (omega arith)
     ranged n false true e z = absurd (omega arith)
     ranged n false false e z = ltb-false n least e
@@ -95,11 +95,11 @@ index-between : (f : List ℕ) → Between (index_field (index_in (whole_of f)))
 unfolding index_in
 index-between f = go (whole_of f)
   where
-    above : (n : ℕ) (t : Bool) → ltb 32767 n ≡ t → Between (index_field (cond t Outside-as-Index (Value-as-Index (pos n)))).value
+    above : (n : ℕ) (t : Bool) → ltb 32767 n ≡ t → Between (index_field (cond t (Err Outside) (Ok (pos n)))).value
     above n true e = small 0 zero-le
     above n false e = small n (omega (arith, ltb-false 32767 n e))
 
-    below : (k : ℕ) (t : Bool) → ltb 32767 k ≡ t → Between (index_field (cond t Outside-as-Index (Value-as-Index (negsuc k)))).value
+    below : (k : ℕ) (t : Bool) → ltb 32767 k ≡ t → Between (index_field (cond t (Err Outside) (Ok (negsuc k)))).value
     below k true e = small 0 zero-le
     below k false e = (record { le = le→leb k 32767 (ltb-false 32767 k e) }, record { le = tt })
 

@@ -13,8 +13,8 @@ use lib.Signed.{◌≤ℤ◌}
 use borrow.Author.Tests.{ne_eqb, eqb-true, eqb-false, lt-ltb, le-ltb, ltb-true, ltb-false}
 use Rattle.text.specs.Split.{same, index}
 use Rattle.text.proofs.Which.{same_equal, same_self}
-use Rattle.text.specs.declared.Count.TheVariants.{Outside as Outside-as-Count, Value as Value-as-Count}
-use Rattle.text.specs.declared.Index.TheVariants.{Outside as Outside-as-Index, Value as Value-as-Index}
+use Rattle.std.specs.Prelude.{Ok, Err}
+use Rattle.text.specs.declared.NumberFault.TheVariants.{Outside}
 use Rattle.text.specs.Whole.{Written, none, whole, whole_of, count_in, index_in}
 use Rattle.text.specs.Spelling.{Writes}
 use Rattle.text.proofs.Decimals.{whole_read, whole-written, whole-unread}
@@ -135,7 +135,7 @@ unfolding count_of count_in
 count-counted least most f = go (whole_of f) refl
   where
     ranged : (n : ℕ) (t u : Bool) → whole_of f ≡ whole (pos n) → ltb n least ≡ t → ltb most n ≡ u
-        → Counted (pos least) (pos most) f (count_field (cond t Outside-as-Count (cond u Outside-as-Count (Value-as-Count n)))).fault
+        → Counted (pos least) (pos most) f (count_field (cond t (Err Outside) (cond u (Err Outside) (Ok n)))).fault
     ranged n true u e p q = outside refl (read_outside (pos least) (pos most) (pos n) f e (λ h. omega (arith, ltb-true n least p, leb→le least n h.0.le)))
     ranged n false true e p q = outside refl (read_outside (pos least) (pos most) (pos n) f e (λ h. omega (arith, ltb-true most n q, leb→le n most h.1.le)))
     ranged n false false e p q =
@@ -152,14 +152,14 @@ unfolding index_in
 index-counted f = go (whole_of f) refl
   where
     above : (n : ℕ) (u : Bool) → whole_of f ≡ whole (pos n) → ltb 32767 n ≡ u
-        → Counted (negsuc 32767) (pos 32767) f (index_field (cond u Outside-as-Index (Value-as-Index (pos n)))).fault
+        → Counted (negsuc 32767) (pos 32767) f (index_field (cond u (Err Outside) (Ok (pos n)))).fault
     above n true e q = outside refl (read_outside (negsuc 32767) (pos 32767) (pos n) f e (λ h. omega (arith, ltb-true 32767 n q, leb→le n 32767 h.1.le)))
     above n false e q =
         inside refl (pos n, whole_read f (pos n) e)
         (read_inside (negsuc 32767) (pos 32767) (pos n) f e (record { le = tt }) (at_least n 32767 (ltb-false 32767 n q)))
 
     below : (k : ℕ) (u : Bool) → whole_of f ≡ whole (negsuc k) → ltb 32767 k ≡ u
-        → Counted (negsuc 32767) (pos 32767) f (index_field (cond u Outside-as-Index (Value-as-Index (negsuc k)))).fault
+        → Counted (negsuc 32767) (pos 32767) f (index_field (cond u (Err Outside) (Ok (negsuc k)))).fault
     below k true e q = outside refl (read_outside (negsuc 32767) (pos 32767) (negsuc k) f e (λ h. omega (arith, ltb-true 32767 k q, leb→le k 32767 h.0.le)))
     below k false e q =
         inside refl (negsuc k, whole_read f (negsuc k) e)
@@ -186,8 +186,8 @@ pub count_writes : (least most : ℕ) (f : List ℕ) → (count_of least most f)
 unfolding count_of count_in
 count_writes least most f = go (whole_of f) refl
   where
-    ranged : (n : ℕ) (t u : Bool) → whole_of f ≡ whole (pos n) → (count_field (cond t Outside-as-Count (cond u Outside-as-Count (Value-as-Count n)))).fault ≡ 0
-        → Writes f (pos (count_field (cond t Outside-as-Count (cond u Outside-as-Count (Value-as-Count n)))).value)
+    ranged : (n : ℕ) (t u : Bool) → whole_of f ≡ whole (pos n) → (count_field (cond t (Err Outside) (cond u (Err Outside) (Ok n)))).fault ≡ 0
+        → Writes f (pos (count_field (cond t (Err Outside) (cond u (Err Outside) (Ok n)))).value)
     ranged n true u e z = absurd (omega arith)
     ranged n false true e z = absurd (omega arith)
     ranged n false false e z = whole_read f (pos n) e

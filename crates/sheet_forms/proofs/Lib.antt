@@ -1,4 +1,6 @@
 -- Laws of the records of a sheet.
+pub mod Together
+pub mod Parts
 pub mod Codes
 pub mod Order
 pub mod Firsts

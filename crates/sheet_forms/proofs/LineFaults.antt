@@ -9,10 +9,10 @@ use lib.Dec.{eqb, ltb}
 use lib.ListN.{length, get_or, drop}
 use borrow.Author.Tests.{eq-eqb, ne_eqb, eqb-true, eqb-false, le-ltb, ltb-true, ltb-false}
 use Rattle.text.specs.Split.{index}
-use Rattle.sheet_forms.specs.declared.Record.{Record}
-use Rattle.sheet_forms.specs.declared.Record.TheVariants.{Fault, Repeat, PictureRow}
-use Rattle.sheet_forms.specs.declared.RepeatRecord.{RepeatRecord}
-use Rattle.sheet_forms.specs.declared.field.AxisField.{AxisField}
+use Rattle.sheet_forms.specs.Said.{Record}
+use Rattle.sheet_forms.specs.Said.{Fault, Repeat, PictureRow}
+use Rattle.sheet_forms.specs.Said.{RepeatRecord}
+use Rattle.sheet_forms.specs.Answers.{AxisField}
 use Rattle.sheet_forms.specs.Words.{at, kind_words}
 use Rattle.sheet_forms.specs.Faults.{first_of, no_row, first_row}
 use Rattle.sheet_forms.specs.Fields.{axis_of, repetition_of, row_fault}

@@ -10,8 +10,7 @@ use lib.ListN.{length, get_or}
 use borrow.Author.Tests.{eq-eqb, ne_eqb, ltb-true, ltb-false, le-leb}
 use Rattle.text.specs.Split.{same, index}
 use Rattle.text.proofs.Which.{same_equal, unequal, index_word}
-use Rattle.text.specs.declared.Bits.{Bits}
-use Rattle.text.specs.declared.Bits.TheVariants.{Unread, Value}
+use Rattle.std.specs.Prelude.{Option, Some, None}
 use Rattle.text.specs.Whole.{none, digits_of, natural_of, non_negative, whole_of}
 use Rattle.text.specs.Hexadecimal.{bits_of}
 use Rattle.text.specs.Spelling.{WritesBits}
@@ -20,7 +19,7 @@ use Rattle.text.proofs.Hexadecimals.{hex_read, hex_written}
 use Rattle.sizing.specs.Ranges.{maximum_only, is_kind, minimum_kind, value_in_range, length_in_range}
 use Rattle.sheet_forms.specs.declared.Position.{Position}
 use Rattle.sheet_forms.specs.declared.Position.TheVariants.{Minimum, Maximum, Gap}
-use Rattle.sheet_forms.specs.declared.field.Field.{Field}
+use Rattle.sheet_forms.specs.Answers.{Field}
 use Rattle.sheet_forms.specs.Words.{at, dash, axis_words, rule_words, size_words, repeat_words}
 use Rattle.sheet_forms.specs.Fields.{word_of, axis_of, rule_of, count_of, repetition_at, repetition_of, name_fault}
 use Rattle.sheet_forms.specs.Sizes.{kind_of, allowed_at, faulty_size, value_field, size_field, size_of, no_inner, some_inner, inner_field, inner_of}
@@ -65,23 +64,23 @@ count_first fs least most k = counted_rows (λ x. x) (λ x. x) (λ x. x) (λ x. 
 
 -- ---- bits
 
-no_bits : (f : List ℕ) → bits_of f ≡ Unread → Size f → ⊥
+no_bits : (f : List ℕ) → bits_of f ≡ None → Size f → ⊥
 no_bits f e (b, w) = let p = hex_written f b w in let z : ◌≡◌ {A = ℕ} 0 1 = cc in omega arith
 
-bits_once : (f : List ℕ) (a b : ℕ) → bits_of f ≡ Value a → WritesBits f b → a ≡ b
+bits_once : (f : List ℕ) (a b : ℕ) → bits_of f ≡ Some a → WritesBits f b → a ≡ b
 bits_once f a b e w = let p = hex_written f b w in cc
 
 pub inner_first : (fs : List (List ℕ)) (k : ℕ) → First (PartHolds fs (an_inner k)) (inner_of (at fs k)).fault
 unfolding inner_of
 inner_first fs k = dashed (same (at fs k) dash) refl
   where
-    ranged : (b : ℕ) (t : Bool) → bits_of (at fs k) ≡ Value b → length_in_range b ≡ t → First (PartHolds fs (an_inner k)) (cond t (some_inner b) (no_inner 3)).fault
+    ranged : (b : ℕ) (t : Bool) → bits_of (at fs k) ≡ Some b → length_in_range b ≡ t → First (PartHolds fs (an_inner k)) (cond t (some_inner b) (no_inner 3)).fault
     ranged b true e q = at_none refl (λ u. u (inr (b, hex_read (at fs k) b e))) never (λ (c, w, r). true≢false (sym q ∙ ap length_in_range (bits_once (at fs k) b c e w) ∙ r)) never never
     ranged b false e q = at_value refl (b, hex_read (at fs k) b e, q) (λ u. u (inr (b, hex_read (at fs k) b e))) never
 
-    spelt : (v : Bits) → bits_of (at fs k) ≡ v → same (at fs k) dash ≡ false → First (PartHolds fs (an_inner k)) (inner_field v).fault
-    spelt Unread e q = at-unread refl (⊎_elim (unequal (at fs k) dash q) (no_bits (at fs k) e))
-    spelt (Value b) e q = ranged b (length_in_range b) e refl
+    spelt : (v : Option ℕ) → bits_of (at fs k) ≡ v → same (at fs k) dash ≡ false → First (PartHolds fs (an_inner k)) (inner_field v).fault
+    spelt None e q = at-unread refl (⊎_elim (unequal (at fs k) dash q) (no_bits (at fs k) e))
+    spelt (Some b) e q = ranged b (length_in_range b) e refl
 
     dashed : (t : Bool) → same (at fs k) dash ≡ t → First (PartHolds fs (an_inner k)) (cond t (no_inner 0) (inner_field (bits_of (at fs k)))).fault
     dashed true q =
@@ -125,7 +124,7 @@ allowed_no Gap i h e a = omega (arith, ltb-false i 2 e)
 abbrev size_at : Bool → Bool → ℕ
 size_at allowed in_range = cond allowed (cond in_range 0 3) 1
 
-size_known : (p : Position) (kind : Field) (i b : ℕ) → kind.fault ≡ 0 → kind.value ≡ i → (size_field p kind (Value b)).fault ≡ size_at (allowed_at p i) (value_in_range i b)
+size_known : (p : Position) (kind : Field) (i b : ℕ) → kind.fault ≡ 0 → kind.value ≡ i → (size_field p kind (Some b)).fault ≡ size_at (allowed_at p i) (value_in_range i b)
 size_known p kind i b e v = rw (eq-eqb kind.fault 0 e, v) (go (allowed_at p i) (value_in_range i b) refl)
   where
     go : (t u : Bool) → value_in_range i b ≡ u → (cond t (value_field i b) (faulty_size 1)).fault ≡ size_at t u
@@ -133,14 +132,14 @@ size_known p kind i b e v = rw (eq-eqb kind.fault 0 e, v) (go (allowed_at p i) (
     go true false q = rw q
     go false u q = refl
 
-size_unknown : (p : Position) (kind : Field) (b : ℕ) → kind.fault ≡ 1 → (size_field p kind (Value b)).fault ≡ 1
+size_unknown : (p : Position) (kind : Field) (b : ℕ) → kind.fault ≡ 1 → (size_field p kind (Some b)).fault ≡ 1
 size_unknown p kind b e = rw (ne_eqb kind.fault 0 (λ z. omega arith))
 
 pub size_first : (fs : List (List ℕ)) (p : Position) (k : ℕ) → First (PartHolds fs (a_size p k)) (size_of p (at fs k) (at fs (suc k))).fault
 unfolding size_of kind_of
 size_first fs p k = go (bits_of (at fs (suc k))) refl
   where
-    known : (n b : ℕ) (t u : Bool) → index (at fs k) size_words < 8 → bits_of (at fs (suc k)) ≡ Value b
+    known : (n b : ℕ) (t u : Bool) → index (at fs k) size_words < 8 → bits_of (at fs (suc k)) ≡ Some b
         → allowed_at p (index (at fs k) size_words) ≡ t → value_in_range (index (at fs k) size_words) b ≡ u → n ≡ size_at t u → First (PartHolds fs (a_size p k)) n
     known n b true true h e q r m =
         let w = hex_read (at fs (suc k)) b e in
@@ -154,9 +153,9 @@ size_first fs p k = go (bits_of (at fs (suc k))) refl
     known n b false u h e q r m =
         at-unread m (λ ((j, s, a), w). allowed_no p j s.0 (ap (allowed_at p) (sym (kind_index j (at fs k) s)) ∙ q) a)
 
-    go : (v : Bits) → bits_of (at fs (suc k)) ≡ v → First (PartHolds fs (a_size p k)) (size_field p (word_of 8 (index (at fs k) size_words)) v).fault
-    go Unread e = at-unread refl (λ (x, s). no_bits (at fs (suc k)) e s)
-    go (Value b) e =
+    go : (v : Option ℕ) → bits_of (at fs (suc k)) ≡ v → First (PartHolds fs (a_size p k)) (size_field p (word_of 8 (index (at fs k) size_words)) v).fault
+    go None e = at-unread refl (λ (x, s). no_bits (at fs (suc k)) e s)
+    go (Some b) e =
         ⊎_elim
         (λ h. known _ b (allowed_at p (index (at fs k) size_words)) (value_in_range (index (at fs k) size_words) b) h e refl refl
         (size_known p (word_of 8 (index (at fs k) size_words)) (index (at fs k) size_words) b (word_good 8 (index (at fs k) size_words) h) (word_value 8 (index (at fs k) size_words) h)))

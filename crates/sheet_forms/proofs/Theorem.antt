@@ -7,7 +7,7 @@ use native.Mathlib.Omega.{arith}
 use lib.ListN.{length, get_or}
 use Rattle.text.specs.Split.{index}
 use Rattle.text.proofs.Which.{index_word}
-use Rattle.sheet_forms.specs.declared.Record.{Record}
+use Rattle.sheet_forms.specs.Said.{Record}
 use Rattle.sheet_forms.specs.Words.{at, kind_words}
 use Rattle.sheet_forms.specs.Faults.{rank_of, no_row, first_row}
 use Rattle.sheet_forms.specs.Records.{record_of, fault_of}

@@ -1,12 +1,12 @@
 -- An end of a placement: kind, name, number (document 01, panel sheet and panel ranges).
-use Rattle.std.specs.Prelude.{ℕ, List, Bool, cond, ◌||◌, eqb, pos}
+use Rattle.std.specs.Prelude.{ℕ, List, Bool, cond, ◌||◌, eqb, ℤ, pos, Result, Ok, Err}
 use Rattle.text.specs.Split.{index, same}
 use Rattle.text.specs.Whole.{whole_of, index_in}
-use Rattle.text.specs.declared.Index.{Index}
-use Rattle.text.specs.declared.Index.TheVariants.{Unread, Outside, Value}
-use Rattle.sheet_forms.specs.declared.field.Field.{Field}
-use Rattle.sheet_forms.specs.declared.NumberField.{NumberField}
-use Rattle.sheet_forms.specs.declared.EndField.{EndField}
+use Rattle.text.specs.declared.NumberFault.{NumberFault}
+use Rattle.text.specs.declared.NumberFault.TheVariants.{Unread, Outside}
+use Rattle.sheet_forms.specs.Answers.{Field}
+use Rattle.sheet_forms.specs.Answers.{NumberField}
+use Rattle.sheet_forms.specs.Answers.{EndField}
 use Rattle.sheet_forms.specs.Faults.{first_of}
 use Rattle.sheet_forms.specs.Fields.{word_of, count_of, name_fault}
 use Rattle.sheet_forms.specs.Words.{dash, nought, end_words}
@@ -30,10 +30,10 @@ abbrev pub faulty_number : ℕ → NumberField
 faulty_number n = record { fault = n; value = pos 0 }
 
 -- a line index, -32,768 to 32,767
-abbrev pub index_field : Index → NumberField
-index_field Unread = faulty_number 1
-index_field Outside = faulty_number 4
-index_field (Value v) = record { fault = 0; value = v }
+abbrev pub index_field : Result ℤ NumberFault → NumberField
+index_field (Err Unread) = faulty_number 1
+index_field (Err Outside) = faulty_number 4
+index_field (Ok v) = record { fault = 0; value = v }
 
 -- a span, 0 to 65,535
 abbrev pub span_field : Field → NumberField

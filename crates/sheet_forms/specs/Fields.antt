@@ -1,13 +1,13 @@
 -- What one field of a line gives: a fault, 0 where there is none, and a value (document 01, panel sheet and panel ranges).
-use Rattle.std.specs.Prelude.{ℕ, List, [], ◌∷◌, Bool, true, false, cond, eqb, ltb, length}
+use Rattle.std.specs.Prelude.{ℕ, List, [], ◌∷◌, Bool, true, false, cond, eqb, ltb, leb, ◌&&◌, length, Result, Ok, Err}
 use Rattle.coordinates.specs.declared.axis.Axis.TheVariants.{Column, Row}
 use Rattle.text.specs.Split.{index}
 use Rattle.text.specs.Whole.{whole_of, count_in}
-use Rattle.text.specs.declared.Count.{Count}
-use Rattle.text.specs.declared.Count.TheVariants.{Unread, Outside, Value}
-use Rattle.sheet_forms.specs.declared.field.Field.{Field}
-use Rattle.sheet_forms.specs.declared.field.AxisField.{AxisField}
-use Rattle.sheet_forms.specs.declared.RepeatRecord.{RepeatRecord}
+use Rattle.text.specs.declared.NumberFault.{NumberFault}
+use Rattle.text.specs.declared.NumberFault.TheVariants.{Unread, Outside}
+use Rattle.sheet_forms.specs.Answers.{Field}
+use Rattle.sheet_forms.specs.Answers.{AxisField}
+use Rattle.sheet_forms.specs.Said.{RepeatRecord}
 use Rattle.picture_rules.specs.Picture.{Word, is_dots}
 use Rattle.sheet_forms.specs.Faults.{first_of}
 use Rattle.sheet_forms.specs.Words.{axis_words, rule_words, repeat_words}
@@ -34,10 +34,10 @@ unfoldable pub rule_of : List ℕ → Field
 rule_of f = word_of 2 (index f rule_words)
 
 -- unread where the field is not spelt as a whole number, 4 where it is outside its range
-abbrev pub count_field : Count → Field
-count_field Unread = faulty 1
-count_field Outside = faulty 4
-count_field (Value v) = good v
+abbrev pub count_field : Result ℕ NumberFault → Field
+count_field (Err Unread) = faulty 1
+count_field (Err Outside) = faulty 4
+count_field (Ok v) = good v
 
 unfoldable pub count_of : ℕ → ℕ → List ℕ → Field
 count_of least most f = count_field (count_in least most (whole_of f))
@@ -53,6 +53,10 @@ repetition_at i c =
 -- "count or `fill` or `fit`"; repeat counts are 0 to 65,535
 unfoldable pub repetition_of : List ℕ → RepeatRecord
 repetition_of f = repetition_at (index f repeat_words) (count_of 0 65535 f)
+
+-- a byte of the codes 33 to 126
+abbrev pub in_code_range : ℕ → Bool
+in_code_range b = leb 33 b && leb b 126
 
 -- codes 33 to 126
 unfoldable pub codes : List ℕ → Bool

@@ -1,6 +1,8 @@
 -- What the contracts on one line of a sheet cite.
 pub mod Words
 pub mod Faults
+pub mod Said
+pub mod Answers
 pub mod Fields
 pub mod Sizes
 pub mod Ends

@@ -1,7 +1,7 @@
 -- The names of a record, which stay in its line: field 1 of an `area`, field 2 of a `name`, fields 3 and 6 of a `place` (document 01, panel sheet).
 use Rattle.std.specs.Prelude.{ℕ, List, []}
-use Rattle.sheet_forms.specs.declared.Record.{Record}
-use Rattle.sheet_forms.specs.declared.Record.TheVariants.{Fault, Axis, Area, Name, Track, Repeat, End, Spare, Extra, Item, Place, PictureRow}
+use Rattle.sheet_forms.specs.Said.{Record}
+use Rattle.sheet_forms.specs.Said.{Fault, Axis, Area, Name, Track, Repeat, End, Spare, Extra, Item, Place, PictureRow}
 use Rattle.sheet_forms.specs.Words.{at}
 
 -- what is there of a field by its number, for the field of the first name

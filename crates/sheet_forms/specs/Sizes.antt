@@ -1,16 +1,14 @@
 -- Sizes as a sheet writes them: a kind and eight hexadecimal digits (document 01, panel sheet and panel ranges).
-use Rattle.std.specs.Prelude.{ℕ, List, Bool, true, false, cond, eqb, ltb}
+use Rattle.std.specs.Prelude.{ℕ, List, Bool, true, false, cond, eqb, ltb, Option, Some, None}
 use Rattle.text.specs.Split.{index, same}
 use Rattle.text.specs.Hexadecimal.{bits_of}
-use Rattle.text.specs.declared.Bits.{Bits}
-use Rattle.text.specs.declared.Bits.TheVariants.{Unread, Value}
 use Rattle.sizing.specs.Ranges.{minimum_kind, value_in_range, length_in_range}
 use Rattle.sizing.specs.Words.{size_word_of}
-use Rattle.sheet_forms.specs.declared.field.Field.{Field}
+use Rattle.sheet_forms.specs.Answers.{Field}
 use Rattle.sheet_forms.specs.declared.Position.{Position}
 use Rattle.sheet_forms.specs.declared.Position.TheVariants.{Minimum, Maximum, Gap}
-use Rattle.sheet_forms.specs.declared.SizeField.{SizeField}
-use Rattle.sheet_forms.specs.declared.InnerField.{InnerField}
+use Rattle.sheet_forms.specs.Answers.{SizeField}
+use Rattle.sheet_forms.specs.Answers.{InnerField}
 use Rattle.sheet_forms.specs.Fields.{word_of}
 use Rattle.sheet_forms.specs.Words.{dash, size_words}
 
@@ -31,9 +29,9 @@ allowed_at Gap kind = ltb kind 2
 abbrev pub value_field : ℕ → ℕ → SizeField
 value_field kind bits = cond (value_in_range kind bits) (record { fault = 0; word = size_word_of kind bits }) (faulty_size 3)
 
-abbrev pub size_field : Position → Field → Bits → SizeField
-size_field position kind Unread = faulty_size 1
-size_field position kind (Value bits) =
+abbrev pub size_field : Position → Field → Option ℕ → SizeField
+size_field position kind None = faulty_size 1
+size_field position kind (Some bits) =
     cond (eqb kind.fault 0) (cond (allowed_at position kind.value) (value_field kind.value bits) (faulty_size 1)) (faulty_size 1)
 
 unfoldable pub size_of : Position → List ℕ → List ℕ → SizeField
@@ -45,9 +43,9 @@ no_inner n = record { fault = n; definite = false; bits = 0 }
 abbrev pub some_inner : ℕ → InnerField
 some_inner bits = record { fault = 0; definite = true; bits = bits }
 
-abbrev pub inner_field : Bits → InnerField
-inner_field Unread = no_inner 1
-inner_field (Value bits) = cond (length_in_range bits) (some_inner bits) (no_inner 3)
+abbrev pub inner_field : Option ℕ → InnerField
+inner_field None = no_inner 1
+inner_field (Some bits) = cond (length_in_range bits) (some_inner bits) (no_inner 3)
 
 -- "inner size or `-`"
 unfoldable pub inner_of : List ℕ → InnerField

@@ -1,41 +1,63 @@
 // Which of the faults of one line is named.
 ghost use Rattle.std.specs.Prelude.{◌≡◌};
+ghost use Rattle.coordinates.specs.Refusals.{number_of, fault_number};
 ghost use Rattle.sheet_forms.specs.Faults.{rank_of, first_of};
+ghost use Rattle.sheet_forms.specs.Answers.{first_named, both_of};
 
-use coordinates::refusal::{BROKEN, OVERLAP, SHORT, UNEQUAL};
+use coordinates::Fault;
 
-// A fault's place in the order in which the faults of one line are looked at: the lowest number first, but 12 before 8 and 10 last. A number
-// that is none of the table's comes after all of these.
-pub fn rank(number: u32) -> u64
-    ensures { result ≡ rank_of number }
+// A fault's place in the order in which the faults of one line are looked at: the lowest number first, but 12 before 8 and 10 last. A fault
+// that no line of a sheet has comes after all of these.
+#[tactic(auto, unfolding(crate::specs::Faults::rank_of))]
+pub fn rank(fault: Fault) -> u64
+    ensures { result ≡ rank_of (number_of fault) }
 {
-    match number {
-        1 => 0,
-        2 => 1,
-        3 => 2,
-        4 => 3,
-        5 => 4,
-        6 => 5,
-        7 => 6,
-        OVERLAP => 7,
-        8 => 8,
-        9 => 9,
-        UNEQUAL => 10,
-        BROKEN => 11,
-        SHORT => 12,
-        _ => number as u64 + 13,
+    match fault {
+        Fault::Unread => 0,
+        Fault::Name => 1,
+        Fault::Value => 2,
+        Fault::Count => 3,
+        Fault::Area => 4,
+        Fault::Twice => 5,
+        Fault::Late => 6,
+        Fault::Overlap => 7,
+        Fault::Crowded => 8,
+        Fault::ZeroLine => 9,
+        Fault::Unequal => 10,
+        Fault::Broken => 11,
+        Fault::Short => 12,
+        Fault::Indefinite => 24,
+        Fault::Unplaced => 28,
     }
 }
 
-// The first of two faults, 0 where there is none.
-pub fn first_fault(a: u32, b: u32) -> u32
-    ensures { result ≡ first_of a b }
+// The first of two faults.
+fn first(a: Fault, b: Fault) -> Fault
+    ensures { result ≡ first_named a b }
 {
-    if a == 0 {
-        return b;
-    }
-    if b == 0 {
-        return a;
-    }
     if rank(a) <= rank(b) { a } else { b }
+}
+
+// The first of two faults, where there is any.
+#[tactic(auto, unfolding(crate::specs::Faults::first_of), using(crate::proofs::Together::number_first, crate::proofs::Together::fault_number))]
+pub fn first_fault(a: Option<Fault>, b: Option<Fault>) -> Option<Fault>
+    ensures { fault_number result ≡ first_of (fault_number a) (fault_number b) }
+{
+    match (a, b) {
+        (Some(a), Some(b)) => Some(first(a, b)),
+        (Some(_), None) => a,
+        (None, _) => b,
+    }
+}
+
+// Two parts of a line, or the first of their faults.
+pub fn both<A: Copy, B: Copy>(a: Result<A, Fault>, b: Result<B, Fault>) -> Result<(A, B), Fault>
+    ensures { result ≡ both_of a b }
+{
+    match (a, b) {
+        (Ok(a), Ok(b)) => Ok((a, b)),
+        (Err(a), Err(b)) => Err(first(a, b)),
+        (Err(a), Ok(_)) => Err(a),
+        (Ok(_), Err(b)) => Err(b),
+    }
 }

@@ -1,64 +1,37 @@
-// What one field gives: a fault, 0 where there is none, and a value.
+// What one field gives: a value, or its fault.
 ghost use Rattle.std.specs.Prelude.{◌≡◌};
-ghost use Rattle.sheet_forms.specs.Fields.{axis_of, count_field, count_of};
+ghost use Rattle.sheet_forms.specs.Fields.{axis_of, count_of};
+ghost use Rattle.sheet_forms.specs.Answers.{axis_said, number_said, fault_of_number};
 
-use coordinates::Axis;
-use coordinates::refusal::{COUNT, UNREAD};
-use text::Count;
-
-#[derive(Clone, Copy)]
-pub struct Field {
-    pub fault: u32,
-    pub value: u32,
-}
-
-#[derive(Clone, Copy)]
-pub struct AxisField {
-    pub fault: u32,
-    pub axis: Axis,
-}
+use coordinates::{Axis, Fault};
+use text::{NumberFault, read_count};
 
 // An axis is `c` or `r`.
-pub fn axis(f: &[u8]) -> AxisField
-    ensures { result ≡ axis_of f.now }
+#[tactic(auto, unfolding(crate::specs::Fields::axis_of, text::specs::Split::index, text::specs::Split::same))]
+pub fn axis(f: &[u8]) -> Result<Axis, Fault>
+    ensures { axis_said result ≡ axis_of f.now }
 {
-    if text::equal(b"c", f) {
-        return AxisField {
-            fault: 0,
-            axis: Axis::Column,
-        };
-    }
-    if text::equal(b"r", f) {
-        return AxisField {
-            fault: 0,
-            axis: Axis::Row,
-        };
-    }
-    AxisField {
-        fault: UNREAD,
-        axis: Axis::Column,
+    match f {
+        b"c" => Ok(Axis::Column),
+        b"r" => Ok(Axis::Row),
+        _ => Err(Fault::Unread),
     }
 }
 
-fn count_field(c: Count) -> Field
-    ensures { result ≡ count_field c }
+// The fault of a number that is not spelt as one, or lies outside its range.
+pub fn number_fault(fault: NumberFault) -> Fault
+    ensures { result ≡ fault_of_number fault }
 {
-    match c {
-        Count::Unread => Field {
-            fault: UNREAD,
-            value: 0,
-        },
-        Count::Outside => Field {
-            fault: COUNT,
-            value: 0,
-        },
-        Count::Value(v) => Field { fault: 0, value: v },
+    match fault {
+        NumberFault::Unread => Fault::Unread,
+        NumberFault::Outside => Fault::Count,
     }
 }
 
 // A whole number from least to most.
-pub fn count(f: &[u8], least: u32, most: u32) -> Field
-    ensures { result ≡ count_of least most f.now }
+#[tactic(auto, unfolding(crate::specs::Fields::count_of))]
+pub fn count(f: &[u8], least: u32, most: u32) -> Result<u32, Fault>
+    ensures { number_said result ≡ count_of least most f.now }
 {
-    count_field(text::read_count(f, least, most))
+    read_count(f, least, most).map_err(number_fault)
 }

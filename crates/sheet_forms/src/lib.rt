@@ -6,22 +6,25 @@ pub mod fault;
 pub mod field;
 pub mod name;
 
-use coordinates::Axis;
-pub use fault::{first_fault, rank};
-pub use name::name_fault;
+ghost use Rattle.std.specs.Prelude.{◌≡◌};
+ghost use Rattle.sheet_forms.specs.Answers.{kind_number};
 
-// An `axis` line: the bits of the inner size, 0 where it is not definite; the rule, 0 for `max` and 1 for `min`; the gap's word.
+use coordinates::{Axis, Fault};
+pub use fault::{both, first_fault, rank};
+pub use name::check_name;
+use template_rules::AutoRepeatStrategy;
+
+// An `axis` line: the bits of the inner size where it is definite; the rule, `max` or `min`; the gap's word.
 #[derive(Clone, Copy)]
 pub struct AxisRecord {
     pub axis: Axis,
-    pub definite: bool,
-    pub inner: u32,
-    pub rule: u32,
+    pub inner: Option<u32>,
+    pub rule: AutoRepeatStrategy,
     pub gap: u64,
 }
 
 // An `area` line; its name is field 1.
-#[derive(Clone, Copy)]
+#[derive(Clone, Copy, Debug, PartialEq, Eq)]
 pub struct AreaRecord {
     pub rowstart: u32,
     pub rowend: u32,
@@ -29,32 +32,56 @@ pub struct AreaRecord {
     pub columnend: u32,
 }
 
-// A `repeat` line: kind 0 is a count, 1 `fill`, 2 `fit`. The fault is 4 where the count is outside its range, else 0:
-// such a line still says its axis, since inside a repeat of its axis it is unread before anything else.
-#[derive(Clone, Copy)]
-pub struct RepeatRecord {
-    pub fault: u32,
-    pub kind: u32,
-    pub number: u32,
+// How often a `repeat` line says.
+#[derive(Clone, Copy, Debug, PartialEq, Eq)]
+pub enum Repetition {
+    Count(u32),
+    Fill,
+    Fit,
 }
 
-// An end of a `place` line: kinds 0 to 4 are `auto line named span nspan`. The number is 0 where it is unused.
-#[derive(Clone, Copy)]
+// The kinds of an end of a `place` line: `auto line named span nspan`.
+#[derive(Clone, Copy, Debug, PartialEq, Eq)]
+pub enum EndKind {
+    Auto,
+    Line,
+    Named,
+    Span,
+    NamedSpan,
+}
+
+impl From<EndKind> for u32 {
+    ghost from_gives = { λ kind number. number ≡ kind_number kind };
+
+    // The number of a kind, in the order of the words.
+    fn from(kind: EndKind) -> u32 {
+        match kind {
+            EndKind::Auto => 0,
+            EndKind::Line => 1,
+            EndKind::Named => 2,
+            EndKind::Span => 3,
+            EndKind::NamedSpan => 4,
+        }
+    }
+}
+
+// An end of a `place` line. The number is 0 where it is unused.
+#[derive(Clone, Copy, Debug, PartialEq, Eq)]
 pub struct PlaceEnd {
-    pub kind: u32,
+    pub kind: EndKind,
     pub number: i32,
 }
 
 // What a line says. A size is one word, its kind times 2^32 and its bits. Names stay in the line: field 1 of an `area`,
-// field 2 of a `name`, fields 3 and 6 of a `place`. The words of a `row` are its fields from 1 on; the record says how many there are.
+// field 2 of a `name`, fields 3 and 6 of a `place`. A `repeat` whose count is outside its range still says its axis, since inside a repeat of
+// its axis it is unread before anything else. The words of a `row` are its fields from 1 on; the record says how many there are.
 #[derive(Clone, Copy)]
 pub enum Record {
-    Fault(u32),
     Axis(AxisRecord),
     Area(AreaRecord),
     Name(Axis),
     Track(Axis, u64, u64),
-    Repeat(Axis, RepeatRecord),
+    Repeat(Axis, Result<Repetition, Fault>),
     End(Axis),
     Spare(Axis, u64, u64),
     Extra(Axis, u32, u32),
@@ -63,35 +90,10 @@ pub enum Record {
     PictureRow(u32),
 }
 
-#[derive(Clone, Copy)]
-pub struct NumberField {
-    pub fault: u32,
-    pub value: i32,
-}
-
-#[derive(Clone, Copy)]
-pub struct EndField {
-    pub fault: u32,
-    pub end: PlaceEnd,
-}
-
 // Where a size stands: a minimum is of no maximum-only kind, a gap is a length or a percentage.
-#[derive(Clone, Copy)]
+#[derive(Clone, Copy, Debug, PartialEq, Eq)]
 pub enum Position {
     Minimum,
     Maximum,
     Gap,
-}
-
-#[derive(Clone, Copy)]
-pub struct SizeField {
-    pub fault: u32,
-    pub word: u64,
-}
-
-#[derive(Clone, Copy)]
-pub struct InnerField {
-    pub fault: u32,
-    pub definite: bool,
-    pub bits: u32,
 }

@@ -1,36 +1,33 @@
 // The name range: 1 to 32 bytes of codes 33 to 126.
 ghost use Rattle.std.specs.Prelude.{◌≡◌};
-ghost use Rattle.sheet_forms.specs.Fields.{codes, name_fault};
+ghost use Rattle.std.specs.List.{list_all};
+ghost use Rattle.sheet_forms.specs.Fields.{in_code_range, name_fault};
+ghost use Rattle.coordinates.specs.Refusals.{refused_by};
 
-use coordinates::refusal::NAME;
+use coordinates::Fault;
+
+// Whether a byte is of the codes 33 to 126.
+fn in_code_range(b: u8) -> bool
+    ensures { result ≡ in_code_range b }
+{
+    matches!(b, 33..=126)
+}
 
 // Whether every byte is of the codes 33 to 126.
 fn in_codes(f: &[u8]) -> bool
-    ensures { result ≡ codes f.now }
+    ensures { result ≡ list_all (λ b. in_code_range b) f.now }
 {
-    let mut i: usize = 0;
-    while i < f.len() {
-        let b = f[i];
-        if b < 33 {
-            return false;
-        }
-        if 126 < b {
-            return false;
-        }
-        i += 1;
-    }
-    true
+    f.iter().all(|b| in_code_range(*b))
 }
 
-// The fault of a name: 2 outside the name range, else 0.
-pub fn name_fault(f: &[u8]) -> u32
-    ensures { result ≡ name_fault f.now }
+// A name is in the name range; else it is refused by 2.
+#[tactic(auto, unfolding(crate::specs::Fields::name_fault), using(crate::proofs::Codes::codes_all))]
+pub fn check_name(f: &[u8]) -> Result<(), Fault>
+    ensures { refused_by result ≡ name_fault f.now }
 {
-    if f.len() == 0 {
-        return NAME;
+    if (1..=32).contains(&f.len()) && in_codes(f) {
+        Ok(())
+    } else {
+        Err(Fault::Name)
     }
-    if 32 < f.len() {
-        return NAME;
-    }
-    if in_codes(f) { 0 } else { NAME }
 }

@@ -1,21 +1,37 @@
 -- A line that is cut once makes the record that its parts make, and its names lie where they were cut. Assumes nothing.
 use Prim.Native.Nat.{ℕ, ◌≤◌, ◌<◌}
 use mathlib.Core.Path.{◌≡◌, refl, sym, ◌∙◌}
-use mathlib.Core.List.{List, []}
+use mathlib.Core.List.{List, [], ◌∷◌}
 use mathlib.Core.Bool.{Bool, true, false, cond}
 use native.Mathlib.Omega.{arith}
 use lib.Dec.{eqb, leb}
 use lib.ListN.{length}
 use borrow.Author.Tests.{ne_eqb, leb-true, leb-false}
-use Rattle.text.specs.Split.{split, index}
+use Rattle.text.specs.Split.{split, onto, index}
 use Rattle.text.specs.declared.fields.Place.{Place as Placed}
 use Rattle.text.specs.Places.{part_at, place_by, field_by, fields_by}
-use Rattle.text.proofs.Places.{starts_of, field_part, fields-parts, length_fields}
-use Rattle.sheet_forms.specs.declared.Record.{Record}
-use Rattle.sheet_forms.specs.declared.Record.TheVariants.{Fault, Axis, Area, Name, Track, Repeat, End, Spare, Extra, Item, Place, PictureRow}
+use Rattle.text.proofs.Places.{starts_of, field_part, fields-parts, length_fields, at_field}
+use Rattle.sheet_forms.specs.Said.{Record, Fault, Axis, Area, Name, Track, Repeat, End, Spare, Extra, Item, Place, PictureRow}
 use Rattle.sheet_forms.specs.Words.{at, kind_words}
 use Rattle.sheet_forms.specs.Names.{of_first, of_second, first_name, second_name}
 use Rattle.sheet_forms.specs.Records.{axis_line, area_line, name_line, sizes_line, repeat_line, end_line, extra_line, item_line, place_line, row_line, fixed_kind, by_kind, record_of}
+use Rattle.sheet_lines.specs.declared.fields.Fields.{Fields}
+use Rattle.sheet_lines.specs.Fields.{fields_of, CutAs}
+
+-- field k, where there are so many
+pub field_at : (starts line : List ℕ) (n k : ℕ) → k < length (fields_by starts line n) → field_by starts line k ≡ at (fields_by starts line n) k
+field_at starts line n k h = sym (at_field starts line n n k refl (omega (arith, length_fields starts line 0 n, h)))
+
+-- a text has at least one part
+pub parts_some : (b : ℕ) (s : List ℕ) → 0 < length (split b s)
+unfolding split onto
+parts_some b [] = omega arith
+parts_some b (x ∷ xs) = go (eqb x b) (split b xs)
+  where
+    go : (t : Bool) (ps : List (List ℕ)) → 0 < length (cond t ([] ∷ ps) (onto x ps))
+    go true ps = omega arith
+    go false [] = omega arith
+    go false (p ∷ ps) = omega arith
 
 -- a line of more than 8 fields is of no form that has a fixed number of them
 module _ (fs : List (List ℕ)) (h : 8 < length fs) where
@@ -89,14 +105,15 @@ module _ (line : List ℕ) where
   second-there (Place a s e) = field_part 9 line 6 (omega arith)
   second-there (PictureRow n) = refl
 
-  -- what the steps of reading a line give together
-  pub read-there : (starts f : List ℕ) (n k i j : ℕ) (said : Record) (first second : Placed)
-      → n ≡ length (split 9 line) → starts ≡ starts_of 9 line
-      → f ≡ field_by starts line 0 → k ≡ index f kind_words → said ≡ cond (eqb k 10) (row_line (split 9 line)) (fixed_kind k (fields_by starts line n))
-      → i ≡ of_first 14 (λ k. k) said → first ≡ place_by starts i → j ≡ of_second 14 (λ k. k) said → second ≡ place_by starts j
-      → (said ≡ record_of (split 9 line)) × (part_at line first ≡ first_name said (split 9 line)) × (part_at line second ≡ second_name said (split 9 line))
-  read-there starts f n k i j said first second en es ef ek er ei ep ej eq = (
-    er ∙ rw (ek, ef, es, en) cut_record,
-    rw (ep, ei, es) (first-there said),
-    rw (eq, ej, es) (second-there said),
-  )
+  -- what the steps of reading give together
+  pub read-there : (f : Fields) → CutAs line f → (first : List ℕ) (k i j : ℕ) (said : Record) (p q : Placed)
+      → first ≡ at (fields_of f) 0 → k ≡ index first kind_words → said ≡ cond (eqb k 10) (row_line (split 9 f.line.now)) (fixed_kind k (fields_of f))
+      → i ≡ of_first 14 (λ k. k) said → p ≡ place_by f.starts i → j ≡ of_second 14 (λ k. k) said → q ≡ place_by f.starts j
+      → (said ≡ record_of (split 9 line)) × (part_at line p ≡ first_name said (split 9 line)) × (part_at line q ≡ second_name said (split 9 line))
+  read-there f c first k i j said p q ef ek er ei ep ej eq =
+      let zero : first ≡ field_by (starts_of 9 line) line 0 =
+      ef ∙ sym (field_at f.starts f.line.now f.count 0 (omega (arith, length_fields f.starts f.line.now 0 f.count, c.some))) ∙ rw (c.starts, c.line) refl in (
+        er ∙ rw (ek, zero, c.line, c.starts, c.count) cut_record,
+        rw (ep, ei, c.starts) (first-there said),
+        rw (eq, ej, c.starts) (second-there said),
+      )

@@ -5,7 +5,7 @@ use mathlib.Core.List.{List}
 use native.Mathlib.Omega.{arith}
 use lib.ListN.{length, drop, length-drop}
 use borrow.Author.Tests.{eq-eqb, ne_eqb, lt-ltb, le-ltb}
-use Rattle.sheet_forms.specs.declared.Record.TheVariants.{Fault, PictureRow}
+use Rattle.sheet_forms.specs.Said.{Fault, PictureRow}
 use Rattle.sheet_forms.specs.Fields.{row_fault}
 use Rattle.sheet_forms.specs.Records.{row_line}
 use Rattle.sheet_forms.proofs.WordRows.{row_bounded}

@@ -3,19 +3,23 @@
 
 #![tactic(auto)]
 
+pub mod fields;
+pub mod kinds;
 mod lines;
 mod read;
 mod row;
 pub mod templates;
 
-pub use read::{kind, read_record};
+use coordinates::Fault;
+pub use kinds::{LineKind, kind};
+pub use read::read_record;
 use sheet_forms::Record;
 use text::Place;
 
-// What a line says, and where its names lie in it: the empty place where there is none.
+// What a line says, or its fault, and where its names lie in it: the empty place where there is none.
 #[derive(Clone, Copy)]
 pub struct LineRecord {
-    pub said: Record,
+    pub said: Result<Record, Fault>,
     pub first: Place,
     pub second: Place,
 }

@@ -1,166 +1,154 @@
-// The lines that stand beside a template: `area`, `name`, `extra`, `item`, `place`. A line comes with the starts of its fields and their number.
+// The lines that stand beside a template: `area`, `name`, `extra`, `item`, `place`.
 ghost use Rattle.std.specs.Prelude.{◌≡◌};
-ghost use Rattle.text.specs.Places.{fields_by};
+ghost use Rattle.coordinates.specs.Refusals.{refused_by};
+ghost use Rattle.sheet_forms.specs.Answers.{axis_said, end_said, number_said, said_of};
 ghost use Rattle.sheet_forms.specs.Records.{edges_of, made_area, area_line, made_name, name_line, made_extra, extra_line, made_item, item_line, made_place, place_line};
+ghost use Rattle.sheet_lines.specs.Fields.{fields_of};
 
-use coordinates::refusal::{AREA, UNREAD};
+use crate::fields::Fields;
+use coordinates::{Axis, Fault};
 use sheet_fields::ends::end;
-use sheet_forms::fault::first_fault;
-use sheet_forms::field::{AxisField, Field, axis, count};
-use sheet_forms::name::name_fault;
-use sheet_forms::{AreaRecord, EndField, Record};
-use text::fields::STARTS;
+use sheet_forms::field::{axis, count};
+use sheet_forms::{AreaRecord, PlaceEnd, Record, both, check_name};
 
 // An area's edges, each start below its end.
-fn edges(rowstart: u32, rowend: u32, columnstart: u32, columnend: u32) -> Record
-    ensures { result ≡ edges_of rowstart rowend columnstart columnend }
+fn edges(rowstart: u32, rowend: u32, columnstart: u32, columnend: u32) -> Result<Record, Fault>
+    ensures { said_of result ≡ edges_of rowstart rowend columnstart columnend }
 {
-    if rowend <= rowstart {
-        return Record::Fault(AREA);
+    if rowend <= rowstart || columnend <= columnstart {
+        return Err(Fault::Area);
     }
-    if columnend <= columnstart {
-        return Record::Fault(AREA);
-    }
-    Record::Area(AreaRecord {
+    Ok(Record::Area(AreaRecord {
         rowstart,
         rowend,
         columnstart,
         columnend,
-    })
+    }))
 }
 
-fn make_area(name: u32, a: Field, b: Field, c: Field, d: Field) -> Record
-    ensures { result ≡ made_area name a b c d }
+// An area of these parts.
+fn make_area(
+    name: Result<(), Fault>,
+    rowstart: Result<u32, Fault>,
+    rowend: Result<u32, Fault>,
+    columnstart: Result<u32, Fault>,
+    columnend: Result<u32, Fault>,
+) -> Result<Record, Fault>
+    ensures { said_of result ≡ made_area (refused_by name) (number_said rowstart) (number_said rowend) (number_said columnstart) (number_said columnend) }
 {
-    let fault = first_fault(
+    let columns = both(columnstart, columnend);
+    let (_, (rowstart, (rowend, (columnstart, columnend)))) = both(
         name,
-        first_fault(a.fault, first_fault(b.fault, first_fault(c.fault, d.fault))),
-    );
-    if fault != 0 {
-        return Record::Fault(fault);
-    }
-    edges(a.value, b.value, c.value, d.value)
+        both(rowstart, both(rowend, columns)),
+    )?;
+    edges(rowstart, rowend, columnstart, columnend)
 }
 
 // `area`, name, row start, row end, column start, column end
-pub(crate) fn area_line(line: &[u8], starts: &[usize; STARTS], fields: usize) -> Record
-    ensures { result ≡ area_line (fields_by starts.now line.now fields) }
+#[tactic(auto, unfolding(sheet_forms::specs::Records::area_line))]
+pub(crate) fn area_line(fields: &Fields<'_>) -> Result<Record, Fault>
+    ensures { said_of result ≡ area_line (fields_of fields.now) }
 {
-    if fields != 6 {
-        return Record::Fault(UNREAD);
+    if !fields.are(6) {
+        return Err(Fault::Unread);
     }
-    let name = name_fault(text::field(line, starts, 1));
-    let a = count(text::field(line, starts, 2), 1, 10001);
-    let b = count(text::field(line, starts, 3), 1, 10001);
-    let c = count(text::field(line, starts, 4), 1, 10001);
-    let d = count(text::field(line, starts, 5), 1, 10001);
-    make_area(name, a, b, c, d)
+    make_area(
+        check_name(fields.field(1)),
+        count(fields.field(2), 1, 10001),
+        count(fields.field(3), 1, 10001),
+        count(fields.field(4), 1, 10001),
+        count(fields.field(5), 1, 10001),
+    )
 }
 
-fn make_name(a: AxisField, name: u32) -> Record
-    ensures { result ≡ made_name a name }
+// A name of these parts.
+fn make_name(axis: Result<Axis, Fault>, name: Result<(), Fault>) -> Result<Record, Fault>
+    ensures { said_of result ≡ made_name (axis_said axis) (refused_by name) }
 {
-    let fault = first_fault(a.fault, name);
-    let axis = a.axis;
-    if fault == 0 {
-        Record::Name(axis)
-    } else {
-        Record::Fault(fault)
-    }
+    let (axis, _) = both(axis, name)?;
+    Ok(Record::Name(axis))
 }
 
 // `name`, axis, name
-pub(crate) fn name_line(line: &[u8], starts: &[usize; STARTS], fields: usize) -> Record
-    ensures { result ≡ name_line (fields_by starts.now line.now fields) }
+#[tactic(auto, unfolding(sheet_forms::specs::Records::name_line))]
+pub(crate) fn name_line(fields: &Fields<'_>) -> Result<Record, Fault>
+    ensures { said_of result ≡ name_line (fields_of fields.now) }
 {
-    if fields != 3 {
-        return Record::Fault(UNREAD);
+    if !fields.are(3) {
+        return Err(Fault::Unread);
     }
-    let a = axis(text::field(line, starts, 1));
-    let name = name_fault(text::field(line, starts, 2));
-    make_name(a, name)
+    make_name(axis(fields.field(1)), check_name(fields.field(2)))
 }
 
-fn make_extra(a: AxisField, n: Field, p: Field) -> Record
-    ensures { result ≡ made_extra a n p }
+// Implicit tracks of these parts.
+fn make_extra(
+    axis: Result<Axis, Fault>,
+    negative: Result<u32, Fault>,
+    positive: Result<u32, Fault>,
+) -> Result<Record, Fault>
+    ensures { said_of result ≡ made_extra (axis_said axis) (number_said negative) (number_said positive) }
 {
-    let fault = first_fault(a.fault, first_fault(n.fault, p.fault));
-    let axis = a.axis;
-    if fault == 0 {
-        Record::Extra(axis, n.value, p.value)
-    } else {
-        Record::Fault(fault)
-    }
+    let (axis, (negative, positive)) = both(axis, both(negative, positive))?;
+    Ok(Record::Extra(axis, negative, positive))
 }
 
 // `extra`, axis, negative and positive implicit counts
-pub(crate) fn extra_line(line: &[u8], starts: &[usize; STARTS], fields: usize) -> Record
-    ensures { result ≡ extra_line (fields_by starts.now line.now fields) }
+#[tactic(auto, unfolding(sheet_forms::specs::Records::extra_line))]
+pub(crate) fn extra_line(fields: &Fields<'_>) -> Result<Record, Fault>
+    ensures { said_of result ≡ extra_line (fields_of fields.now) }
 {
-    if fields != 4 {
-        return Record::Fault(UNREAD);
+    if !fields.are(4) {
+        return Err(Fault::Unread);
     }
-    let a = axis(text::field(line, starts, 1));
-    let n = count(text::field(line, starts, 2), 0, 10000);
-    let p = count(text::field(line, starts, 3), 0, 10000);
-    make_extra(a, n, p)
+    make_extra(
+        axis(fields.field(1)),
+        count(fields.field(2), 0, 10000),
+        count(fields.field(3), 0, 10000),
+    )
 }
 
-fn make_item(a: AxisField, i: Field) -> Record
-    ensures { result ≡ made_item a i }
+// An item of these parts.
+fn make_item(axis: Result<Axis, Fault>, index: Result<u32, Fault>) -> Result<Record, Fault>
+    ensures { said_of result ≡ made_item (axis_said axis) (number_said index) }
 {
-    let fault = first_fault(a.fault, i.fault);
-    let axis = a.axis;
-    if fault == 0 {
-        Record::Item(axis, i.value)
-    } else {
-        Record::Fault(fault)
-    }
+    let (axis, index) = both(axis, index)?;
+    Ok(Record::Item(axis, index))
 }
 
 // `item`, axis, track index
-pub(crate) fn item_line(line: &[u8], starts: &[usize; STARTS], fields: usize) -> Record
-    ensures { result ≡ item_line (fields_by starts.now line.now fields) }
+#[tactic(auto, unfolding(sheet_forms::specs::Records::item_line))]
+pub(crate) fn item_line(fields: &Fields<'_>) -> Result<Record, Fault>
+    ensures { said_of result ≡ item_line (fields_of fields.now) }
 {
-    if fields != 3 {
-        return Record::Fault(UNREAD);
+    if !fields.are(3) {
+        return Err(Fault::Unread);
     }
-    let a = axis(text::field(line, starts, 1));
-    let i = count(text::field(line, starts, 2), 0, 29999);
-    make_item(a, i)
+    make_item(axis(fields.field(1)), count(fields.field(2), 0, 29999))
 }
 
-fn make_place(a: AxisField, s: EndField, e: EndField) -> Record
-    ensures { result ≡ made_place a s e }
+// A placement of these parts.
+fn make_place(
+    axis: Result<Axis, Fault>,
+    start: Result<PlaceEnd, Fault>,
+    end: Result<PlaceEnd, Fault>,
+) -> Result<Record, Fault>
+    ensures { said_of result ≡ made_place (axis_said axis) (end_said start) (end_said end) }
 {
-    let fault = first_fault(a.fault, first_fault(s.fault, e.fault));
-    let axis = a.axis;
-    let start = s.end;
-    let end = e.end;
-    if fault == 0 {
-        Record::Place(axis, start, end)
-    } else {
-        Record::Fault(fault)
-    }
+    let (axis, (start, end)) = both(axis, both(start, end))?;
+    Ok(Record::Place(axis, start, end))
 }
 
 // `place`, axis, then kind, name, number for the start and for the end
-pub(crate) fn place_line(line: &[u8], starts: &[usize; STARTS], fields: usize) -> Record
-    ensures { result ≡ place_line (fields_by starts.now line.now fields) }
+#[tactic(auto, unfolding(sheet_forms::specs::Records::place_line), using(sheet_forms::proofs::Parts::place_only))]
+pub(crate) fn place_line(fields: &Fields<'_>) -> Result<Record, Fault>
+    ensures { said_of result ≡ place_line (fields_of fields.now) }
 {
-    if fields != 8 {
-        return Record::Fault(UNREAD);
+    if !fields.are(8) {
+        return Err(Fault::Unread);
     }
-    let a = axis(text::field(line, starts, 1));
-    let s = end(
-        text::field(line, starts, 2),
-        text::field(line, starts, 3),
-        text::field(line, starts, 4),
-    );
-    let e = end(
-        text::field(line, starts, 5),
-        text::field(line, starts, 6),
-        text::field(line, starts, 7),
-    );
-    make_place(a, s, e)
+    make_place(
+        axis(fields.field(1)),
+        end(fields.field(2), fields.field(3), fields.field(4)),
+        end(fields.field(5), fields.field(6), fields.field(7)),
+    )
 }

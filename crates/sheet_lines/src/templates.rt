@@ -1,147 +1,136 @@
-// The lines that make a template and its axis: `axis`, `track`, `spare`, `repeat`, `end`. A line comes with the starts of its fields and their number.
+// The lines that make a template and its axis: `axis`, `track`, `spare`, `repeat`, `end`.
 ghost use Rattle.std.specs.Prelude.{◌≡◌};
-ghost use Rattle.text.specs.Places.{fields_by};
+ghost use Rattle.sheet_forms.specs.Answers.{axis_said, inner_said, repetition_said, rule_said, said_of, size_said};
 ghost use Rattle.sheet_forms.specs.Fields.{rule_of};
 ghost use Rattle.sheet_forms.specs.Records.{made_axis, axis_line, made_sizes, sizes_line, made_repeat, repeat_line, made_end, end_line};
+ghost use Rattle.sheet_lines.specs.Fields.{fields_of};
 
-use coordinates::refusal::UNREAD;
+use crate::fields::Fields;
+use coordinates::{Axis, Fault};
 use sheet_fields::repetition::repetition;
 use sheet_fields::size::{inner, size};
-use sheet_forms::fault::first_fault;
-use sheet_forms::field::{AxisField, Field, axis};
-use sheet_forms::{AxisRecord, InnerField, Position, Record, RepeatRecord, SizeField};
-use text::fields::STARTS;
+use sheet_forms::field::axis;
+use sheet_forms::{AxisRecord, Position, Record, Repetition, both};
+use template_rules::AutoRepeatStrategy;
 
 // The rule, `max` or `min`.
-fn rule(f: &[u8]) -> Field
-    ensures { result ≡ rule_of f.now }
+#[tactic(auto, unfolding(sheet_forms::specs::Fields::rule_of, text::specs::Split::index, text::specs::Split::same))]
+fn rule(f: &[u8]) -> Result<AutoRepeatStrategy, Fault>
+    ensures { rule_said result ≡ rule_of f.now }
 {
-    if text::equal(b"max", f) {
-        return Field { fault: 0, value: 0 };
-    }
-    if text::equal(b"min", f) {
-        return Field { fault: 0, value: 1 };
-    }
-    Field {
-        fault: UNREAD,
-        value: 0,
+    match f {
+        b"max" => Ok(AutoRepeatStrategy::MaxRepetitionsThatDoNotOverflow),
+        b"min" => Ok(AutoRepeatStrategy::MinRepetitionsThatDoOverflow),
+        _ => Err(Fault::Unread),
     }
 }
 
-fn make_axis(a: AxisField, i: InnerField, r: Field, g: SizeField) -> Record
-    ensures { result ≡ made_axis a i r g }
+// An axis of these parts.
+fn make_axis(
+    axis: Result<Axis, Fault>,
+    inner: Result<Option<u32>, Fault>,
+    rule: Result<AutoRepeatStrategy, Fault>,
+    gap: Result<u64, Fault>,
+) -> Result<Record, Fault>
+    ensures { said_of result ≡ made_axis (axis_said axis) (inner_said inner) (rule_said rule) (size_said gap) }
 {
-    let fault = first_fault(a.fault, first_fault(i.fault, first_fault(r.fault, g.fault)));
-    let axis = a.axis;
-    if fault == 0 {
-        Record::Axis(AxisRecord {
-            axis,
-            definite: i.definite,
-            inner: i.bits,
-            rule: r.value,
-            gap: g.word,
-        })
-    } else {
-        Record::Fault(fault)
-    }
+    let (axis, (inner, (rule, gap))) = both(axis, both(inner, both(rule, gap)))?;
+    Ok(Record::Axis(AxisRecord {
+        axis,
+        inner,
+        rule,
+        gap,
+    }))
 }
 
 // `axis`, axis, inner size or `-`, `max` or `min`, gap kind, gap
-pub fn axis_line(line: &[u8], starts: &[usize; STARTS], fields: usize) -> Record
-    ensures { result ≡ axis_line (fields_by starts.now line.now fields) }
+#[tactic(auto, unfolding(sheet_forms::specs::Records::axis_line))]
+pub fn axis_line(fields: &Fields<'_>) -> Result<Record, Fault>
+    ensures { said_of result ≡ axis_line (fields_of fields.now) }
 {
-    if fields != 6 {
-        return Record::Fault(UNREAD);
+    if !fields.are(6) {
+        return Err(Fault::Unread);
     }
-    let a = axis(text::field(line, starts, 1));
-    let i = inner(text::field(line, starts, 2));
-    let r = rule(text::field(line, starts, 3));
-    let g = size(
-        Position::Gap,
-        text::field(line, starts, 4),
-        text::field(line, starts, 5),
-    );
-    make_axis(a, i, r, g)
+    make_axis(
+        axis(fields.field(1)),
+        inner(fields.field(2)),
+        rule(fields.field(3)),
+        size(Position::Gap, fields.field(4), fields.field(5)),
+    )
 }
 
-fn make_sizes(spare: bool, a: AxisField, min: SizeField, max: SizeField) -> Record
-    ensures { result ≡ made_sizes spare a min max }
+// A track, or the track of the spare ones, of these parts.
+fn make_sizes(
+    spare: bool,
+    axis: Result<Axis, Fault>,
+    min: Result<u64, Fault>,
+    max: Result<u64, Fault>,
+) -> Result<Record, Fault>
+    ensures { said_of result ≡ made_sizes spare (axis_said axis) (size_said min) (size_said max) }
 {
-    let fault = first_fault(a.fault, first_fault(min.fault, max.fault));
-    let axis = a.axis;
-    if fault != 0 {
-        return Record::Fault(fault);
-    }
+    let (axis, (min, max)) = both(axis, both(min, max))?;
     if spare {
-        Record::Spare(axis, min.word, max.word)
+        Ok(Record::Spare(axis, min, max))
     } else {
-        Record::Track(axis, min.word, max.word)
+        Ok(Record::Track(axis, min, max))
     }
 }
 
 // `track` or `spare`, axis, minimum kind, value, maximum kind, value
-pub fn sizes_line(spare: bool, line: &[u8], starts: &[usize; STARTS], fields: usize) -> Record
-    ensures { result ≡ sizes_line spare (fields_by starts.now line.now fields) }
+#[tactic(auto, unfolding(sheet_forms::specs::Records::sizes_line))]
+pub fn sizes_line(spare: bool, fields: &Fields<'_>) -> Result<Record, Fault>
+    ensures { said_of result ≡ sizes_line spare (fields_of fields.now) }
 {
-    if fields != 6 {
-        return Record::Fault(UNREAD);
+    if !fields.are(6) {
+        return Err(Fault::Unread);
     }
-    let a = axis(text::field(line, starts, 1));
-    let min = size(
-        Position::Minimum,
-        text::field(line, starts, 2),
-        text::field(line, starts, 3),
-    );
-    let max = size(
-        Position::Maximum,
-        text::field(line, starts, 4),
-        text::field(line, starts, 5),
-    );
-    make_sizes(spare, a, min, max)
+    make_sizes(
+        spare,
+        axis(fields.field(1)),
+        size(Position::Minimum, fields.field(2), fields.field(3)),
+        size(Position::Maximum, fields.field(4), fields.field(5)),
+    )
 }
 
-fn make_repeat(a: AxisField, n: RepeatRecord) -> Record
-    ensures { result ≡ made_repeat a n }
+// A repeat of these parts: one whose count is outside its range still says its axis.
+fn make_repeat(
+    axis: Result<Axis, Fault>,
+    repetition: Result<Repetition, Fault>,
+) -> Result<Record, Fault>
+    ensures { said_of result ≡ made_repeat (axis_said axis) (repetition_said repetition) }
 {
-    let axis = a.axis;
-    if a.fault != 0 {
-        return Record::Fault(a.fault);
+    let axis = axis?;
+    match repetition {
+        Err(Fault::Unread) => Err(Fault::Unread),
+        _ => Ok(Record::Repeat(axis, repetition)),
     }
-    if n.fault == UNREAD {
-        return Record::Fault(UNREAD);
-    }
-    Record::Repeat(axis, n)
 }
 
 // `repeat`, axis, count or `fill` or `fit`
-pub fn repeat_line(line: &[u8], starts: &[usize; STARTS], fields: usize) -> Record
-    ensures { result ≡ repeat_line (fields_by starts.now line.now fields) }
+#[tactic(auto, unfolding(sheet_forms::specs::Records::repeat_line))]
+pub fn repeat_line(fields: &Fields<'_>) -> Result<Record, Fault>
+    ensures { said_of result ≡ repeat_line (fields_of fields.now) }
 {
-    if fields != 3 {
-        return Record::Fault(UNREAD);
+    if !fields.are(3) {
+        return Err(Fault::Unread);
     }
-    let a = axis(text::field(line, starts, 1));
-    let n = repetition(text::field(line, starts, 2));
-    make_repeat(a, n)
+    make_repeat(axis(fields.field(1)), repetition(fields.field(2)))
 }
 
-fn make_end(a: AxisField) -> Record
-    ensures { result ≡ made_end a }
+// The end of a repeat of an axis.
+fn make_end(axis: Result<Axis, Fault>) -> Result<Record, Fault>
+    ensures { said_of result ≡ made_end (axis_said axis) }
 {
-    let axis = a.axis;
-    if a.fault == 0 {
-        Record::End(axis)
-    } else {
-        Record::Fault(a.fault)
-    }
+    Ok(Record::End(axis?))
 }
 
 // `end`, axis
-pub fn end_line(line: &[u8], starts: &[usize; STARTS], fields: usize) -> Record
-    ensures { result ≡ end_line (fields_by starts.now line.now fields) }
+#[tactic(auto, unfolding(sheet_forms::specs::Records::end_line))]
+pub fn end_line(fields: &Fields<'_>) -> Result<Record, Fault>
+    ensures { said_of result ≡ end_line (fields_of fields.now) }
 {
-    if fields != 2 {
-        return Record::Fault(UNREAD);
+    if !fields.are(2) {
+        return Err(Fault::Unread);
     }
-    make_end(axis(text::field(line, starts, 1)))
+    make_end(axis(fields.field(1)))
 }

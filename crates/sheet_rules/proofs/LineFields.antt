@@ -15,22 +15,20 @@ use Rattle.text.specs.Split.{same, index}
 use Rattle.text.proofs.Which.{same_equal}
 use Rattle.text.specs.Whole.{Written, none as unwritten, whole, whole_of, digits_of, natural_of, non_negative, count_in as count_within, index_in}
 use Rattle.text.specs.Hexadecimal.{bits_of}
-use Rattle.text.specs.declared.Bits.{Bits}
-use Rattle.text.specs.declared.Count.TheVariants.{Outside, Value as Counted}
-use Rattle.text.specs.declared.Index.TheVariants.{Outside as OutsideIndex, Value as Indexed}
-use Rattle.sheet_forms.specs.declared.NumberField.{NumberField}
-use Rattle.text.specs.declared.Bits.TheVariants.{Unread, Value}
-use Rattle.sheet_forms.specs.declared.Record.{Record}
-use Rattle.sheet_forms.specs.declared.Record.TheVariants.{Fault, Axis as AxisLine, Area, Name, Track, Repeat, End, Spare, Extra, Item, Place, PictureRow}
-use Rattle.sheet_forms.specs.declared.RepeatRecord.{RepeatRecord}
-use Rattle.sheet_forms.specs.declared.AxisRecord.{AxisRecord}
-use Rattle.sheet_forms.specs.declared.PlaceEnd.{PlaceEnd}
+use Rattle.std.specs.Prelude.{Option, Some, None, Ok, Err}
+use Rattle.text.specs.declared.NumberFault.TheVariants.{Outside}
+use Rattle.sheet_forms.specs.Answers.{NumberField}
+use Rattle.sheet_forms.specs.Said.{Record}
+use Rattle.sheet_forms.specs.Said.{Fault, Axis as AxisLine, Area, Name, Track, Repeat, End, Spare, Extra, Item, Place, PictureRow}
+use Rattle.sheet_forms.specs.Said.{RepeatRecord}
+use Rattle.sheet_forms.specs.Said.{AxisRecord}
+use Rattle.sheet_forms.specs.Said.{PlaceEnd}
 use Rattle.sheet_forms.specs.declared.Position.{Position}
 use Rattle.sheet_forms.specs.declared.Position.TheVariants.{Minimum, Maximum, Gap}
-use Rattle.sheet_forms.specs.declared.field.Field.{Field}
-use Rattle.sheet_forms.specs.declared.field.AxisField.{AxisField}
-use Rattle.sheet_forms.specs.declared.SizeField.{SizeField}
-use Rattle.sheet_forms.specs.declared.InnerField.{InnerField}
+use Rattle.sheet_forms.specs.Answers.{Field}
+use Rattle.sheet_forms.specs.Answers.{AxisField}
+use Rattle.sheet_forms.specs.Answers.{SizeField}
+use Rattle.sheet_forms.specs.Answers.{InnerField}
 use Rattle.sheet_forms.specs.Words.{at, dash, nought, kind_words, size_words, rule_words, repeat_words, end_words}
 use Rattle.sheet_forms.specs.Faults.{first_of}
 use Rattle.sheet_forms.specs.Fields.{good, faulty, word_of, count_field, axis_of, rule_of, count_of, repetition_of, repetition_at, name_fault, row_fault}
@@ -66,7 +64,7 @@ count_by_lem least most unwritten = λ z. absurd (not-zero 0 z)
 count_by_lem least most (whole (pos n)) = go (ltb n least) (ltb most n)
   where
     by : Bool → Bool → Field
-    by t u = count_field (cond t Outside (cond u Outside (Counted n)))
+    by t u = count_field (cond t (Err Outside) (cond u (Err Outside) (Ok n)))
 
     go : (t u : Bool) → (by t u).fault ≡ 0 → pos n ≡ pos (by t u).value
     go true u z = absurd (not-zero 3 z)
@@ -87,7 +85,7 @@ index_by unwritten = λ z. absurd (not-zero 0 z)
 index_by (whole (pos n)) = go (ltb 32767 n)
   where
     by : Bool → NumberField
-    by t = index_field (cond t OutsideIndex (Indexed (pos n)))
+    by t = index_field (cond t (Err Outside) (Ok (pos n)))
 
     go : (t : Bool) → (by t).fault ≡ 0 → (by t).value ≡ pos n
     go true z = absurd (not-zero 3 z)
@@ -95,18 +93,18 @@ index_by (whole (pos n)) = go (ltb 32767 n)
 index_by (whole (negsuc k)) = go (ltb 32767 k)
   where
     by : Bool → NumberField
-    by t = index_field (cond t OutsideIndex (Indexed (negsuc k)))
+    by t = index_field (cond t (Err Outside) (Ok (negsuc k)))
 
     go : (t : Bool) → (by t).fault ≡ 0 → (by t).value ≡ negsuc k
     go true z = absurd (not-zero 3 z)
     go false z = refl
 
 -- a size is its kind and its bits
-size_by_lem : (p : Position) (i : ℕ) (b : Bits) → (size_field p (word_of 8 i) b).fault ≡ 0 → (size_field p (word_of 8 i) b).word ≡ size_word_of i (bits_by b)
-size_by_lem p i Unread = λ z. absurd (not-zero 0 z)
-size_by_lem p i (Value n) = go (ltb i 8)
+size_by_lem : (p : Position) (i : ℕ) (b : Option ℕ) → (size_field p (word_of 8 i) b).fault ≡ 0 → (size_field p (word_of 8 i) b).word ≡ size_word_of i (bits_by b)
+size_by_lem p i None = λ z. absurd (not-zero 0 z)
+size_by_lem p i (Some n) = go (ltb i 8)
   where
-    go : (t : Bool) → (size_field p (cond t (good i) (faulty 1)) (Value n)).fault ≡ 0 → (size_field p (cond t (good i) (faulty 1)) (Value n)).word ≡ size_word_of i n
+    go : (t : Bool) → (size_field p (cond t (good i) (faulty 1)) (Some n)).fault ≡ 0 → (size_field p (cond t (good i) (faulty 1)) (Some n)).word ≡ size_word_of i n
     go false = λ z. absurd (not-zero 0 z)
     go true = kind (allowed_at p i) (value_in_range i n)
       where
@@ -131,15 +129,15 @@ inner-value : (f : List ℕ) → (inner_of f).fault ≡ 0 → InnerReads f (inne
 unfolding inner_of bits_in bits_of
 inner-value f = go (same f dash) refl
   where
-    by : Bits → Bool → InnerField
+    by : Option ℕ → Bool → InnerField
     by b t = cond t (no_inner 0) (inner_field b)
 
     no_bits : f ≡ dash → 0 ≡ bits_by (bits_of f)
     no_bits e = rw e
 
-    read : (b : Bits) → (inner_field b).fault ≡ 0 → (bit (inner_field b).definite ≡ 1) × ((inner_field b).bits ≡ bits_by b)
-    read Unread = λ z. absurd (not-zero 0 z)
-    read (Value n) = range (length_in_range n)
+    read : (b : Option ℕ) → (inner_field b).fault ≡ 0 → (bit (inner_field b).definite ≡ 1) × ((inner_field b).bits ≡ bits_by b)
+    read None = λ z. absurd (not-zero 0 z)
+    read (Some n) = range (length_in_range n)
       where
         range : (t : Bool) → (cond t (some_inner n) (no_inner 3)).fault ≡ 0 → (bit (cond t (some_inner n) (no_inner 3)).definite ≡ 1) × ((cond t (some_inner n) (no_inner 3)).bits ≡ n)
         range true z = (refl, refl)

@@ -11,8 +11,8 @@ use lib.ListN.{length, take, drop, length-append}
 use borrow.Author.Tests.{eqb-true, eqb-false, leb-true, leb-false}
 use Rattle.text.specs.Split.{split, same}
 use Rattle.sheet_forms.specs.declared.AreaRecord.{AreaRecord}
-use Rattle.sheet_forms.specs.declared.Record.{Record}
-use Rattle.sheet_forms.specs.declared.Record.TheVariants.{Fault, Axis as AxisLine, Area as AreaLine, Name, Track, Repeat, End, Spare, Extra, Item, Place, PictureRow}
+use Rattle.sheet_forms.specs.Said.{Record}
+use Rattle.sheet_forms.specs.Said.{Fault, Axis as AxisLine, Area as AreaLine, Name, Track, Repeat, End, Spare, Extra, Item, Place, PictureRow}
 use Rattle.sheet_forms.specs.Faults.{first_of}
 use Rattle.sheet_forms.specs.Forms.{Kind, axis, area, name, track, repeat, end, spare, extra, item, place, row}
 use Rattle.sheet_forms.specs.Records.{record_of, fault_of}

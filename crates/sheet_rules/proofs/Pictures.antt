@@ -11,8 +11,8 @@ use borrow.Author.Tests.{eqb-true, eqb-false, le-ltb, leb-false, ltb-false}
 use Rattle.picture_rules.specs.Picture.{Word}
 use Rattle.picture_rules.specs.Steps.{taken_of}
 use Rattle.picture_rules.proofs.Theorem.{picture_exactly}
-use Rattle.sheet_forms.specs.declared.Record.{Record}
-use Rattle.sheet_forms.specs.declared.Record.TheVariants.{Fault, Axis as AxisLine, Area, Name, Track, Repeat, End, Spare, Extra, Item, Place, PictureRow}
+use Rattle.sheet_forms.specs.Said.{Record}
+use Rattle.sheet_forms.specs.Said.{Fault, Axis as AxisLine, Area, Name, Track, Repeat, End, Spare, Extra, Item, Place, PictureRow}
 use Rattle.sheet_forms.specs.Faults.{first_of}
 use Rattle.sheet_forms.specs.Fields.{row_fault}
 use Rattle.sheet_forms.specs.Records.{unless, row_line, record_of, fault_of}

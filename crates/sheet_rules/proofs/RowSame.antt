@@ -11,7 +11,7 @@ use Rattle.axis_tables.proofs.Runs.{All}
 use Rattle.picture_rules.specs.Picture.{Word, Picture, PictureArea, width_of}
 use Rattle.picture_rules.specs.Steps.{PictureState, row_step, rows_from, taken_of, no_rows}
 use Rattle.picture_rules.proofs.Taken.{row_counts}
-use Rattle.picture_areas.specs.declared.draw.Drawn.{Drawn}
+use Rattle.picture_areas.specs.Runs.{Drawn}
 use Rattle.picture_areas.specs.Runs.{InPicture, table_area, table_of}
 use Rattle.picture_areas.proofs.Same.{TableFits}
 use Rattle.picture_rows.specs.Steps.{row_in}

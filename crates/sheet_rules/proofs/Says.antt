@@ -12,9 +12,9 @@ use Rattle.coordinates.specs.declared.axis.Axis.{Axis}
 use Rattle.coordinates.specs.declared.axis.Axis.TheVariants.{Column, Row as Rows}
 use Rattle.text.specs.Split.{index}
 use Rattle.text.proofs.Which.{index_word}
-use Rattle.sheet_forms.specs.declared.Record.{Record}
-use Rattle.sheet_forms.specs.declared.Record.TheVariants.{Fault, Axis as AxisLine, Area, Name, Track, Repeat, End, Spare, Extra, Item, Place, PictureRow}
-use Rattle.sheet_forms.specs.declared.RepeatRecord.{RepeatRecord}
+use Rattle.sheet_forms.specs.Said.{Record}
+use Rattle.sheet_forms.specs.Said.{Fault, Axis as AxisLine, Area, Name, Track, Repeat, End, Spare, Extra, Item, Place, PictureRow}
+use Rattle.sheet_forms.specs.Said.{RepeatRecord}
 use Rattle.sheet_forms.specs.Words.{at, axis_words, kind_words}
 use Rattle.sheet_forms.specs.Faults.{first_of}
 use Rattle.sheet_forms.specs.Fields.{axis_at, axis_of, rule_of, count_of, repetition_of, name_fault, row_fault}

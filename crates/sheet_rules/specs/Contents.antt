@@ -1,14 +1,12 @@
 -- What the lines of a sheet say, over their fields alone (document 01, panel sheet; SHEET.md, Lines of a sheet): which line, which axis, which field goes where, in which order.
 -- They don't name the reader of a line or of a sheet; proofs/Contents.antt shows that the view of every accepted sheet is what its lines say.
-use Rattle.std.specs.Prelude.{ℕ, ◌-◌, ◌<◌, max, ◌≡◌, List, [], ◌∷◌, ◌++◌, map, Bool, false, cond, ◌&&◌, ◌||◌, eqb, ℤ, pos, negsuc, length, get_or, drop}
+use Rattle.std.specs.Prelude.{ℕ, ◌-◌, ◌<◌, max, ◌≡◌, List, [], ◌∷◌, ◌++◌, map, Bool, false, cond, ◌&&◌, ◌||◌, eqb, ℤ, pos, negsuc, length, get_or, drop, Option, Some, None}
 use Rattle.coordinates.specs.declared.axis.Axis.{Axis}
 use Rattle.coordinates.specs.declared.axis.Axis.TheVariants.{Column, Row}
 use Rattle.sizing.specs.Words.{size_word_of}
 use Rattle.text.specs.Split.{split, same, index}
 use Rattle.text.specs.Whole.{Written, none as unwritten, whole, whole_of}
 use Rattle.text.specs.Hexadecimal.{bits_of}
-use Rattle.text.specs.declared.Bits.{Bits}
-use Rattle.text.specs.declared.Bits.TheVariants.{Unread, Value}
 use Rattle.sheet_forms.specs.Words.{at, dash, axis_words, kind_words, size_words, rule_words, repeat_words, end_words}
 use Rattle.sheet_forms.specs.Ends.{uses_name}
 use Rattle.sheet_forms.specs.Forms.{Kind, axis, area, name, track, repeat, end, spare, extra, item, place, row, kind_number}
@@ -82,9 +80,9 @@ count_by (negsuc k) = 0
 abbrev pub count_in : List ℕ → ℕ
 count_in f = count_by (whole_in f)
 
-abbrev pub bits_by : Bits → ℕ
-bits_by Unread = 0
-bits_by (Value n) = n
+abbrev pub bits_by : Option ℕ → ℕ
+bits_by None = 0
+bits_by (Some n) = n
 
 -- "eight lower-case hexadecimal digits of the f32 bits"
 unfoldable pub bits_in : List ℕ → ℕ

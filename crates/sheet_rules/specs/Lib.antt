@@ -9,4 +9,5 @@ pub mod Rows
 pub mod Overlaps
 pub mod Steps
 pub mod Panels
+pub mod Answers
 pub mod Read

@@ -5,8 +5,7 @@ use Rattle.coordinates.specs.declared.refusal.Refusal.{Refusal}
 use Rattle.coordinates.specs.Refusals.{no_refusal, refusal_of, overlap, short}
 use Rattle.panel_tables.specs.Written.{zero_panel}
 use Rattle.sheet_rules.specs.declared.Overlap.{Overlap}
-use Rattle.sheet_rules.specs.declared.SheetAnswer.{SheetAnswer}
-use Rattle.sheet_rules.specs.declared.DisplayAnswer.{DisplayAnswer}
+use Rattle.sheet_rules.specs.Answers.{SheetAnswer, DisplayAnswer}
 use Rattle.sheet_rules.specs.Sheet.{Outcome, display_of, no_overlap, overlap_of}
 use Rattle.sheet_rules.specs.Panels.{Tables, sized_panel, tables_of}
 

@@ -1,9 +1,7 @@
 -- The panel that a sheet describes, or its refusal: a number and a line (document 01, panel sheet and the table of refusals;
 -- SHEET.md, Lines of a sheet; SHEET.md, Refusals).
-use Rattle.std.specs.Prelude.{ℕ, ◌+◌, max, List, [], ◌∷◌, Bool, cond, not, ◌&&◌, eqb, ltb, length}
+use Rattle.std.specs.Prelude.{ℕ, ◌+◌, max, List, [], ◌∷◌, Bool, cond, not, ◌&&◌, eqb, ltb, length, Float, Option, Some, None}
 use Rattle.sizing.specs.Words.{float_up_to, largest_bits, sizing_of}
-use Rattle.template_rules.specs.declared.InnerSize.{InnerSize}
-use Rattle.template_rules.specs.declared.InnerSize.TheVariants.{Definite, Indefinite}
 use Rattle.template_rules.specs.declared.AutoRepeatStrategy.{AutoRepeatStrategy}
 use Rattle.template_rules.specs.declared.AutoRepeatStrategy.TheVariants.{MaxRepetitionsThatDoNotOverflow, MinRepetitionsThatDoOverflow}
 use Rattle.template_rules.specs.declared.TemplateSize.{TemplateSize}
@@ -25,8 +23,8 @@ use Rattle.sheet_rules.specs.Lines.{shared_at, line_step}
 -- ---- what an axis comes to
 
 -- "inner size or `-`"
-abbrev pub inner_of : AxisLine → InnerSize
-inner_of l = cond (eqb l.definite 0) Indefinite (Definite (float_up_to largest_bits l.inner))
+abbrev pub inner_of : AxisLine → Option Float
+inner_of l = cond (eqb l.definite 0) None (Some (float_up_to largest_bits l.inner))
 
 -- rule 0 is `max`, 1 is `min`
 abbrev pub strategy_of : AxisLine → AutoRepeatStrategy

@@ -2,12 +2,12 @@
 use Rattle.std.specs.Prelude.{ℕ, ◌+◌, List, Bool, true, cond, eqb, leb, drop}
 use Rattle.coordinates.specs.declared.axis.Axis.{Axis}
 use Rattle.coordinates.specs.declared.axis.Axis.TheVariants.{Column, Row}
-use Rattle.sheet_forms.specs.declared.Record.{Record}
-use Rattle.sheet_forms.specs.declared.Record.TheVariants.{Fault, Axis as AxisLine, Area, Name, Track, Repeat, End, Spare, Extra, Item, Place, PictureRow}
+use Rattle.sheet_forms.specs.Said.{Record}
+use Rattle.sheet_forms.specs.Said.{Fault, Axis as AxisLine, Area, Name, Track, Repeat, End, Spare, Extra, Item, Place, PictureRow}
 use Rattle.sheet_forms.specs.Words.{at}
 use Rattle.axis_tables.specs.Store.{put, InWords, InMarks, InNames, put_track, open_repeat, close_repeat, put_name, put_spare, put_item, put_extra, put_axis}
 use Rattle.axis_tables.specs.Written.{Held}
-use Rattle.axis_tables.specs.declared.AxisPut.{AxisPut}
+use Rattle.axis_tables.specs.Store.{AxisPut}
 use Rattle.panel_tables.specs.Areas.{put_area}
 use Rattle.panel_tables.specs.Placements.{put_placement}
 use Rattle.panel_tables.specs.Written.{PanelHeld, PanelStepped, of_areas, of_placements}

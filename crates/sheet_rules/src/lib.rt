@@ -2,32 +2,34 @@
 
 #![tactic(auto)]
 
-use coordinates::Refusal;
-use panel_tables::{Grid, Panel};
+use coordinates::Fault;
+use panel_tables::Grid;
 
-// The first two areas of a sheet that share a cell, numbered from 1, and the line of the later one; zeros where none do.
-#[derive(Clone, Copy)]
+// Two areas of a sheet that share a cell, numbered from 1, and the line of the later one.
+#[derive(Clone, Copy, Debug, PartialEq, Eq)]
 pub struct Overlap {
     pub earlier: u32,
     pub later: u32,
     pub line: u32,
 }
 
-// The answer of reading a sheet: its refusal, or the panel. The pair of areas is that of refusal 12, else zeros.
-#[derive(Clone, Copy)]
-pub struct SheetAnswer {
-    pub refusal: Refusal,
-    pub earlier: u32,
-    pub later: u32,
-    pub panel: Panel,
+// A fault and the line of the sheet that has it; 0 for the sheet as a whole.
+#[derive(Clone, Copy, Debug, PartialEq, Eq)]
+pub struct LineFault {
+    pub fault: Fault,
+    pub line: u32,
 }
 
-// The answer of reading a sheet for display: its refusal, or what answers are read from, with the first two areas that share a cell;
-// nothing that an edit takes.
+// Why a sheet is refused: two of its areas share a cell, or another fault.
+#[derive(Clone, Copy, Debug, PartialEq, Eq)]
+pub enum SheetFault {
+    Overlap(Overlap),
+    Line(LineFault),
+}
+
+// A sheet for display: what answers are read from, and the first two areas that share a cell; nothing that an edit takes.
 #[derive(Clone, Copy)]
-pub struct DisplayAnswer {
-    pub refusal: Refusal,
-    pub earlier: u32,
-    pub later: u32,
+pub struct Display {
     pub grid: Grid,
+    pub overlap: Option<Overlap>,
 }

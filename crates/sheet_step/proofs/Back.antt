@@ -9,8 +9,8 @@ use lib.ListN.{length, take, drop, length-append, length-drop}
 use lib.Seq.{length-take-le}
 use Rattle.coordinates.specs.declared.axis.Axis.{Axis}
 use Rattle.coordinates.specs.declared.axis.Axis.TheVariants.{Column, Row}
-use Rattle.sheet_forms.specs.declared.Record.{Record}
-use Rattle.sheet_forms.specs.declared.PlaceEnd.{PlaceEnd}
+use Rattle.sheet_forms.specs.Said.{Record}
+use Rattle.sheet_forms.specs.Said.{PlaceEnd}
 use Rattle.axis_tables.specs.declared.AxisState.{AxisState}
 use Rattle.axis_tables.specs.declared.AxisReading.{AxisReading}
 use Rattle.axis_tables.specs.Runs.{part_of, with_part}
@@ -29,7 +29,7 @@ use Rattle.picture_areas.specs.Runs.{InPicture}
 use Rattle.picture_rows.specs.Steps.{row_in}
 use Rattle.sheet_rules.specs.Lines.{late_at}
 use Rattle.sheet_rules.specs.Steps.{axis_record, on_held, stayed, of_row, held_row}
-use Rattle.sheet_faults.specs.Parts.{named, place_in}
+use Rattle.sheet_faults.specs.Parts.{axis_part, part_of as part_written, named, place_in, part_step, named_step}
 use Rattle.sheet_step.specs.Regions.{axis_in, on_axis, parts_back, on_areas, on_placements, picture_back, on_drawing, drawn_read, InPanel, unchanged, drawn_in, on_picture}
 
 -- ---- what was written into parts, put back
@@ -231,3 +231,8 @@ module _ (p : Panel) (r : Reading) (w b cs rs : List ℕ) (lw : length w ≡ 256
       ap made e
       ∙ by-back width (row_in p (area_words_in w) (area_bytes_in b) ws (r.picture.rows + 1)) (late_at 2 r.stage) (leb 10000 r.picture.rows)
       (ap (λ (z : InPanel). length z.words) (sym e) ∙ lx) (ap (λ (z : InPanel). length z.bytes) (sym e) ∙ ly)
+
+-- a record of an axis is written to that axis's tables
+pub axis-step : (h : PanelHeld) (first second : List ℕ) (ws : List Word) (r : Record) (a : Axis) (x : PanelStepped) → part_written r ≡ axis_part a → x ≡ on_held h a (named first) r → x ≡ named_step h first second ws r
+axis-step h first second ws r Column x e d = d ∙ ap (part_step h first second ws r) (sym e)
+axis-step h first second ws r Row x e d = d ∙ ap (part_step h first second ws r) (sym e)

@@ -1,8 +1,8 @@
 -- A record written into its regions of the lent words and bytes, which are then put back.
 use Rattle.std.specs.Prelude.{ℕ, ◌+◌, List, cond, leb}
 use Rattle.coordinates.specs.declared.axis.Axis.{Axis}
-use Rattle.sheet_forms.specs.declared.Record.{Record}
-use Rattle.sheet_forms.specs.declared.PlaceEnd.{PlaceEnd}
+use Rattle.sheet_forms.specs.Said.{Record}
+use Rattle.sheet_forms.specs.Said.{PlaceEnd}
 use Rattle.axis_tables.specs.Runs.{with_part}
 use Rattle.axis_tables.specs.Store.{put}
 use Rattle.axis_tables.specs.Written.{Held}
@@ -10,13 +10,11 @@ use Rattle.panel_tables.specs.declared.Panel.{Panel}
 use Rattle.panel_tables.specs.declared.Reading.{Reading}
 use Rattle.panel_tables.specs.declared.AreaEdges.{AreaEdges}
 use Rattle.panel_tables.specs.Areas.{InAreas, put_area}
-use Rattle.panel_tables.specs.Axes.{state_in, reading_in}
+use Rattle.panel_tables.specs.Axes.{state_in, reading_in, PanelRead}
 use Rattle.panel_tables.specs.Regions.{first_word, first_mark, axis_words_in, marks_in, area_words_in, area_bytes_in, placement_words_in, placement_bytes_in}
 use Rattle.sheet_forms.specs.Faults.{first_of}
-use Rattle.panel_tables.specs.declared.PanelRead.{PanelRead}
 use Rattle.picture_rules.specs.Picture.{Word}
-use Rattle.picture_areas.specs.declared.draw.Drawn.{Drawn}
-use Rattle.picture_areas.specs.Runs.{InPicture}
+use Rattle.picture_areas.specs.Runs.{Drawn, InPicture}
 use Rattle.picture_rows.specs.Steps.{row_in}
 use Rattle.sheet_rules.specs.Lines.{late_at}
 use Rattle.sheet_rules.specs.Steps.{axis_record, width_fault, with_row}

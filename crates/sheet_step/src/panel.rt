@@ -1,72 +1,42 @@
 // What a record does to the panel: it is written to one axis, to the areas or to the placements, or drawn.
-ghost use Rattle.std.specs.Prelude.{◌≡◌, length, drop};
+ghost use Rattle.std.specs.Prelude.{◌≡◌, length, drop, Ok};
 ghost use Rattle.text.specs.Split.{split};
 ghost use Rattle.text.specs.Places.{part_at};
-ghost use Rattle.panel_tables.specs.Written.{panel_held_of};
-ghost use Rattle.sheet_faults.specs.Parts.{axis_part, part_of, named_step};
+ghost use Rattle.coordinates.specs.Refusals.{refused_by};
+ghost use Rattle.sheet_forms.specs.Answers.{place_end, said_of};
+ghost use Rattle.axis_tables.specs.Store.{answered_axis};
+ghost use Rattle.panel_tables.specs.Areas.{answered_panel};
+ghost use Rattle.panel_tables.specs.Axes.{state_in, reading_in};
+ghost use Rattle.sheet_rules.specs.Steps.{on_held};
+ghost use Rattle.sheet_faults.specs.Parts.{named, named_step};
+ghost use Rattle.sheet_step.specs.Drafts.{held_of};
 ghost use Rattle.sheet_step.specs.Regions.{on_axis, on_areas, on_placements};
 
+use crate::Draft;
 use crate::axis::axis_record;
-use crate::picture::on_picture;
-use axis_tables::AxisPut;
-use axis_tables::layout::{AXIS_BYTES, AXIS_MARKS, AXIS_WORDS};
-use coordinates::Axis;
+use axis_tables::AxisAfter;
+use axis_tables::layout::{AXIS_MARKS, AXIS_WORDS};
+use coordinates::{Axis, Fault};
 use panel_tables::area::{AREA_BYTES, AREA_WORDS};
-use panel_tables::axis::{read_by, reading_in, state_in};
+use panel_tables::axis::{reading_in, state_in, with_state};
 use panel_tables::placement::{PLACEMENT_BYTES, PLACEMENT_WORDS, used_name};
 use panel_tables::region::{
-    AREA_NAMES_START, AREAS, PANEL_BYTES, PANEL_WORDS, PLACEMENT_NAMES_START, PLACEMENTS,
-    first_mark, first_word,
+    AREA_NAMES_START, AREAS, PLACEMENT_NAMES_START, PLACEMENTS, first_mark, first_word,
 };
-use panel_tables::state::put;
-use panel_tables::{AreaEdges, Panel, PanelPut, PanelRead, PlacementEnd, Reading};
+use panel_tables::{AreaEdges, Panel, PlacementEnd, Reading};
 use panel_writes::area_record::put_area;
 use panel_writes::place_record::put_placement;
-use sheet_faults::Part;
 use sheet_faults::overlap::edges_of;
-use sheet_forms::{PlaceEnd, Record};
+use sheet_forms::{AxisRecord, PlaceEnd, Record};
 use sheet_lines::LineRecord;
 use text::part_at;
 
-// The tables of an axis.
-fn axis_part(axis: Axis) -> Part
-    ensures { result ≡ axis_part axis }
-{
-    match axis {
-        Axis::Column => Part::Columns,
-        Axis::Row => Part::Rows,
-    }
-}
-
-// Where a record is written.
-fn part_of(said: Record) -> Part
-    ensures { result ≡ part_of said }
-{
-    match said {
-        Record::Fault(_) => Part::Nothing,
-        Record::Axis(a) => {
-            let axis = a.axis;
-            axis_part(axis)
-        }
-        Record::Area(a) => Part::Areas(edges_of(a)),
-        Record::Name(axis) => axis_part(axis),
-        Record::Track(axis, _, _) => axis_part(axis),
-        Record::Repeat(axis, _) => axis_part(axis),
-        Record::End(axis) => axis_part(axis),
-        Record::Spare(axis, _, _) => axis_part(axis),
-        Record::Extra(axis, _, _) => axis_part(axis),
-        Record::Item(axis, _) => axis_part(axis),
-        Record::Place(axis, start, end) => Part::Placements(axis, start, end),
-        Record::PictureRow(width) => Part::Picture(width),
-    }
-}
-
 // An end as a placement has it.
 fn placed(end: PlaceEnd) -> PlacementEnd
-    ensures { result ≡ record { kind = end.kind; number = end.number } }
+    ensures { result ≡ record { kind = (place_end end).kind; number = end.number } }
 {
     PlacementEnd {
-        kind: end.kind,
+        kind: u32::from(end.kind),
         number: end.number,
     }
 }
@@ -81,9 +51,9 @@ fn on_axis(
     store: &mut [u8],
     name: &[u8],
     said: Record,
-) -> AxisPut
+) -> Result<AxisAfter, Fault>
     requires { (length words.old ≡ 25600) × (length bytes.old ≡ 78432) }
-    ensures { record { answer = result; words = words.new; marks = bytes.new; bytes = store.new } ≡ on_axis axis panel reading words.old bytes.old store.old name.now said }
+    ensures { record { answer = answered_axis (state_in panel axis) (reading_in reading axis) result; words = words.new; marks = bytes.new; bytes = store.new } ≡ on_axis axis panel reading words.old bytes.old store.old name.now (said_of (Ok said)) }
 {
     let first = first_word(axis);
     let mark = first_mark(axis);
@@ -123,9 +93,9 @@ fn on_areas(
     bytes: &mut [u8],
     name: &[u8],
     edges: AreaEdges,
-) -> PanelPut
+) -> Result<Panel, Fault>
     requires { (length words.old ≡ 25600) × (length bytes.old ≡ 78432) }
-    ensures { record { answer = result; words = words.new; bytes = bytes.new } ≡ on_areas panel words.old bytes.old name.now edges }
+    ensures { record { answer = answered_panel panel result; words = words.new; bytes = bytes.new } ≡ on_areas panel words.old bytes.old name.now edges }
 {
     let first = AREAS;
     let start = area_names_start();
@@ -150,71 +120,107 @@ fn on_placements(
     first: &[u8],
     end: PlaceEnd,
     second: &[u8],
-) -> PanelPut
+) -> Result<Panel, Fault>
     requires { (length words.old ≡ 25600) × (length bytes.old ≡ 78432) }
-    ensures { record { answer = result; words = words.new; bytes = bytes.new } ≡ on_placements panel words.old bytes.old axis start first.now end second.now }
+    ensures { record { answer = answered_panel panel result; words = words.new; bytes = bytes.new } ≡ on_placements panel words.old bytes.old axis (place_end start) first.now (place_end end) second.now }
 {
     let at = PLACEMENTS;
     let name = placement_names_start();
     let until = at + PLACEMENT_WORDS;
     let last = name + PLACEMENT_BYTES;
+    let from = placed(start);
+    let to = placed(end);
     put_placement(
         panel,
         &mut words[at..until],
         &mut bytes[name..last],
         axis,
-        placed(start),
-        used_name(start.kind, first),
-        placed(end),
-        used_name(end.kind, second),
+        from,
+        used_name(from.kind, first),
+        to,
+        used_name(to.kind, second),
     )
 }
 
-// An answer for the panel, with the reading as it is.
-fn with_reading(answer: PanelPut, reading: Reading) -> PanelRead
-    ensures { result ≡ record { fault = answer.fault; panel = answer.panel; reading = reading } }
-{
-    let panel = answer.panel;
-    PanelRead {
-        fault: answer.fault,
-        panel,
-        reading,
+impl Draft {
+    // A record of the columns.
+    fn on_columns(&mut self, name: &[u8], said: Record) -> Result<(), Fault>
+        ensures { record { fault = refused_by result; held = held_of self.new } ≡ on_held (held_of self.old) Axis.Column (named name.now) (said_of (Ok said)) }
+    {
+        let after = on_axis(
+            Axis::Column,
+            self.panel,
+            self.reading,
+            &mut self.words,
+            &mut self.bytes,
+            &mut self.column_bytes,
+            name,
+            said,
+        )?;
+        self.panel = with_state(self.panel, Axis::Column, after.state);
+        self.reading.columns = after.reading;
+        Ok(())
     }
-}
 
-// A record of a line with its names and words on the panel, the reading of it and its tables; whether it has a fault or may stand there is not looked at.
-pub fn panel_record(
-    panel: Panel,
-    reading: Reading,
-    words: &mut [u64; PANEL_WORDS],
-    bytes: &mut [u8; PANEL_BYTES],
-    columnbytes: &mut [u8; AXIS_BYTES],
-    rowbytes: &mut [u8; AXIS_BYTES],
-    line: &[u8],
-    there: LineRecord,
-) -> PanelRead
-    ensures { record { fault = result.fault; held = panel_held_of result.panel result.reading words.new bytes.new columnbytes.new rowbytes.new } ≡ named_step (panel_held_of panel reading words.old bytes.old columnbytes.old rowbytes.old) (part_at line.now there.first) (part_at line.now there.second) (drop 1 (split 9 line.now)) there.said }
-{
-    let said = there.said;
-    let first = part_at(line, there.first);
-    let second = part_at(line, there.second);
-    match part_of(said) {
-        Part::Nothing => with_reading(put(0, panel), reading),
-        Part::Columns => {
-            let axis = Axis::Column;
-            let answer = on_axis(axis, panel, reading, words, bytes, columnbytes, first, said);
-            read_by(panel, reading, axis, answer)
+    // A record of the rows.
+    fn on_rows(&mut self, name: &[u8], said: Record) -> Result<(), Fault>
+        ensures { record { fault = refused_by result; held = held_of self.new } ≡ on_held (held_of self.old) Axis.Row (named name.now) (said_of (Ok said)) }
+    {
+        let after = on_axis(
+            Axis::Row,
+            self.panel,
+            self.reading,
+            &mut self.words,
+            &mut self.bytes,
+            &mut self.row_bytes,
+            name,
+            said,
+        )?;
+        self.panel = with_state(self.panel, Axis::Row, after.state);
+        self.reading.rows = after.reading;
+        Ok(())
+    }
+
+    // A record of a line with its names and words, written; whether it has a fault or may stand there is not looked at.
+    pub(crate) fn write(&mut self, line: &[u8], there: LineRecord) -> Result<(), Fault>
+        ensures { record { fault = refused_by result; held = held_of self.new } ≡ named_step (held_of self.old) (part_at line.now there.first) (part_at line.now there.second) (drop 1 (split 9 line.now)) (said_of there.said) }
+    {
+        let Ok(said) = there.said else {
+            return Ok(());
+        };
+        let first = part_at(line, there.first);
+        match said {
+            Record::Area(area) => {
+                let edges = edges_of(area);
+                self.panel = on_areas(self.panel, &mut self.words, &mut self.bytes, first, edges)?;
+                Ok(())
+            }
+            Record::Place(axis, start, end) => {
+                let second = part_at(line, there.second);
+                self.panel = on_placements(
+                    self.panel,
+                    &mut self.words,
+                    &mut self.bytes,
+                    axis,
+                    start,
+                    first,
+                    end,
+                    second,
+                )?;
+                Ok(())
+            }
+            Record::PictureRow(width) => self.draw(line, width),
+            Record::Axis(AxisRecord { axis, .. })
+            | Record::Name(axis)
+            | Record::Track(axis, _, _)
+            | Record::Repeat(axis, _)
+            | Record::End(axis)
+            | Record::Spare(axis, _, _)
+            | Record::Extra(axis, _, _)
+            | Record::Item(axis, _) => match axis {
+                Axis::Column => self.on_columns(first, said),
+                Axis::Row => self.on_rows(first, said),
+            },
         }
-        Part::Rows => {
-            let axis = Axis::Row;
-            let answer = on_axis(axis, panel, reading, words, bytes, rowbytes, first, said);
-            read_by(panel, reading, axis, answer)
-        }
-        Part::Areas(edges) => with_reading(on_areas(panel, words, bytes, first, edges), reading),
-        Part::Placements(axis, start, end) => {
-            let answer = on_placements(panel, words, bytes, axis, start, first, end, second);
-            with_reading(answer, reading)
-        }
-        Part::Picture(width) => on_picture(panel, reading, words, bytes, line, width),
     }
 }

@@ -2,44 +2,29 @@
 
 #![tactic(auto)]
 
-ghost use Rattle.std.specs.Prelude.{◌≤◌};
-
 use sizing::Sizing;
 use std::io;
 use std::io::Write;
+use template_rules::Template;
 use track_counts::TrackCounts;
-use track_rules::{AxisTracks, GridTrack, GridTrackKind, TrackSource};
-
-// The kind of a size, in the order of a sheet's words.
-fn kind_of(size: Sizing) -> u64 {
-    match size {
-        Sizing::Length(_) => 0,
-        Sizing::Percent(_) => 1,
-        Sizing::Fraction(_) => 2,
-        Sizing::Auto => 3,
-        Sizing::MinContent => 4,
-        Sizing::MaxContent => 5,
-        Sizing::FitContentLength(_) => 6,
-        Sizing::FitContentPercent(_) => 7,
-    }
-}
+use track_rules::{AxisTracks, GridTrack, GridTrackKind, SpareSizes, TrackSource};
 
 // The source of a record, and the end of its line.
 fn print_source<W: Write>(out: &mut W, source: TrackSource) -> io::Result<()> {
-    match source {
-        TrackSource::Negative => out.write_all(b"\tn\n"),
-        TrackSource::Template => out.write_all(b"\tt\n"),
-        TrackSource::Automatic => out.write_all(b"\ta\n"),
-        TrackSource::Area => out.write_all(b"\tg\n"),
-        TrackSource::Positive => out.write_all(b"\tp\n"),
-        TrackSource::Gutter => out.write_all(b"\t-\n"),
-    }
+    let letter = match source {
+        TrackSource::Negative => 'n',
+        TrackSource::Template => 't',
+        TrackSource::Automatic => 'a',
+        TrackSource::Area => 'g',
+        TrackSource::Positive => 'p',
+        TrackSource::Gutter => '-',
+    };
+    writeln!(out, "\t{letter}")
 }
 
 // A record on its line: its kind, whether it is collapsed, the kind of its minimum, and its source.
 fn print_record<W: Write>(out: &mut W, track: GridTrack) -> io::Result<()> {
-    let kind = track.kind;
-    match kind {
+    match track.kind {
         GridTrackKind::Track => out.write_all(b"track\t")?,
         GridTrackKind::Gutter => out.write_all(b"gutter\t")?,
     }
@@ -48,31 +33,15 @@ fn print_record<W: Write>(out: &mut W, track: GridTrack) -> io::Result<()> {
     } else {
         out.write_all(b"n\t")?;
     }
-    let size = track.size;
-    let min = size.min;
-    let word = kind_of(min);
-    write!(out, "{word}")?;
-    let source = track.source;
-    print_source(out, source)
-}
-
-// At most as many as there are.
-fn held(count: u32) -> usize
-    ensures { result ≤ 60001 }
-{
-    if count < 60001 {
-        return count as usize;
-    }
-    60001
+    let kind = u32::from(track.size.min.kind());
+    write!(out, "{kind}")?;
+    print_source(out, track.source)
 }
 
 // The records that the call counts.
-fn print_records<W: Write>(out: &mut W, records: [GridTrack; 60001], count: u32) -> io::Result<()> {
-    let end = held(count);
-    let mut i = 0;
-    while i < end {
-        print_record(out, records[i])?;
-        i += 1;
+fn print_records<W: Write>(out: &mut W, records: &[GridTrack], count: u32) -> io::Result<()> {
+    for record in records.iter().take(count as usize) {
+        print_record(out, *record)?;
     }
     Ok(())
 }
@@ -86,13 +55,19 @@ fn show<W: Write>(
     items: &[u8],
     axis: AxisTracks,
 ) -> io::Result<()> {
-    let answer = track_run::state::fill_answer(60001, items.len(), axis);
-    let records = track_run::lender::axis_records(
-        components, sizes, sizes, spares, spares, items, axis,
-    );
-    let count = answer.count;
+    let count = track_run::state::fill_count(60001, items.len(), axis).unwrap_or(0);
+    let template = Template {
+        components,
+        minimums: sizes,
+        maximums: sizes,
+    };
+    let spares = SpareSizes {
+        minimums: spares,
+        maximums: spares,
+    };
+    let records = track_run::lender::axis_records(template, spares, items, axis);
     writeln!(out, "records\t{count}")?;
-    print_records(out, records, count)
+    print_records(out, &records, count)
 }
 
 // An axis without a gap.

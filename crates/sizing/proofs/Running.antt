@@ -1,4 +1,5 @@
 -- Running sums of tracks' sizes in range are finite, and none is less than the one before. Assumes nothing.
+use Rattle.std.specs.Prelude.{Option, Some, None}
 use mathlib.Core.Path.{◌≡◌, sym, ◌∙◌, subst}
 use mathlib.Core.List.{List, [], ◌∷◌, ◌++◌}
 use Prim.Native.Nat.{ℕ, suc, ◌+◌, ◌*◌, ◌^◌, ◌≤◌, ◌<◌, zero-le}
@@ -16,8 +17,6 @@ use lib.Ieee.Positive.{num, den, den_pos}
 use Rattle.sizing.specs.declared.Sizing.{Sizing}
 use Rattle.sizing.specs.declared.Sizing.TheVariants.{Length, Percent, Fraction, Auto, MinContent, MaxContent, FitContentLength, FitContentPercent}
 use Rattle.sizing.specs.declared.MinMax.{MinMax}
-use Rattle.sizing.specs.declared.DefiniteSize.{DefiniteSize}
-use Rattle.sizing.specs.declared.DefiniteSize.TheVariants.{Definite, Indefinite}
 use Rattle.sizing.specs.Words.{zero32}
 use Rattle.sizing.specs.Ranges.{up_to, largest_length, largest_percentage, sizing_in_range}
 use Rattle.sizing.specs.Definite.{definite_of, raised_or, track_value_of, or_zero}
@@ -84,9 +83,9 @@ zero-within : (k : ℕ) → Within k zero32
 unfolding of_bits
 zero-within k = (tt, zero-le)
 
-abbrev SmallSize : DefiniteSize → Type 0
-SmallSize (Definite v) = Small v
-SmallSize Indefinite = Unit
+abbrev SmallSize : Option Float → Type 0
+SmallSize (Some v) = Small v
+SmallSize None = Unit
 
 definite_small : (size : Sizing) (inner : Float) → T (sizing_in_range size) → T (up_to largest_length inner) → SmallSize (definite_of size inner)
 definite_small (Length v) inner h k = length-small v h
@@ -98,15 +97,15 @@ definite_small MaxContent inner h k = tt
 definite_small (FitContentLength v) inner h k = tt
 definite_small (FitContentPercent p) inner h k = tt
 
-raised-small : (maximum minimum : DefiniteSize) → SmallSize maximum → SmallSize minimum → Small (or_zero (raised_or maximum minimum))
-raised-small (Definite b) (Definite s) p q = go (lt b s)
+raised-small : (maximum minimum : Option Float) → SmallSize maximum → SmallSize minimum → Small (or_zero (raised_or maximum minimum))
+raised-small (Some b) (Some s) p q = go (lt b s)
   where
     go : (t : Bool) → Small (cond t s b)
     go true = q
     go false = p
-raised-small (Definite b) Indefinite p q = p
-raised-small Indefinite (Definite s) p q = q
-raised-small Indefinite Indefinite p q = zero-within 1
+raised-small (Some b) None p q = p
+raised-small None (Some s) p q = q
+raised-small None None p q = zero-within 1
 
 pub track-small : (track : MinMax) (inner : Float) → T (sizing_in_range track.min) → T (sizing_in_range track.max) → T (up_to largest_length inner) → Small (or_zero (track_value_of track inner))
 track-small track inner h g k =

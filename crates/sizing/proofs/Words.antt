@@ -1,4 +1,5 @@
 -- A size in range is printed as it was read, and every word gives a size in range. Assumes nothing.
+use Rattle.std.specs.Prelude.{Some}
 use Prim.Native.Nat.{ℕ, zero, suc, ◌/◌, ◌%◌, ◌≤◌, ◌<◌}
 use mathlib.Core.Path.{◌≡◌, refl, sym, subst, ◌∙◌}
 use mathlib.Core.Bool.{Bool, true, false, cond}
@@ -9,7 +10,6 @@ use lib.Ieee.Fits.{and_l, and_r}
 use borrow.Author.Tests.{le-leb}
 use Rattle.sizing.specs.declared.Sizing.{Sizing}
 use Rattle.sizing.specs.Words.{zero32, largest_bits, largest_percent_bits, float_up_to, sizing_of_kind, sizing_of, size_word_of, kind_of, printed_bits, bits_of}
-use Rattle.sizing.specs.declared.DefiniteSize.TheVariants.{Definite}
 use Rattle.sizing.specs.Definite.{definite_of}
 use Rattle.sizing.specs.Ranges.{up_to, largest_length, largest_percentage, largest_of, is_kind, is_percentage, is_keyword, value_in_range, sizing_in_range}
 use Rattle.sizing.specs.Steps.{largest_bits_of}
@@ -105,7 +105,7 @@ word_back kind bits h =
     subst (Back kind bits) (sym (parts kind bits (omega arith))) (kind_back kind bits w.0 w.1)
 
 -- a word up to that of the largest length is of kind 0, and its bits are itself
-pub length_word : (w : ℕ) (inner : Float) → w ≤ 0x477fff00 → definite_of (sizing_of w) inner ≡ Definite (float_up_to largest_bits w)
+pub length_word : (w : ℕ) (inner : Float) → w ≤ 0x477fff00 → definite_of (sizing_of w) inner ≡ Some (float_up_to largest_bits w)
 unfolding sizing_of sizing_of_kind
 length_word w inner h =
     let kind : w / 4294967296 ≡ 0 = omega arith in

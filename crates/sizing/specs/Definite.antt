@@ -1,47 +1,45 @@
 -- The definite size of a track or a gap in an inner size (document 01, layers 2 and 3).
-use Rattle.std.specs.Prelude.{Bool, true, false, cond, ◌||◌, Float}
+use Rattle.std.specs.Prelude.{Bool, true, false, cond, ◌||◌, Float, Option, Some, None}
 use Rattle.std.specs.Float.{binary32}
 use Rattle.std.specs.Float.Ieee.{mul, lt}
 use Rattle.sizing.specs.declared.Sizing.{Sizing}
 use Rattle.sizing.specs.declared.Sizing.TheVariants.{Length, Percent, Fraction, Auto, MinContent, MaxContent, FitContentLength, FitContentPercent}
 use Rattle.sizing.specs.declared.MinMax.{MinMax}
-use Rattle.sizing.specs.declared.DefiniteSize.{DefiniteSize}
-use Rattle.sizing.specs.declared.DefiniteSize.TheVariants.{Definite, Indefinite}
 use Rattle.sizing.specs.Words.{zero32}
 
 -- a length, or a percentage times the inner size (layer 2); no other kind has a definite size
-abbrev pub definite_of : Sizing → Float → DefiniteSize
-definite_of (Length v) inner = Definite v
-definite_of (Percent p) inner = Definite (mul binary32 p inner)
-definite_of (Fraction v) inner = Indefinite
-definite_of Auto inner = Indefinite
-definite_of MinContent inner = Indefinite
-definite_of MaxContent inner = Indefinite
-definite_of (FitContentLength v) inner = Indefinite
-definite_of (FitContentPercent p) inner = Indefinite
+abbrev pub definite_of : Sizing → Float → Option Float
+definite_of (Length v) inner = Some v
+definite_of (Percent p) inner = Some (mul binary32 p inner)
+definite_of (Fraction v) inner = None
+definite_of Auto inner = None
+definite_of MinContent inner = None
+definite_of MaxContent inner = None
+definite_of (FitContentLength v) inner = None
+definite_of (FitContentPercent p) inner = None
 
-abbrev pub is_definite : DefiniteSize → Bool
-is_definite (Definite v) = true
-is_definite Indefinite = false
+abbrev pub is_definite : Option Float → Bool
+is_definite (Some v) = true
+is_definite None = false
 
 -- a maximum raised to a minimum
 abbrev pub raised_to : Float → Float → Float
 raised_to maximum minimum = cond (lt maximum minimum) minimum maximum
 
 -- the definite maximum raised to the definite minimum, else the minimum (layer 3)
-abbrev pub raised_or : DefiniteSize → DefiniteSize → DefiniteSize
-raised_or (Definite maximum) (Definite minimum) = Definite (raised_to maximum minimum)
-raised_or (Definite maximum) Indefinite = Definite maximum
-raised_or Indefinite minimum = minimum
+abbrev pub raised_or : Option Float → Option Float → Option Float
+raised_or (Some maximum) (Some minimum) = Some (raised_to maximum minimum)
+raised_or (Some maximum) None = Some maximum
+raised_or None minimum = minimum
 
 -- what a track counts as in an inner size (layer 3)
-abbrev pub track_value_of : MinMax → Float → DefiniteSize
+abbrev pub track_value_of : MinMax → Float → Option Float
 track_value_of t inner = raised_or (definite_of t.max inner) (definite_of t.min inner)
 
 -- 0 for what has no definite size
-abbrev pub or_zero : DefiniteSize → Float
-or_zero (Definite v) = v
-or_zero Indefinite = zero32
+abbrev pub or_zero : Option Float → Float
+or_zero (Some v) = v
+or_zero None = zero32
 
 -- `resolve_or_zero` of a gap (layer 2): the length, or the fraction times the inner size
 abbrev pub gap_of : Sizing → Float → Float

@@ -3,35 +3,30 @@ ghost use Rattle.std.specs.Prelude.{◌≡◌};
 ghost use Rattle.sizing.specs.Words.{sizing_of, min_max_of};
 ghost use Rattle.sizing.specs.Definite.{definite_of, raised_or, track_value_of, gap_of};
 
-use crate::word::{length_of, sizing_of};
-use crate::{DefiniteSize, Sizing};
+use crate::Sizing;
+use crate::word::{LARGEST_BITS, length_of, sizing_of};
 
 // The word of the largest length, 65,535.
-const LARGEST_LENGTH: u64 = 0x477f_ff00;
+const LARGEST_LENGTH: u64 = LARGEST_BITS as u64;
 
 // A length, or a percentage times the inner size; no other kind has a definite size.
-pub fn definite_value(size: Sizing, inner: f32) -> DefiniteSize
+pub fn definite_value(size: Sizing, inner: f32) -> Option<f32>
     ensures { result ≡ definite_of size inner }
 {
     match size {
-        Sizing::Length(v) => DefiniteSize::Definite(v),
-        Sizing::Percent(p) => DefiniteSize::Definite(p * inner),
-        Sizing::Fraction(_) => DefiniteSize::Indefinite,
-        Sizing::Auto => DefiniteSize::Indefinite,
-        Sizing::MinContent => DefiniteSize::Indefinite,
-        Sizing::MaxContent => DefiniteSize::Indefinite,
-        Sizing::FitContentLength(_) => DefiniteSize::Indefinite,
-        Sizing::FitContentPercent(_) => DefiniteSize::Indefinite,
+        Sizing::Length(v) => Some(v),
+        Sizing::Percent(p) => Some(p * inner),
+        _ => None,
     }
 }
 
 // What the size of a word measures. A length in range is told by one comparison, since its kind is 0: its word is its bits.
 #[tactic(auto, using(crate::proofs::Words::length_word))]
-pub fn definite_of_word(word: u64, inner: f32) -> DefiniteSize
+pub fn definite_of_word(word: u64, inner: f32) -> Option<f32>
     ensures { result ≡ definite_of (sizing_of word) inner }
 {
     if word <= LARGEST_LENGTH {
-        return DefiniteSize::Definite(length_of(word as u32));
+        return Some(length_of(word as u32));
     }
     let size = sizing_of(word);
     definite_value(size, inner)
@@ -39,20 +34,18 @@ pub fn definite_of_word(word: u64, inner: f32) -> DefiniteSize
 
 // The definite maximum raised to the definite minimum, else the minimum. The Rust's is `max.max(min)`: at equal values either is the
 // same bits, since no size in range is a NaN or minus zero (the law `neither-less`).
-pub fn raised(maximum: DefiniteSize, minimum: DefiniteSize) -> DefiniteSize
+pub fn raised(maximum: Option<f32>, minimum: Option<f32>) -> Option<f32>
     ensures { result ≡ raised_or maximum minimum }
 {
-    let DefiniteSize::Definite(high) = maximum else {
-        return minimum;
-    };
-    let DefiniteSize::Definite(low) = minimum else {
-        return maximum;
-    };
-    if high < low { minimum } else { maximum }
+    match (maximum, minimum) {
+        (Some(high), Some(low)) if high < low => minimum,
+        (Some(_), _) => maximum,
+        _ => minimum,
+    }
 }
 
 // What a track measures, from the words of its minimum and its maximum.
-pub fn track_definite_value(min: u64, max: u64, inner: f32) -> DefiniteSize
+pub fn track_definite_value(min: u64, max: u64, inner: f32) -> Option<f32>
     ensures { result ≡ track_value_of (min_max_of min max) inner }
 {
     let minimum = definite_of_word(min, inner);
@@ -64,9 +57,5 @@ pub fn track_definite_value(min: u64, max: u64, inner: f32) -> DefiniteSize
 pub fn gap_value(gap: Sizing, inner: f32) -> f32
     ensures { result ≡ gap_of gap inner }
 {
-    let size = definite_value(gap, inner);
-    match size {
-        DefiniteSize::Definite(v) => v,
-        DefiniteSize::Indefinite => 0.0,
-    }
+    definite_value(gap, inner).unwrap_or(0.0)
 }

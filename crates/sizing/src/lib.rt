@@ -3,11 +3,14 @@
 #![tactic(auto)]
 
 pub mod definite;
+pub mod kind;
 pub mod range;
 pub mod word;
 
+pub use kind::Kind;
+
 // The size of a track at one end.
-#[derive(Clone, Copy)]
+#[derive(Clone, Copy, Debug, PartialEq)]
 pub enum Sizing {
     Length(f32),
     Percent(f32),
@@ -20,15 +23,8 @@ pub enum Sizing {
 }
 
 // The minimum and the maximum of a track.
-#[derive(Clone, Copy)]
+#[derive(Clone, Copy, Debug, PartialEq)]
 pub struct MinMax {
     pub min: Sizing,
     pub max: Sizing,
-}
-
-// A size that is definite, or none: the Rust's `Option<f32>`.
-#[derive(Clone, Copy)]
-pub enum DefiniteSize {
-    Definite(f32),
-    Indefinite,
 }

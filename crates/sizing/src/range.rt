@@ -1,48 +1,42 @@
-// Kinds of sizes as numbers, in the order of a sheet's words (len pct fr auto min max fitl fitp), and their ranges.
-ghost use Rattle.std.specs.Prelude.{◌≡◌};
-ghost use Rattle.sizing.specs.Ranges.{minimum_kind, value_in_range, length_in_range, up_to, largest_length, largest_percentage, sizing_in_range};
+// The ranges of sizes, by their kinds.
+ghost use Rattle.std.specs.Prelude.{◌≡◌, ◌/◌, ◌%◌};
+ghost use Rattle.sizing.specs.Ranges.{value_in_range, length_in_range, up_to, largest_length, largest_percentage, sizing_in_range};
 ghost use Rattle.sizing.specs.Steps.{largest_bits_of, bits_up_to};
+ghost use Rattle.sizing.specs.Kinds.{number_of_kind};
 
-use crate::Sizing;
-
-// Whether a minimum may be of this kind: fr, fitl and fitp are for the maximum only, 8 and above are no kinds.
-#[tactic(auto, unfolding(crate::specs::Ranges::minimum_kind))]
-pub fn is_kind_of_minimum(kind: u32) -> bool
-    ensures { result ≡ minimum_kind kind }
-{
-    match kind {
-        2 => false,
-        6 => false,
-        7 => false,
-        _ => kind <= 7,
-    }
-}
+use crate::word::{LARGEST_BITS, LARGEST_PERCENT_BITS};
+use crate::{Kind, Sizing};
 
 // The bits of the largest value of a kind: of 10 for percentages, 0 for keywords, 65,535 for the others.
 #[tactic(auto, unfolding(crate::specs::Steps::largest_bits_of))]
-fn largest_bits(kind: u32) -> u32
-    ensures { result ≡ largest_bits_of kind }
+fn largest_bits(kind: Kind) -> u32
+    ensures { result ≡ largest_bits_of (number_of_kind kind) }
 {
     match kind {
-        1 => 0x4120_0000,
-        3 => 0,
-        4 => 0,
-        5 => 0,
-        7 => 0x4120_0000,
-        _ => 0x477f_ff00,
+        Kind::Percent | Kind::FitContentPercent => LARGEST_PERCENT_BITS,
+        Kind::Auto | Kind::MinContent | Kind::MaxContent => 0,
+        Kind::Length | Kind::Fraction | Kind::FitContentLength => LARGEST_BITS,
     }
 }
 
 // Whether bits are those of a size of a kind in its range. Bits are in the order of the numbers from 0 on, and
 // those of negative numbers, minus zero and NaNs are above the largest's.
 #[tactic(auto, using(crate::proofs::Ranges::kind_bits), unfolding(crate::specs::Ranges::value_in_range))]
-pub fn value_in_range(kind: u32, bits: u32) -> bool
-    ensures { result ≡ value_in_range kind bits }
+pub fn value_in_range(kind: Kind, bits: u32) -> bool
+    ensures { result ≡ value_in_range (number_of_kind kind) bits }
 {
-    if kind > 7 {
-        return false;
-    }
     bits <= largest_bits(kind)
+}
+
+// Whether a word is that of a size in its range: that of a number that no kind has is not.
+#[tactic(auto, unfolding(crate::specs::Ranges::value_in_range))]
+pub fn word_in_range(word: u64) -> bool
+    ensures { result ≡ value_in_range (word / 4294967296) (word % 4294967296) }
+{
+    let Ok(kind) = Kind::try_from((word / 0x1_0000_0000) as u32) else {
+        return false;
+    };
+    value_in_range(kind, (word % 0x1_0000_0000) as u32)
 }
 
 // Whether bits are those of an inner size in range.
@@ -50,7 +44,7 @@ pub fn value_in_range(kind: u32, bits: u32) -> bool
 pub fn length_in_range(bits: u32) -> bool
     ensures { result ≡ length_in_range bits }
 {
-    bits <= 0x477f_ff00
+    bits <= LARGEST_BITS
 }
 
 // Whether the bits of an f32 are at most those of the largest number allowed. A NaN is no number.
@@ -58,10 +52,7 @@ pub fn length_in_range(bits: u32) -> bool
 fn bits_up_to(most: u32, x: f32) -> bool
     ensures { result ≡ bits_up_to most x }
 {
-    if x == x {
-        return f32::to_bits(x) <= most;
-    }
-    false
+    !x.is_nan() && x.to_bits() <= most
 }
 
 // Whether an f32 is a length, a fraction or an inner size in range.
@@ -69,7 +60,7 @@ fn bits_up_to(most: u32, x: f32) -> bool
 pub fn number_in_range(x: f32) -> bool
     ensures { result ≡ up_to largest_length x }
 {
-    bits_up_to(0x477f_ff00, x)
+    bits_up_to(LARGEST_BITS, x)
 }
 
 // Whether an f32 is a percentage in range.
@@ -77,7 +68,7 @@ pub fn number_in_range(x: f32) -> bool
 fn percentage_in_range(x: f32) -> bool
     ensures { result ≡ up_to largest_percentage x }
 {
-    bits_up_to(0x4120_0000, x)
+    bits_up_to(LARGEST_PERCENT_BITS, x)
 }
 
 // Whether the number of a size is in the range of its kind; a keyword has none.
@@ -85,13 +76,8 @@ pub fn sizing_in_range(size: Sizing) -> bool
     ensures { result ≡ sizing_in_range size }
 {
     match size {
-        Sizing::Length(v) => number_in_range(v),
-        Sizing::Percent(p) => percentage_in_range(p),
-        Sizing::Fraction(v) => number_in_range(v),
-        Sizing::Auto => true,
-        Sizing::MinContent => true,
-        Sizing::MaxContent => true,
-        Sizing::FitContentLength(v) => number_in_range(v),
-        Sizing::FitContentPercent(p) => percentage_in_range(p),
+        Sizing::Length(v) | Sizing::Fraction(v) | Sizing::FitContentLength(v) => number_in_range(v),
+        Sizing::Percent(p) | Sizing::FitContentPercent(p) => percentage_in_range(p),
+        Sizing::Auto | Sizing::MinContent | Sizing::MaxContent => true,
     }
 }

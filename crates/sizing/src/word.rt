@@ -1,8 +1,15 @@
 // A size as one word of a lent table: its kind times 2^32, and the bits of its f32.
 ghost use Rattle.std.specs.Prelude.{◌≡◌, ◌≤◌};
-ghost use Rattle.sizing.specs.Words.{float_up_to, largest_bits, sizing_of_kind, sizing_of, size_word_of, kind_of, printed_bits, bits_of};
+ghost use Rattle.sizing.specs.Words.{float_up_to, largest_bits, sizing_of_kind, sizing_of, size_word_of, printed_bits, bits_of};
+ghost use Rattle.sizing.specs.Kinds.{number_of_kind};
 
-use crate::Sizing;
+use crate::{Kind, Sizing};
+
+// The bits of the largest length, fraction or inner size, 65,535.
+pub(crate) const LARGEST_BITS: u32 = 0x477f_ff00;
+
+// The bits of the largest percentage, 10.
+pub(crate) const LARGEST_PERCENT_BITS: u32 = 0x4120_0000;
 
 // The f32 of a bit pattern up to that of the largest number allowed, else 0.
 #[tactic(auto, using(crate::proofs::Bits::no_nan), unfolding(crate::specs::Words::float_up_to))]
@@ -11,16 +18,17 @@ fn float_up_to(most: u32, bits: u32) -> f32
     ensures { result ≡ float_up_to most bits }
 {
     if bits <= most {
-        return f32::from_bits(bits);
+        f32::from_bits(bits)
+    } else {
+        0.0
     }
-    0.0
 }
 
 // The f32 of the bits of a length or an inner size in range, else 0.
 pub fn length_of(bits: u32) -> f32
     ensures { result ≡ float_up_to largest_bits bits }
 {
-    float_up_to(0x477f_ff00, bits)
+    float_up_to(LARGEST_BITS, bits)
 }
 
 // A size from its kind and bits.
@@ -29,13 +37,13 @@ fn sizing_of_kind(kind: u32, bits: u32) -> Sizing
     ensures { result ≡ sizing_of_kind kind bits }
 {
     match kind {
-        0 => Sizing::Length(float_up_to(0x477f_ff00, bits)),
-        1 => Sizing::Percent(float_up_to(0x4120_0000, bits)),
-        2 => Sizing::Fraction(float_up_to(0x477f_ff00, bits)),
+        0 => Sizing::Length(float_up_to(LARGEST_BITS, bits)),
+        1 => Sizing::Percent(float_up_to(LARGEST_PERCENT_BITS, bits)),
+        2 => Sizing::Fraction(float_up_to(LARGEST_BITS, bits)),
         4 => Sizing::MinContent,
         5 => Sizing::MaxContent,
-        6 => Sizing::FitContentLength(float_up_to(0x477f_ff00, bits)),
-        7 => Sizing::FitContentPercent(float_up_to(0x4120_0000, bits)),
+        6 => Sizing::FitContentLength(float_up_to(LARGEST_BITS, bits)),
+        7 => Sizing::FitContentPercent(float_up_to(LARGEST_PERCENT_BITS, bits)),
         _ => Sizing::Auto,
     }
 }
@@ -49,26 +57,10 @@ pub fn sizing_of(word: u64) -> Sizing
 }
 
 // The word of a kind and bits.
-pub fn size_word(kind: u32, bits: u32) -> u64
-    ensures { result ≡ size_word_of kind bits }
+pub fn size_word(kind: Kind, bits: u32) -> u64
+    ensures { result ≡ size_word_of (number_of_kind kind) bits }
 {
-    kind as u64 * 0x1_0000_0000 + bits as u64
-}
-
-// The kind that a size is printed by.
-pub fn kind_of(size: Sizing) -> u32
-    ensures { result ≡ kind_of size }
-{
-    match size {
-        Sizing::Length(_) => 0,
-        Sizing::Percent(_) => 1,
-        Sizing::Fraction(_) => 2,
-        Sizing::Auto => 3,
-        Sizing::MinContent => 4,
-        Sizing::MaxContent => 5,
-        Sizing::FitContentLength(_) => 6,
-        Sizing::FitContentPercent(_) => 7,
-    }
+    u64::from(u32::from(kind)) * 0x1_0000_0000 + u64::from(bits)
 }
 
 // The bits of an f32, 0 for a NaN, which is no size.
@@ -76,10 +68,7 @@ pub fn kind_of(size: Sizing) -> u32
 fn printed_bits(x: f32) -> u32
     ensures { result ≡ printed_bits x }
 {
-    if x == x {
-        return f32::to_bits(x);
-    }
-    0
+    if x.is_nan() { 0 } else { x.to_bits() }
 }
 
 // The bits that a size is printed by, 0 for a keyword.
@@ -87,13 +76,11 @@ pub fn bits_of(size: Sizing) -> u32
     ensures { result ≡ bits_of size }
 {
     match size {
-        Sizing::Length(v) => printed_bits(v),
-        Sizing::Percent(p) => printed_bits(p),
-        Sizing::Fraction(v) => printed_bits(v),
-        Sizing::Auto => 0,
-        Sizing::MinContent => 0,
-        Sizing::MaxContent => 0,
-        Sizing::FitContentLength(v) => printed_bits(v),
-        Sizing::FitContentPercent(p) => printed_bits(p),
+        Sizing::Length(v)
+        | Sizing::Percent(v)
+        | Sizing::Fraction(v)
+        | Sizing::FitContentLength(v)
+        | Sizing::FitContentPercent(v) => printed_bits(v),
+        Sizing::Auto | Sizing::MinContent | Sizing::MaxContent => 0,
     }
 }

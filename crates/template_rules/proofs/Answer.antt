@@ -1,5 +1,5 @@
 -- The answer of the call against CSS: its repetitions, and its counts, for valid and invalid templates. Assumes nothing.
-use Rattle.std.proofs.Common.{◌≡◌, ℕ, ◌+◌, ◌<◌, ◌≤◌, max, Bool, true, false, cond, T, leb, List, [], ◌∷◌, length, sym, refl, ap, ◌∙◌, arith, eq-eqb, ne_eqb, leb-true}
+use Rattle.std.proofs.Common.{◌≡◌, ℕ, ◌+◌, ◌<◌, ◌≤◌, max, Bool, true, false, cond, T, leb, List, [], ◌∷◌, length, sym, refl, ap, ◌∙◌, arith, eq-eqb, ne_eqb, leb-true, Float, Option}
 use lib.Ieee.Bits.{is_true}
 use Rattle.coordinates.specs.Refusals.{no_refusal, count}
 use Rattle.sizing.specs.declared.Sizing.{Sizing}
@@ -7,17 +7,19 @@ use Rattle.template_rules.specs.Template.{Component}
 use Rattle.template_rules.specs.Counts.{is_automatic, is_empty, outside_count, automatic_count, automatic_tracks, any_empty}
 use Rattle.template_rules.specs.Summary.{meaning_of}
 use Rattle.template_rules.specs.Repetitions.{repetitions_of}
-use Rattle.template_rules.specs.Explicit.{inner_value, valid_of, size_of, repeated_size, template_size_of, refused_size, with_areas, crowded_by, explicit_size_of, space_in_range, explicit_answer_of}
+use Rattle.template_rules.specs.Explicit.{SizeAnswer, inner_value, valid_of, size_of, repeated_size, template_size_of, refused_size, with_areas, crowded_by, explicit_size_of, space_in_range, explicit_answer_of}
 use Rattle.template_rules.specs.Css.{Valid, Repetitions}
-use Rattle.template_rules.specs.declared.InnerSize.{InnerSize}
 use Rattle.template_rules.specs.declared.AutoRepeatStrategy.{AutoRepeatStrategy}
 use Rattle.template_rules.specs.declared.RepetitionCount.{RepetitionCount}
 use Rattle.template_rules.specs.declared.RepetitionCount.TheVariants.{Single, Count, AutoFill, AutoFit}
-use Rattle.template_rules.specs.declared.ExplicitSize.{ExplicitSize}
 use Rattle.template_rules.specs.declared.TemplateSize.{TemplateSize}
 use Rattle.template_rules.proofs.Tests.{or_parts, above_test}
 use Rattle.template_rules.proofs.Valid.{none_empty, valid_css}
 use Rattle.template_rules.proofs.Css.{repetitions_css}
+
+-- a refusal has zeros beside it
+pub refused-zeros : (n : ℕ) → ((refused_size n).repetitions ≡ 0) × ((refused_size n).template ≡ 0) × ((refused_size n).explicit ≡ 0)
+refused-zeros n = (refl, refl, refl)
 
 -- an automatic repeat that is not empty has tracks
 pub repeat_has_tracks : (cs : List Component) → any_empty cs ≡ false → 0 < automatic_count cs → 0 < length (automatic_tracks cs)
@@ -39,7 +41,7 @@ repeat_has_tracks (d ∷ cs) e h = let p = or_parts (is_empty d.count (length d.
     go AutoFit e f h ih = above_test (length d.tracks) f
 
 -- for every valid template with an automatic repeat the repetitions are CSS's number
-pub valid_repetitions_css : (inner : InnerSize) (strategy : AutoRepeatStrategy) (gap : Sizing) (cs : List Component) → Valid cs → automatic_count cs ≡ 1
+pub valid_repetitions_css : (inner : Option Float) (strategy : AutoRepeatStrategy) (gap : Sizing) (cs : List Component) → Valid cs → automatic_count cs ≡ 1
     → Repetitions inner strategy gap cs (repetitions_of inner strategy gap (meaning_of (inner_value inner) cs))
 valid_repetitions_css inner strategy gap cs v e = repetitions_css inner strategy gap cs (repeat_has_tracks cs (none_empty cs v) (some (automatic_count cs) e))
   where
@@ -55,33 +57,33 @@ crowded-refused areas = go (leb areas 10000)
     go false h = omega arith
 
 -- an answer that is not refused is that of the template and the areas
-chosen : (t : TemplateSize) (areas : ℕ) (a b : Bool) (r : ExplicitSize)
+chosen : (t : TemplateSize) (areas : ℕ) (a b : Bool) (r : SizeAnswer)
     → r ≡ cond a (cond b (record { refusal = no_refusal; repetitions = t.repetitions; template = t.tracks; explicit = max t.tracks areas }) (refused_size count)) (refused_size (crowded_by areas))
     → r.refusal.number ≡ 0 → (r.repetitions ≡ t.repetitions) × (r.template ≡ t.tracks) × (r.explicit ≡ max t.tracks areas)
-chosen t areas true true r e z = (ap (λ (x : ExplicitSize). x.repetitions) e, ap (λ (x : ExplicitSize). x.template) e, ap (λ (x : ExplicitSize). x.explicit) e)
-chosen t areas true false r e z = absurd (never (sym z ∙ ap (λ (x : ExplicitSize). x.refusal.number) e))
+chosen t areas true true r e z = (ap (λ (x : SizeAnswer). x.repetitions) e, ap (λ (x : SizeAnswer). x.template) e, ap (λ (x : SizeAnswer). x.explicit) e)
+chosen t areas true false r e z = absurd (never (sym z ∙ ap (λ (x : SizeAnswer). x.refusal.number) e))
   where
     never : ◌≡◌ {A = ℕ} 0 4 → ⊥
     never h = omega arith
-chosen t areas false b r e z = absurd (crowded-refused areas (sym z ∙ ap (λ (x : ExplicitSize). x.refusal.number) e))
+chosen t areas false b r e z = absurd (crowded-refused areas (sym z ∙ ap (λ (x : SizeAnswer). x.refusal.number) e))
 
 -- and it has at most 10,000 tracks
-few-tracks : (size : ExplicitSize) (n areas : ℕ) (a b : Bool) (r : ExplicitSize) → leb (max n areas) 10000 ≡ b → r ≡ cond a (cond b size (refused_size count)) (refused_size (crowded_by areas)) → r.refusal.number ≡ 0 → n ≤ 10000
+few-tracks : (size : SizeAnswer) (n areas : ℕ) (a b : Bool) (r : SizeAnswer) → leb (max n areas) 10000 ≡ b → r ≡ cond a (cond b size (refused_size count)) (refused_size (crowded_by areas)) → r.refusal.number ≡ 0 → n ≤ 10000
 few-tracks size n areas true true r t e z = both n areas (leb-true (max n areas) 10000 t)
   where
     both : (n m : ℕ) → max n m ≤ 10000 → n ≤ 10000
     both n m h = omega arith
-few-tracks size n areas true false r t e z = absurd (never (sym z ∙ ap (λ (x : ExplicitSize). x.refusal.number) e))
+few-tracks size n areas true false r t e z = absurd (never (sym z ∙ ap (λ (x : SizeAnswer). x.refusal.number) e))
   where
     never : ◌≡◌ {A = ℕ} 0 4 → ⊥
     never h = omega arith
-few-tracks size n areas false b r t e z = absurd (crowded-refused areas (sym z ∙ ap (λ (x : ExplicitSize). x.refusal.number) e))
+few-tracks size n areas false b r t e z = absurd (crowded-refused areas (sym z ∙ ap (λ (x : SizeAnswer). x.refusal.number) e))
 
-module _ (inner : InnerSize) (strategy : AutoRepeatStrategy) (gap : Sizing) (areas : ℕ) (cs : List Component) where
+module _ (inner : Option Float) (strategy : AutoRepeatStrategy) (gap : Sizing) (areas : ℕ) (cs : List Component) where
   abbrev pub size : TemplateSize
   size = template_size_of inner strategy gap (meaning_of (inner_value inner) cs)
 
-  abbrev pub answer : ExplicitSize
+  abbrev pub answer : SizeAnswer
   answer = explicit_size_of inner strategy gap areas cs
 
   -- a caller whose inner size and gap are in range has this answer

@@ -1,5 +1,5 @@
 -- The number of automatic repetitions is CSS's, by document 01's f32 quotient and limit, and CSS's number is unique. Assumes nothing.
-use Rattle.std.proofs.Common.{◌≡◌, ℕ, zero, suc, ◌+◌, ◌-◌, ◌*◌, ◌<◌, ◌≤◌, min, max, Bool, true, false, cond, leb, ◌⊎◌, List, length, sym, refl, ◌∙◌, inl, inr, ⊎_elim, le_refl, le_antisymm, arith, le-leb, leb-false, leb-true}
+use Rattle.std.proofs.Common.{◌≡◌, ℕ, zero, suc, ◌+◌, ◌-◌, ◌*◌, ◌<◌, ◌≤◌, min, max, Bool, true, false, cond, leb, ◌⊎◌, List, length, sym, refl, ◌∙◌, inl, inr, ⊎_elim, le_refl, le_antisymm, arith, le-leb, leb-false, leb-true, Option, Some, None}
 use mathlib.Core.Bool.{false≢true}
 use borrow.Author.Tests.{lt-leb}
 use lib.Ieee.{Float, lt}
@@ -13,8 +13,6 @@ use Rattle.template_rules.specs.Summary.{meaning_of}
 use Rattle.template_rules.specs.Repetitions.{first_space, quotient, one_more, fitting_of, wanted_of, room, held_of, repetitions_of}
 use Rattle.template_rules.specs.Explicit.{inner_value}
 use Rattle.template_rules.specs.Css.{Largest, Smallest, Wanted, Repetitions}
-use Rattle.template_rules.specs.declared.InnerSize.{InnerSize}
-use Rattle.template_rules.specs.declared.InnerSize.TheVariants.{Definite, Indefinite}
 use Rattle.template_rules.specs.declared.AutoRepeatStrategy.{AutoRepeatStrategy}
 use Rattle.template_rules.specs.declared.AutoRepeatStrategy.TheVariants.{MaxRepetitionsThatDoNotOverflow, MinRepetitionsThatDoOverflow}
 use Rattle.template_rules.proofs.Held.{begins_in_room, in_room_begins, room-some, room_most}
@@ -188,7 +186,7 @@ module _ (p k : ℕ) (some : 0 < k) (free : p < 10000) (q : Float) where
       past s i f = ended i (ceiling_of q) (room p k) s (λ r. f (in_room_begins p k i some free r))
 
 -- ---- the theorem: for every template with tracks in its automatic repeat
-pub repetitions_css : (inner : InnerSize) (strategy : AutoRepeatStrategy) (gap : Sizing) (cs : List Component) → 0 < length (automatic_tracks cs)
+pub repetitions_css : (inner : Option Float) (strategy : AutoRepeatStrategy) (gap : Sizing) (cs : List Component) → 0 < length (automatic_tracks cs)
     → Repetitions inner strategy gap cs (repetitions_of inner strategy gap (meaning_of (inner_value inner) cs))
 unfolding repetitions_of held_of fitting_of held_count
 repetitions_css inner strategy gap cs h = record { full = λ g. rw (le-leb 10000 (before_count cs) g); wanted = λ g. rw (lt-leb 10000 (before_count cs) g) (go inner strategy g) }
@@ -202,22 +200,22 @@ repetitions_css inner strategy gap cs h = record { full = λ g. rw (le-leb 10000
     single : (r : ℕ) → 1 ≤ r → max 1 (min 1 r) ≡ 1
     single r h = omega arith
 
-    go : (inner : InnerSize) (strategy : AutoRepeatStrategy) → p < 10000 → Wanted inner strategy gap cs (held_count p k (wanted_of inner strategy gap (meaning_of (inner_value inner) cs)))
-    go (Definite x) MaxRepetitionsThatDoNotOverflow g =
+    go : (inner : Option Float) (strategy : AutoRepeatStrategy) → p < 10000 → Wanted inner strategy gap cs (held_count p k (wanted_of inner strategy gap (meaning_of (inner_value inner) cs)))
+    go (Some x) MaxRepetitionsThatDoNotOverflow g =
         largest-fit p k h g (quotient (meaning_of x cs) x (gap_of gap x)) (lt x (first_space (meaning_of x cs) (gap_of gap x)))
-    go (Definite x) MinRepetitionsThatDoOverflow g =
+    go (Some x) MinRepetitionsThatDoOverflow g =
         smallest-stop p k h g (quotient (meaning_of x cs) x (gap_of gap x)) (lt x (first_space (meaning_of x cs) (gap_of gap x)))
-    go Indefinite strategy g = single (room p k) (room-some p k h g)
+    go None strategy g = single (room p k) (room-some p k h g)
 
 -- ---- and there is one such number only
-pub repetitions_unique : (inner : InnerSize) (strategy : AutoRepeatStrategy) (gap : Sizing) (cs : List Component) (n m : ℕ)
+pub repetitions_unique : (inner : Option Float) (strategy : AutoRepeatStrategy) (gap : Sizing) (cs : List Component) (n m : ℕ)
     → Repetitions inner strategy gap cs n → Repetitions inner strategy gap cs m → n ≡ m
 repetitions_unique inner strategy gap cs n m a b = go (leb 10000 (before_count cs)) refl
   where
-    same : (inner : InnerSize) (strategy : AutoRepeatStrategy) → Wanted inner strategy gap cs n → Wanted inner strategy gap cs m → n ≡ m
-    same (Definite x) MaxRepetitionsThatDoNotOverflow v w = le_antisymm (w.largest n v.holds) (v.largest m w.holds)
-    same (Definite x) MinRepetitionsThatDoOverflow v w = le_antisymm (v.smallest m w.holds) (w.smallest n v.holds)
-    same Indefinite strategy v w = v ∙ sym w
+    same : (inner : Option Float) (strategy : AutoRepeatStrategy) → Wanted inner strategy gap cs n → Wanted inner strategy gap cs m → n ≡ m
+    same (Some x) MaxRepetitionsThatDoNotOverflow v w = le_antisymm (w.largest n v.holds) (v.largest m w.holds)
+    same (Some x) MinRepetitionsThatDoOverflow v w = le_antisymm (v.smallest m w.holds) (w.smallest n v.holds)
+    same None strategy v w = v ∙ sym w
 
     go : (t : Bool) → leb 10000 (before_count cs) ≡ t → n ≡ m
     go true e = let h = leb-true 10000 (before_count cs) e in a.full h ∙ sym (b.full h)

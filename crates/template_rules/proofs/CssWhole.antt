@@ -1,5 +1,5 @@
 -- The number of automatic repetitions is CSS's in whole numbers, over the tracks as written out, for every valid template in range. Assumes nothing.
-use Rattle.std.proofs.Common.{◌≡◌, ℕ, zero, suc, ◌+◌, ◌-◌, ◌*◌, ◌^◌, ◌<◌, ◌≤◌, min, max, Bool, true, false, cond, T, ltb, leb, ◌⊎◌, ◌↔◌, List, [], ◌∷◌, ◌++◌, map, length, get_or, sym, refl, ap, ◌∙◌, subst, inl, inr, ⊎_elim, true≢false, le_trans, le_refl, le_of_lt, mul-le-mul_right, mul_comm, le_antisymm, le-mul_of_pos_right, le_of_mul-le-mul_right, arith, leb→le, length-append, ltb-false, ltb-true, leb-false, leb-true}
+use Rattle.std.proofs.Common.{◌≡◌, ℕ, zero, suc, ◌+◌, ◌-◌, ◌*◌, ◌^◌, ◌<◌, ◌≤◌, min, max, Bool, true, false, cond, T, ltb, leb, ◌⊎◌, ◌↔◌, List, [], ◌∷◌, ◌++◌, map, length, get_or, sym, refl, ap, ◌∙◌, subst, inl, inr, ⊎_elim, true≢false, le_trans, le_refl, le_of_lt, mul-le-mul_right, mul_comm, le_antisymm, le-mul_of_pos_right, le_of_mul-le-mul_right, arith, leb→le, length-append, ltb-false, ltb-true, leb-false, leb-true, Option, Some, None}
 use native.Mathlib.Nat.{max-eq_left, max-eq_right, max-zero}
 use mathlib.Core.List.Memᴰ
 use mathlib.Core.List.{Memᴰ}
@@ -17,8 +17,6 @@ use Rattle.sizing.proofs.Words.{sizing_in_range_lem}
 use Rattle.sizing.specs.declared.Sizing.{Sizing}
 use Rattle.sizing.specs.declared.Sizing.TheVariants.{Length, Percent, Fraction, Auto, MinContent, MaxContent, FitContentLength, FitContentPercent}
 use Rattle.sizing.specs.declared.MinMax.{MinMax}
-use Rattle.sizing.specs.declared.DefiniteSize.{DefiniteSize}
-use Rattle.sizing.specs.declared.DefiniteSize.TheVariants.{Definite, Indefinite}
 use Rattle.template_rules.specs.Template.{Component, component_of, tracks_from, with_tracks, template_of}
 use Rattle.template_rules.specs.Counts.{is_automatic, outside_count, automatic_count, before_count, automatic_tracks}
 use Rattle.template_rules.specs.Css.{Automatic, Largest, Valid}
@@ -28,8 +26,6 @@ use Rattle.template_rules.specs.Repetitions.{gaps_of, first_space, further_space
 use Rattle.template_rules.specs.Explicit.{inner_value, explicit_size_of}
 use Rattle.template_rules.specs.Space.{whole32, one32, track_space, repeated_track_space, space_in, single_space, counted_space, space_of, outside_space, repetition_space}
 use Rattle.template_rules.specs.CssWhole.{number_of, length_in, IsWholeIn, measure_of, floored_in, times_of, tracks_of, tracks_times, written_out, grid_extent, MostThatFit, FewestThatReach, CssCount, held_to, RepeatIn, tracks_before, tracks_in, WholeRepetitions, InRange, WholeSizes, WholeIn}
-use Rattle.template_rules.specs.declared.InnerSize.{InnerSize}
-use Rattle.template_rules.specs.declared.InnerSize.TheVariants.{Definite as Known, Indefinite as Unknown}
 use Rattle.template_rules.specs.declared.AutoRepeatStrategy.{AutoRepeatStrategy}
 use Rattle.template_rules.specs.declared.AutoRepeatStrategy.TheVariants.{MaxRepetitionsThatDoNotOverflow, MinRepetitionsThatDoOverflow}
 use Rattle.template_rules.specs.declared.RepetitionCount.{RepetitionCount}
@@ -44,9 +40,9 @@ use Rattle.template_rules.proofs.WrittenOut.{total_of, extent_total, total-appen
 
 -- ---- a track
 -- a definite size that is whole, and no definite size
-abbrev Sized : DefiniteSize → ℕ → Bool → Type 0
-Sized (Definite v) n b = Is v n × (b ≡ true)
-Sized Indefinite n b = (n ≡ 0) × (b ≡ false)
+abbrev Sized : Option Float → ℕ → Bool → Type 0
+Sized (Some v) n b = Is v n × (b ≡ true)
+Sized None n b = (n ≡ 0) × (b ≡ false)
 
 sized : (inner : Float) (s : Sizing) → IsWholeIn inner s → Sized (definite_of s inner) (length_in inner s) (is_fixed s)
 sized inner (Length v) h = (is_whole v h, refl)
@@ -58,18 +54,18 @@ sized inner MaxContent h = (refl, refl)
 sized inner (FitContentLength v) h = (refl, refl)
 sized inner (FitContentPercent p) h = (refl, refl)
 
-sized-is : (d : DefiniteSize) (n : ℕ) (b : Bool) → Sized d n b → Is (or_zero d) n
-sized-is (Definite v) n b h = h.0
-sized-is Indefinite n b h = rw h.0 zero_is
+sized-is : (d : Option Float) (n : ℕ) (b : Bool) → Sized d n b → Is (or_zero d) n
+sized-is (Some v) n b h = h.0
+sized-is None n b h = rw h.0 zero_is
 
-raised_is : (d e : DefiniteSize) (n m : ℕ) (b c : Bool) → Sized d n b → Sized e m c → Is (or_zero (raised_or d e)) (cond b (max n m) m)
-raised_is (Definite v) (Definite w) n m b c h k = rw (h.1, below-is v w n m h.0 k.0) (go (ltb n m) refl)
+raised_is : (d e : Option Float) (n m : ℕ) (b c : Bool) → Sized d n b → Sized e m c → Is (or_zero (raised_or d e)) (cond b (max n m) m)
+raised_is (Some v) (Some w) n m b c h k = rw (h.1, below-is v w n m h.0 k.0) (go (ltb n m) refl)
   where
     go : (t : Bool) → ltb n m ≡ t → Is (cond t w v) (max n m)
     go true e = rw (max-eq_right (le_of_lt (ltb-true n m e))) k.0
     go false e = rw (max-eq_left (ltb-false n m e)) h.0
-raised_is (Definite v) Indefinite n m b c h k = rw (h.1, k.0, max-zero n) h.0
-raised_is Indefinite e n m b c h k = rw h.1 (sized-is e m c k)
+raised_is (Some v) None n m b c h k = rw (h.1, k.0, max-zero n) h.0
+raised_is None e n m b c h k = rw h.1 (sized-is e m c k)
 
 track-is : (inner : Float) (t : MinMax) → IsWholeIn inner t.min × IsWholeIn inner t.max → Is (track_space inner t) (measure_of inner t)
 track-is inner t h =
@@ -214,9 +210,9 @@ small-few (fin false m e) n h k = le_of_mul-le-mul_right (go (m * up e) (down e)
 gap_few : (x : Float) (gap : Sizing) (n : ℕ) → T (up_to largest_length x) → T (sizing_in_range gap) → Is (gap_of gap x) n → n ≤ 1048576
 gap_few x gap n h r k = small-few (gap_of gap x) n (open-gap (definite_of gap x) (track-small (record { min = Auto; max = gap }) x tt r h)) k
   where
-    open-gap : (d : DefiniteSize) → Small (or_zero (raised_or d Indefinite)) → Small (or_zero d)
-    open-gap (Definite v) s = s
-    open-gap Indefinite s = s
+    open-gap : (d : Option Float) → Small (or_zero (raised_or d None)) → Small (or_zero d)
+    open-gap (Some v) s = s
+    open-gap None s = s
 
 -- ---- in whole numbers: a first extent, to which each repetition more adds a further one
 module _ (inner first further : ℕ) (extent : ℕ → ℕ) (grows : (n : ℕ) → extent (suc n) ≡ first + n * further) where
@@ -475,7 +471,7 @@ module _ (x : Float) (gap : Sizing) (before : List Component) (repeat : Componen
         (fewest-reach (number_of x) first further extent grows (ceiling_of ratio) fits (λ m. (ceiling-is m).0) (λ m. (ceiling-is m).1))
 
   -- before the limit: CSS's number
-  wanted-css : (strategy : AutoRepeatStrategy) → CssCount (Known x) strategy gap cs (fitting_of strategy x (gap_of gap x) summary)
+  wanted-css : (strategy : AutoRepeatStrategy) → CssCount (Some x) strategy gap cs (fitting_of strategy x (gap_of gap x) summary)
   unfolding fitting_of
   wanted-css MaxRepetitionsThatDoNotOverflow = rw below-first (go (ltb (number_of x) first) refl)
     where
@@ -499,7 +495,7 @@ module _ (x : Float) (gap : Sizing) (before : List Component) (repeat : Componen
       go false e = fewest (ltb-false (number_of x) first e)
 
 -- ---- around the automatic repeat
-module _ (inner : InnerSize) (strategy : AutoRepeatStrategy) (gap : Sizing) (before : List Component) (repeat : Component) (after : List Component) (automatic : Automatic repeat)
+module _ (inner : Option Float) (strategy : AutoRepeatStrategy) (gap : Sizing) (before : List Component) (repeat : Component) (after : List Component) (automatic : Automatic repeat)
     (valid : Valid (before ++ (repeat ∷ after))) (in_range : InRange (before ++ (repeat ∷ after))) (whole : WholeIn inner gap (before ++ (repeat ∷ after))) (free : length (written_out 0 before) < 10000) where
   one_repeat : automatic_count (before ++ (repeat ∷ after)) ≡ 1
   one_repeat =
@@ -516,9 +512,9 @@ module _ (inner : InnerSize) (strategy : AutoRepeatStrategy) (gap : Sizing) (bef
       → CssCount inner strategy gap (before ++ (repeat ∷ after)) (wanted_of inner strategy gap (meaning_of (inner_value inner) (before ++ (repeat ∷ after))))
   wanted-number few = go inner whole
     where
-      go : (inner : InnerSize) → WholeIn inner gap (before ++ (repeat ∷ after)) → CssCount inner strategy gap (before ++ (repeat ∷ after)) (wanted_of inner strategy gap (meaning_of (inner_value inner) (before ++ (repeat ∷ after))))
-      go (Known x) w = wanted-css x gap before repeat after automatic one_repeat valid in_range w few strategy
-      go Unknown w = refl
+      go : (inner : Option Float) → WholeIn inner gap (before ++ (repeat ∷ after)) → CssCount inner strategy gap (before ++ (repeat ∷ after)) (wanted_of inner strategy gap (meaning_of (inner_value inner) (before ++ (repeat ∷ after))))
+      go (Some x) w = wanted-css x gap before repeat after automatic one_repeat valid in_range w few strategy
+      go None w = refl
 
   held_number : repetitions_of inner strategy gap (meaning_of (inner_value inner) (before ++ (repeat ∷ after)))
       ≡ held_to (length (written_out 0 before)) (length repeat.tracks) (wanted_of inner strategy gap (meaning_of (inner_value inner) (before ++ (repeat ∷ after))))
@@ -529,7 +525,7 @@ module _ (inner : InnerSize) (strategy : AutoRepeatStrategy) (gap : Sizing) (bef
       rw (p, tracks-repeat before repeat after automatic one_repeat, lt-leb 10000 (length (written_out 0 before)) free)
 
 -- ---- the theorem, on document 01's repetitions: where at most 10,000 tracks stand outside the repeat, to which it holds them for the gaps
-pub whole-repetitions : (inner : InnerSize) (strategy : AutoRepeatStrategy) (gap : Sizing) (cs : List Component) (r : RepeatIn cs) → Valid cs → InRange cs → WholeIn inner gap cs
+pub whole-repetitions : (inner : Option Float) (strategy : AutoRepeatStrategy) (gap : Sizing) (cs : List Component) (r : RepeatIn cs) → Valid cs → InRange cs → WholeIn inner gap cs
     → tracks_before cs r < 10000 → length (written_out 0 cs) ≤ 10000 → WholeRepetitions inner strategy gap cs r (repetitions_of inner strategy gap (meaning_of (inner_value inner) cs))
 whole-repetitions inner strategy gap cs r valid in_range whole free few =
     let v = subst Valid r.parts valid in
@@ -546,7 +542,7 @@ whole-repetitions inner strategy gap cs r valid in_range whole free few =
     }
 
 -- ---- and on the answer of the call: one that is not refused has at most 10,000 tracks
-pub answer-whole : (inner : InnerSize) (strategy : AutoRepeatStrategy) (gap : Sizing) (areas : ℕ) (cs : List Component) (r : RepeatIn cs) → Valid cs → InRange cs → WholeIn inner gap cs
+pub answer-whole : (inner : Option Float) (strategy : AutoRepeatStrategy) (gap : Sizing) (areas : ℕ) (cs : List Component) (r : RepeatIn cs) → Valid cs → InRange cs → WholeIn inner gap cs
     → tracks_before cs r < 10000 → (explicit_size_of inner strategy gap areas cs).refusal.number ≡ 0 → WholeRepetitions inner strategy gap cs r (explicit_size_of inner strategy gap areas cs).repetitions
 answer-whole inner strategy gap areas cs r valid in_range whole free z =
     let once : automatic_count cs ≡ 1 =
@@ -561,7 +557,7 @@ answer-whole inner strategy gap areas cs r valid in_range whole free z =
     few k n e h = omega arith
 
 -- ---- there is one such number only
-pub whole_unique : (inner : InnerSize) (strategy : AutoRepeatStrategy) (gap : Sizing) (cs : List Component) (r : RepeatIn cs) (n m : ℕ)
+pub whole_unique : (inner : Option Float) (strategy : AutoRepeatStrategy) (gap : Sizing) (cs : List Component) (r : RepeatIn cs) (n m : ℕ)
     → WholeRepetitions inner strategy gap cs r n → WholeRepetitions inner strategy gap cs r m → n ≡ m
 whole_unique inner strategy gap cs r n m a b = a.held ∙ ap (held_to (tracks_before cs r) (tracks_in cs r)) (same inner strategy a.wanted b.wanted a.css b.css) ∙ sym b.held
   where
@@ -572,10 +568,10 @@ whole_unique inner strategy gap cs r n m a b = a.held ∙ ap (held_to (tracks_be
         le_antisymm (u.largest n v.holds) (v.largest m u.holds)
     most w extent n m a b false e = let h = leb-false (extent 1) w e in a.overflowing h ∙ sym (b.overflowing h)
 
-    same : (inner : InnerSize) (strategy : AutoRepeatStrategy) (n m : ℕ) → CssCount inner strategy gap cs n → CssCount inner strategy gap cs m → n ≡ m
-    same (Known x) MaxRepetitionsThatDoNotOverflow n m a b = most (number_of x) (grid_extent x gap cs) n m a b (leb (grid_extent x gap cs 1) (number_of x)) refl
-    same (Known x) MinRepetitionsThatDoOverflow n m a b = le_antisymm (a.smallest m b.holds) (b.smallest n a.holds)
-    same Unknown strategy n m a b = a ∙ sym b
+    same : (inner : Option Float) (strategy : AutoRepeatStrategy) (n m : ℕ) → CssCount inner strategy gap cs n → CssCount inner strategy gap cs m → n ≡ m
+    same (Some x) MaxRepetitionsThatDoNotOverflow n m a b = most (number_of x) (grid_extent x gap cs) n m a b (leb (grid_extent x gap cs 1) (number_of x)) refl
+    same (Some x) MinRepetitionsThatDoOverflow n m a b = le_antisymm (a.smallest m b.holds) (b.smallest n a.holds)
+    same None strategy n m a b = a ∙ sym b
 
 -- ---- every template with an automatic repeat has its place, and every template that tables hold is in range
 pub repeat_in : (cs : List Component) → 0 < automatic_count cs → RepeatIn cs
@@ -627,7 +623,7 @@ table_in_range words minimums maximums h =
         ∙ single_one (component_of w).count (component_of w).length (sym (ap (λ (d : Component). d.count) e) ∙ s) (of_word w g).counted
 
 -- ---- so for the call on tables: what its contract says it answers
-pub table_whole : (words minimums maximums : List ℕ) (inner : InnerSize) (strategy : AutoRepeatStrategy) (gap : Sizing) (areas : ℕ) (r : RepeatIn (template_of words minimums maximums))
+pub table_whole : (words minimums maximums : List ℕ) (inner : Option Float) (strategy : AutoRepeatStrategy) (gap : Sizing) (areas : ℕ) (r : RepeatIn (template_of words minimums maximums))
     → ((w : ℕ) → Memᴰ w words → w < 2 ^ 64) → Valid (template_of words minimums maximums) → WholeIn inner gap (template_of words minimums maximums)
     → tracks_before (template_of words minimums maximums) r < 10000 → (explicit_size_of inner strategy gap areas (template_of words minimums maximums)).refusal.number ≡ 0
     → WholeRepetitions inner strategy gap (template_of words minimums maximums) r (explicit_size_of inner strategy gap areas (template_of words minimums maximums)).repetitions

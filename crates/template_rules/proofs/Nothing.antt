@@ -1,5 +1,5 @@
 -- A template with components gives 0 tracks exactly if it is invalid: no flag is needed to tell what counts as none. Assumes nothing.
-use Rattle.std.proofs.Common.{◌≡◌, ℕ, ◌+◌, ◌*◌, ◌<◌, ◌≤◌, min, max, Bool, true, false, cond, eqb, leb, ◌⊎◌, ◌↔◌, List, [], ◌∷◌, length, refl, ap, inl, inr, ⊎_elim, true≢false, mul-pos, arith, leb-false, leb-true}
+use Rattle.std.proofs.Common.{◌≡◌, ℕ, ◌+◌, ◌*◌, ◌<◌, ◌≤◌, min, max, Bool, true, false, cond, eqb, leb, ◌⊎◌, ◌↔◌, List, [], ◌∷◌, length, refl, ap, inl, inr, ⊎_elim, true≢false, mul-pos, arith, leb-false, leb-true, Float, Option}
 use Rattle.sizing.specs.declared.Sizing.{Sizing}
 use Rattle.template_rules.specs.Template.{Component}
 use Rattle.template_rules.specs.Counts.{is_automatic, outside_of, is_empty, outside_count, automatic_count, before_count, automatic_tracks, any_empty}
@@ -7,7 +7,6 @@ use Rattle.template_rules.specs.Summary.{meaning_of}
 use Rattle.template_rules.specs.Repetitions.{room, wanted_of, held_of, repetitions_of}
 use Rattle.template_rules.specs.Explicit.{inner_value, size_of, template_size_of}
 use Rattle.template_rules.specs.Css.{Valid}
-use Rattle.template_rules.specs.declared.InnerSize.{InnerSize}
 use Rattle.template_rules.specs.declared.AutoRepeatStrategy.{AutoRepeatStrategy}
 use Rattle.template_rules.specs.declared.RepetitionCount.{RepetitionCount}
 use Rattle.template_rules.specs.declared.RepetitionCount.TheVariants.{Single, Count, AutoFill, AutoFit}
@@ -66,11 +65,11 @@ repeated-some outside before repeated n h some = go (leb 10000 before) refl
     go false e = let l = mul-pos some (held-some before repeated n (leb-false 10000 before e)) in omega arith
 
 -- an empty template has none, and no repetition
-nothing : (inner : InnerSize) (strategy : AutoRepeatStrategy) (gap : Sizing) → template_size_of inner strategy gap (meaning_of (inner_value inner) []) ≡ size_of 0 0
+nothing : (inner : Option Float) (strategy : AutoRepeatStrategy) (gap : Sizing) → template_size_of inner strategy gap (meaning_of (inner_value inner) []) ≡ size_of 0 0
 unfolding template_size_of outside_count automatic_count any_empty
 nothing inner strategy gap = refl
 
-module _ (inner : InnerSize) (strategy : AutoRepeatStrategy) (gap : Sizing) where
+module _ (inner : Option Float) (strategy : AutoRepeatStrategy) (gap : Sizing) where
   valid-some : (c : Component) (cs : List Component) → Valid (c ∷ cs) → 0 < (template_size_of inner strategy gap (meaning_of (inner_value inner) (c ∷ cs))).tracks
   unfolding repetitions_of
   valid-some c cs v =

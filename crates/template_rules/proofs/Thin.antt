@@ -1,6 +1,6 @@
 -- A track in the automatic repeat counts as 1 where it measures less, else as what it measures; where none measures less, the explicit size is the one
 -- with the crate's sum. Assumes nothing.
-use Rattle.std.proofs.Common.{◌≡◌, ℕ, ◌*◌, ◌<◌, Bool, true, false, ◌&&◌, ◌||◌, eqb, ltb, List, [], ◌∷◌, map, sym, refl, ap, true≢false, le_of_eq, le_of_lt, arith, ltb-true, le-ltb, eqb-true}
+use Rattle.std.proofs.Common.{◌≡◌, ℕ, ◌*◌, ◌<◌, Bool, true, false, ◌&&◌, ◌||◌, eqb, ltb, List, [], ◌∷◌, map, sym, refl, ap, true≢false, le_of_eq, le_of_lt, arith, ltb-true, le-ltb, eqb-true, Option}
 use mathlib.Core.List.{Memᴰ}
 use lib.Ieee.{Float, nan, inf, fin, up, down, of_bits, lt, eq, le}
 use lib.Ieee.Fits.{down_pos}
@@ -13,7 +13,6 @@ use Rattle.template_rules.specs.Counts.{automatic_tracks}
 use Rattle.template_rules.specs.Space.{one32, track_space, repeated_space, repeated_track_space, repetition_space}
 use Rattle.template_rules.specs.Explicit.{inner_value, explicit_size_of}
 use Rattle.template_rules.specs.Crate.{crate_repetition_space, crate_size_of, Thick}
-use Rattle.template_rules.specs.declared.InnerSize.{InnerSize}
 use Rattle.template_rules.specs.declared.AutoRepeatStrategy.{AutoRepeatStrategy}
 
 -- ---- one track
@@ -60,7 +59,7 @@ unfolding repetition_space crate_repetition_space
 same_repetition inner cs h = ap (sum_from zero32) (same_spaces inner (automatic_tracks cs) h)
 
 -- ---- the whole explicit size
-pub thick_same : (inner : InnerSize) (strategy : AutoRepeatStrategy) (gap : Sizing) (areas : ℕ) (cs : List Component) → Thick (inner_value inner) cs
+pub thick_same : (inner : Option Float) (strategy : AutoRepeatStrategy) (gap : Sizing) (areas : ℕ) (cs : List Component) → Thick (inner_value inner) cs
     → explicit_size_of inner strategy gap areas cs ≡ crate_size_of inner strategy gap areas cs
 unfolding explicit_size_of crate_size_of
 thick_same inner strategy gap areas cs h = rw (same_repetition (inner_value inner) cs h)

@@ -1,6 +1,6 @@
 -- The conditions of the law in whole numbers can be met: a single of 100, two tracks of 10 and a fill, gap 10, in 359. Of a fill of 100 one repetition fits, two
 -- reach; of one of 0, which counts as 1, 19 fit, 20 reach. Assumes nothing.
-use Rattle.std.proofs.Common.{◌≡◌, ◌≤◌, T, List, [], ◌∷◌, length, sym, refl, subst, ⊎_elim, lit<, lit≤}
+use Rattle.std.proofs.Common.{◌≡◌, ◌≤◌, T, List, [], ◌∷◌, length, sym, refl, subst, ⊎_elim, lit<, lit≤, Some}
 use mathlib.Core.List.Memᴰ
 use mathlib.Core.List.{Memᴰ}
 use lib.Ieee.{Float, binary32, of_bits, add, sub, mul, div, lt, of_int}
@@ -16,7 +16,6 @@ use Rattle.template_rules.specs.Css.{Valid}
 use Rattle.template_rules.specs.CssWhole.{IsWhole, IsWholeIn, written_out, extent_of, grid_extent, RepeatIn, WholeRepetitions, InRange, WholeSizes}
 use Rattle.template_rules.specs.declared.RepetitionCount.{RepetitionCount}
 use Rattle.template_rules.specs.declared.RepetitionCount.TheVariants.{Single, Count, AutoFill}
-use Rattle.template_rules.specs.declared.InnerSize.TheVariants.{Definite}
 use Rattle.template_rules.specs.declared.AutoRepeatStrategy.TheVariants.{MaxRepetitionsThatDoNotOverflow, MinRepetitionsThatDoOverflow}
 use Rattle.template_rules.proofs.Valid.{valid_css}
 use Rattle.template_rules.proofs.CssWhole.{answer-whole}
@@ -102,19 +101,19 @@ unfolding of_bits written_out extent_of
 thin_extents = (refl, refl)
 
 -- so the law gives the repetitions that the rule answers: 1 by max, 2 by min
-pub one-fits : WholeRepetitions (Definite inner) MaxRepetitionsThatDoNotOverflow ten (template wide) (place wide) 1
+pub one-fits : WholeRepetitions (Some inner) MaxRepetitionsThatDoNotOverflow ten (template wide) (place wide) 1
 unfolding explicit_size_of written_out up_to of_bits lt add mul of_int div sub
-one-fits = answer-whole (Definite inner) MaxRepetitionsThatDoNotOverflow ten 0 (template wide) (place wide) (valid wide) (in_range wide tt) (whole-sizes wide (refl, refl)) (lit< tt) refl
+one-fits = answer-whole (Some inner) MaxRepetitionsThatDoNotOverflow ten 0 (template wide) (place wide) (valid wide) (in_range wide tt) (whole-sizes wide (refl, refl)) (lit< tt) refl
 
-pub two-reach : WholeRepetitions (Definite inner) MinRepetitionsThatDoOverflow ten (template wide) (place wide) 2
+pub two-reach : WholeRepetitions (Some inner) MinRepetitionsThatDoOverflow ten (template wide) (place wide) 2
 unfolding explicit_size_of written_out up_to of_bits lt add mul of_int div sub
-two-reach = answer-whole (Definite inner) MinRepetitionsThatDoOverflow ten 0 (template wide) (place wide) (valid wide) (in_range wide tt) (whole-sizes wide (refl, refl)) (lit< tt) refl
+two-reach = answer-whole (Some inner) MinRepetitionsThatDoOverflow ten 0 (template wide) (place wide) (valid wide) (in_range wide tt) (whole-sizes wide (refl, refl)) (lit< tt) refl
 
 -- and of the fill of 0, 19 by max, 20 by min
-pub nineteen_fit : WholeRepetitions (Definite inner) MaxRepetitionsThatDoNotOverflow ten (template zero32) (place zero32) 19
+pub nineteen_fit : WholeRepetitions (Some inner) MaxRepetitionsThatDoNotOverflow ten (template zero32) (place zero32) 19
 unfolding explicit_size_of written_out up_to of_bits lt add mul of_int div sub
-nineteen_fit = answer-whole (Definite inner) MaxRepetitionsThatDoNotOverflow ten 0 (template zero32) (place zero32) (valid zero32) (in_range zero32 tt) (whole-sizes zero32 (refl, refl)) (lit< tt) refl
+nineteen_fit = answer-whole (Some inner) MaxRepetitionsThatDoNotOverflow ten 0 (template zero32) (place zero32) (valid zero32) (in_range zero32 tt) (whole-sizes zero32 (refl, refl)) (lit< tt) refl
 
-pub twenty_reach : WholeRepetitions (Definite inner) MinRepetitionsThatDoOverflow ten (template zero32) (place zero32) 20
+pub twenty_reach : WholeRepetitions (Some inner) MinRepetitionsThatDoOverflow ten (template zero32) (place zero32) 20
 unfolding explicit_size_of written_out up_to of_bits lt add mul of_int div sub
-twenty_reach = answer-whole (Definite inner) MinRepetitionsThatDoOverflow ten 0 (template zero32) (place zero32) (valid zero32) (in_range zero32 tt) (whole-sizes zero32 (refl, refl)) (lit< tt) refl
+twenty_reach = answer-whole (Some inner) MinRepetitionsThatDoOverflow ten 0 (template zero32) (place zero32) (valid zero32) (in_range zero32 tt) (whole-sizes zero32 (refl, refl)) (lit< tt) refl

@@ -1,6 +1,6 @@
 -- Document 01's edges M4 to M7, M7 as document 02's Req 05 has it, the worked case, and what these say of other templates: one list under one theorem.
 -- A size is given by its bits.
-use Rattle.std.specs.Prelude.{ℕ, Bool, true, ◌&&◌, T, List, [], ◌∷◌, ◌==◌, Float}
+use Rattle.std.specs.Prelude.{ℕ, Bool, true, ◌&&◌, T, List, [], ◌∷◌, ◌==◌, Float, Option, Some, None}
 use Rattle.std.specs.Float.{binary32}
 use Rattle.std.specs.Float.Ieee.{of_bits, add, sub, mul, div, lt, of_int}
 use Rattle.sizing.specs.declared.MinMax.{MinMax}
@@ -10,8 +10,6 @@ use Rattle.template_rules.specs.Template.{Component}
 use Rattle.template_rules.specs.Explicit.{explicit_size_of}
 use Rattle.template_rules.specs.declared.RepetitionCount.{RepetitionCount}
 use Rattle.template_rules.specs.declared.RepetitionCount.TheVariants.{Single, Count, AutoFill, AutoFit}
-use Rattle.template_rules.specs.declared.InnerSize.{InnerSize}
-use Rattle.template_rules.specs.declared.InnerSize.TheVariants.{Definite, Indefinite}
 use Rattle.template_rules.specs.declared.AutoRepeatStrategy.{AutoRepeatStrategy}
 use Rattle.template_rules.specs.declared.AutoRepeatStrategy.TheVariants.{MaxRepetitionsThatDoNotOverflow, MinRepetitionsThatDoOverflow}
 
@@ -43,8 +41,8 @@ hundred = 0x42c8_0000
 abbrev tenth : ℕ
 tenth = 0x3dcc_cccd
 
-abbrev inner : ℕ → InnerSize
-inner b = Definite (f32 b)
+abbrev inner : ℕ → Option Float
+inner b = Some (f32 b)
 
 abbrev rule_max : AutoRepeatStrategy
 rule_max = MaxRepetitionsThatDoNotOverflow
@@ -66,14 +64,14 @@ abbrev wide : Sizing
 wide = Length (f32 hundred)
 
 pub record Case : Type 0 where
-  pub inner : InnerSize
+  pub inner : Option Float
   pub strategy : AutoRepeatStrategy
   pub gap : Sizing
   pub areas : ℕ
   pub template : List Component
   pub answer : ℕ × ℕ × ℕ × ℕ
 
-abbrev case : InnerSize → AutoRepeatStrategy → Sizing → ℕ → List Component → ℕ × ℕ × ℕ × ℕ → Case
+abbrev case : Option Float → AutoRepeatStrategy → Sizing → ℕ → List Component → ℕ × ℕ × ℕ × ℕ → Case
 case i r g a t n = record { inner = i; strategy = r; gap = g; areas = a; template = t; answer = n }
 
 -- answers: refusal's number, repetitions, template count, explicit count
@@ -86,7 +84,7 @@ cases =
     ∷ case (inner 0x439f_8000) rule_min (Length (f32 ten)) 0 (fill wide) (0, 3, 3, 3)
     -- M6: inner 99, or none: 1
     ∷ case (inner 0x42c6_0000) rule_max (Length (f32 ten)) 0 (fill wide) (0, 1, 1, 1)
-    ∷ case Indefinite rule_max (Length (f32 ten)) 0 (fill wide) (0, 1, 1, 1)
+    ∷ case None rule_max (Length (f32 ten)) 0 (fill wide) (0, 1, 1, 1)
     -- M7: length 0, gap 0, inner 10: 10; inner 0: 1
     ∷ case (inner ten) rule_max (Length (f32 zero)) 0 (fill (Length (f32 zero))) (0, 10, 10, 10)
     ∷ case (inner zero) rule_max (Length (f32 zero)) 0 (fill (Length (f32 zero))) (0, 1, 1, 1)

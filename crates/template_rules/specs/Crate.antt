@@ -1,6 +1,6 @@
 -- The explicit size with the crate's sum of one repetition, in which no track is raised to 1. No contract cites it: it says where the answer still is
 -- the crate's (document 02, Req 05: "repeats whose tracks all measure 1 or more keep equality with the crate").
-use Rattle.std.specs.Prelude.{◌≡◌, ℕ, true, List, map, length, Float}
+use Rattle.std.specs.Prelude.{◌≡◌, ℕ, true, List, map, length, Float, Option}
 use mathlib.Core.List.{Memᴰ}
 use Rattle.std.specs.Float.Ieee.{le}
 use Rattle.sizing.specs.Words.{zero32}
@@ -10,10 +10,8 @@ use Rattle.sizing.specs.declared.MinMax.{MinMax}
 use Rattle.template_rules.specs.Template.{Component}
 use Rattle.template_rules.specs.Counts.{outside_count, automatic_count, before_count, automatic_tracks, any_empty, every_fixed}
 use Rattle.template_rules.specs.Space.{one32, track_space, outside_space}
-use Rattle.template_rules.specs.Explicit.{inner_value, size_from}
-use Rattle.template_rules.specs.declared.InnerSize.{InnerSize}
+use Rattle.template_rules.specs.Explicit.{SizeAnswer, inner_value, size_from}
 use Rattle.template_rules.specs.declared.AutoRepeatStrategy.{AutoRepeatStrategy}
-use Rattle.template_rules.specs.declared.ExplicitSize.{ExplicitSize}
 use Rattle.template_rules.specs.declared.TemplateSummary.{TemplateSummary}
 
 -- the crate's space of one repetition
@@ -36,7 +34,7 @@ crate_meaning_of inner cs =
     }
 
 -- and the explicit size from it
-unfoldable pub crate_size_of : InnerSize → AutoRepeatStrategy → Sizing → ℕ → List Component → ExplicitSize
+unfoldable pub crate_size_of : Option Float → AutoRepeatStrategy → Sizing → ℕ → List Component → SizeAnswer
 unfolding crate_repetition_space
 crate_size_of inner strategy gap areas cs = size_from inner strategy gap areas (length cs) (crate_meaning_of (inner_value inner) cs)
 

@@ -2,7 +2,7 @@
 -- (SHEET.md, Template; SHEET.md, Repetitions).
 -- Sums, leftover and the quotient are document 01's f32 operations (layer 3), and a track in the repeat measures at least 1 px, the floor that CSS
 -- suggests and document 02 takes (Req 05); CssWhole.antt does without the f32 operations, in whole numbers.
-use Rattle.std.specs.Prelude.{◌≡◌, ℕ, ◌+◌, ◌-◌, ◌*◌, ◌<◌, ◌≤◌, true, ◌⊎◌, List, [], length, slice_index_or, Float}
+use Rattle.std.specs.Prelude.{◌≡◌, ℕ, ◌+◌, ◌-◌, ◌*◌, ◌<◌, ◌≤◌, true, ◌⊎◌, List, [], length, slice_index_or, Float, Option, Some, None}
 use mathlib.Core.List.{Memᴰ}
 use Rattle.std.specs.Float.Ieee.{lt}
 use Rattle.sizing.specs.Definite.{is_fixed, gap_of}
@@ -14,8 +14,6 @@ use Rattle.template_rules.specs.Exact.{AtMost, AtLeast}
 use Rattle.template_rules.specs.Summary.{meaning_of}
 use Rattle.template_rules.specs.Repetitions.{first_space, quotient}
 use Rattle.template_rules.specs.declared.RepetitionCount.TheVariants.{Single, Count}
-use Rattle.template_rules.specs.declared.InnerSize.{InnerSize}
-use Rattle.template_rules.specs.declared.InnerSize.TheVariants.{Definite, Indefinite}
 use Rattle.template_rules.specs.declared.AutoRepeatStrategy.{AutoRepeatStrategy}
 use Rattle.template_rules.specs.declared.AutoRepeatStrategy.TheVariants.{MaxRepetitionsThatDoNotOverflow, MinRepetitionsThatDoOverflow}
 
@@ -70,12 +68,12 @@ BeginsAfter cs n = before_count cs + n * length (automatic_tracks cs) < 10000
 -- the number of repetitions where the limit leaves any: "the largest positive whole number that does not make the grid overflow", as far as
 -- repetitions begin inside the limit; "the smallest positive whole number that reaches" the size, or the last that begins inside the limit;
 -- "without either: 1"
-abbrev pub Wanted : InnerSize → AutoRepeatStrategy → Sizing → List Component → ℕ → Type 0
-Wanted (Definite x) MaxRepetitionsThatDoNotOverflow gap cs = Largest (λ (n : ℕ). (1 ≤ n) × BeginsAfter cs (n - 1) × Fits x (gap_of gap x) cs n)
-Wanted (Definite x) MinRepetitionsThatDoOverflow gap cs = Smallest (λ (n : ℕ). (1 ≤ n) × (Reaches x (gap_of gap x) cs n ⊎ (BeginsAfter cs n → ⊥)))
-Wanted Indefinite strategy gap cs = λ (n : ℕ). n ≡ 1
+abbrev pub Wanted : Option Float → AutoRepeatStrategy → Sizing → List Component → ℕ → Type 0
+Wanted (Some x) MaxRepetitionsThatDoNotOverflow gap cs = Largest (λ (n : ℕ). (1 ≤ n) × BeginsAfter cs (n - 1) × Fits x (gap_of gap x) cs n)
+Wanted (Some x) MinRepetitionsThatDoOverflow gap cs = Smallest (λ (n : ℕ). (1 ≤ n) × (Reaches x (gap_of gap x) cs n ⊎ (BeginsAfter cs n → ⊥)))
+Wanted None strategy gap cs = λ (n : ℕ). n ≡ 1
 
 -- the number of automatic repetitions; none where the tracks before the repeat fill the grid
-pub record Repetitions (inner : InnerSize) (strategy : AutoRepeatStrategy) (gap : Sizing) (cs : List Component) (n : ℕ) : Type 0 where
+pub record Repetitions (inner : Option Float) (strategy : AutoRepeatStrategy) (gap : Sizing) (cs : List Component) (n : ℕ) : Type 0 where
   pub full : 10000 ≤ before_count cs → n ≡ 0
   pub wanted : before_count cs < 10000 → Wanted inner strategy gap cs n

@@ -1,7 +1,7 @@
 -- CSS Grid Level 2, 7.2, automatic repeats, in whole numbers: the tracks as written out, added up with one gap between each two, against the inner size
 -- (SHEET.md, Repetitions).
 -- Of document 01's rule only the limit of 10,000 tracks stands here: no sum of a part, no count of gaps, no leftover, no quotient.
-use Rattle.std.specs.Prelude.{◌≡◌, ℕ, zero, suc, ◌+◌, ◌-◌, ◌*◌, ◌/◌, ◌%◌, ◌<◌, ◌≤◌, min, max, false, cond, T, List, [], ◌∷◌, ◌++◌, map, length, Float}
+use Rattle.std.specs.Prelude.{◌≡◌, ℕ, zero, suc, ◌+◌, ◌-◌, ◌*◌, ◌/◌, ◌%◌, ◌<◌, ◌≤◌, min, max, false, cond, T, List, [], ◌∷◌, ◌++◌, map, length, Float, Option, Some, None}
 use mathlib.Core.List.{Memᴰ}
 use Rattle.std.specs.Float.{nan, inf, fin, binary32}
 use Rattle.std.specs.Float.Ieee.{up, down, mul}
@@ -14,8 +14,6 @@ use Rattle.template_rules.specs.Template.{Component}
 use Rattle.template_rules.specs.Css.{Automatic, Largest, Smallest}
 use Rattle.template_rules.specs.declared.RepetitionCount.{RepetitionCount}
 use Rattle.template_rules.specs.declared.RepetitionCount.TheVariants.{Single, Count, AutoFill, AutoFit}
-use Rattle.template_rules.specs.declared.InnerSize.{InnerSize}
-use Rattle.template_rules.specs.declared.InnerSize.TheVariants.{Definite, Indefinite}
 use Rattle.template_rules.specs.declared.AutoRepeatStrategy.{AutoRepeatStrategy}
 use Rattle.template_rules.specs.declared.AutoRepeatStrategy.TheVariants.{MaxRepetitionsThatDoNotOverflow, MinRepetitionsThatDoOverflow}
 
@@ -116,10 +114,10 @@ abbrev pub FewestThatReach : ℕ → (ℕ → ℕ) → ℕ → Type 0
 FewestThatReach inner extent n = Smallest (λ (m : ℕ). (1 ≤ m) × (inner ≤ extent m)) n
 
 -- CSS's number, without any limit; "without either: 1"
-abbrev pub CssCount : InnerSize → AutoRepeatStrategy → Sizing → List Component → ℕ → Type 0
-CssCount (Definite x) MaxRepetitionsThatDoNotOverflow gap cs = MostThatFit (number_of x) (grid_extent x gap cs)
-CssCount (Definite x) MinRepetitionsThatDoOverflow gap cs = FewestThatReach (number_of x) (grid_extent x gap cs)
-CssCount Indefinite strategy gap cs = λ (n : ℕ). n ≡ 1
+abbrev pub CssCount : Option Float → AutoRepeatStrategy → Sizing → List Component → ℕ → Type 0
+CssCount (Some x) MaxRepetitionsThatDoNotOverflow gap cs = MostThatFit (number_of x) (grid_extent x gap cs)
+CssCount (Some x) MinRepetitionsThatDoOverflow gap cs = FewestThatReach (number_of x) (grid_extent x gap cs)
+CssCount None strategy gap cs = λ (n : ℕ). n ≡ 1
 
 -- document 01's limit, with p tracks before the repeat and k in it: "held to 1..ceiling((10,000 − p) / k)"
 abbrev pub held_to : ℕ → ℕ → ℕ → ℕ
@@ -141,7 +139,7 @@ abbrev pub tracks_in : (cs : List Component) → RepeatIn cs → ℕ
 tracks_in cs r = length r.repeat.tracks
 
 -- n is CSS's number, held to the limit
-pub record WholeRepetitions (inner : InnerSize) (strategy : AutoRepeatStrategy) (gap : Sizing) (cs : List Component) (r : RepeatIn cs) (n : ℕ) : Type 0 where
+pub record WholeRepetitions (inner : Option Float) (strategy : AutoRepeatStrategy) (gap : Sizing) (cs : List Component) (r : RepeatIn cs) (n : ℕ) : Type 0 where
   pub wanted : ℕ
   pub css : CssCount inner strategy gap cs wanted
   pub held : n ≡ held_to (tracks_before cs r) (tracks_in cs r) wanted
@@ -163,6 +161,6 @@ pub record WholeSizes (x : Float) (g : Sizing) (cs : List Component) : Type 0 wh
   pub sizes : (c : Component) → Memᴰ c cs → (t : MinMax) → Memᴰ t c.tracks → IsWholeIn x t.min × IsWholeIn x t.max
 
 -- without an inner size no size counts
-abbrev pub WholeIn : InnerSize → Sizing → List Component → Type 0
-WholeIn (Definite x) gap cs = WholeSizes x gap cs
-WholeIn Indefinite gap cs = Unit {0}
+abbrev pub WholeIn : Option Float → Sizing → List Component → Type 0
+WholeIn (Some x) gap cs = WholeSizes x gap cs
+WholeIn None gap cs = Unit {0}

@@ -1,13 +1,11 @@
 -- How often the automatic repeat is written out (document 01, layer 3), from what a template adds up to.
-use Rattle.std.specs.Prelude.{ℕ, ◌+◌, ◌-◌, ◌/◌, min, max, cond, nat_le, Float}
+use Rattle.std.specs.Prelude.{ℕ, ◌+◌, ◌-◌, ◌/◌, min, max, cond, nat_le, Float, Option, Some, None}
 use Rattle.std.specs.Float.{binary32}
 use Rattle.std.specs.Float.Ieee.{add, sub, mul, div, lt}
 use Rattle.sizing.specs.Definite.{gap_of}
 use Rattle.sizing.specs.declared.Sizing.{Sizing}
 use Rattle.template_rules.specs.Whole.{largest_count, floor_of, ceiling_of}
 use Rattle.template_rules.specs.Space.{whole32}
-use Rattle.template_rules.specs.declared.InnerSize.{InnerSize}
-use Rattle.template_rules.specs.declared.InnerSize.TheVariants.{Definite, Indefinite}
 use Rattle.template_rules.specs.declared.AutoRepeatStrategy.{AutoRepeatStrategy}
 use Rattle.template_rules.specs.declared.AutoRepeatStrategy.TheVariants.{MaxRepetitionsThatDoNotOverflow, MinRepetitionsThatDoOverflow}
 use Rattle.template_rules.specs.declared.TemplateSummary.{TemplateSummary}
@@ -46,9 +44,9 @@ unfolding floor_of ceiling_of
 fitting_of strategy inner gap s = cond (lt inner (first_space s gap)) 1 (one_more (whole_of strategy (quotient s inner gap)))
 
 -- "no inner size gives 1"
-abbrev pub wanted_of : InnerSize → AutoRepeatStrategy → Sizing → TemplateSummary → ℕ
-wanted_of (Definite inner) strategy gap s = fitting_of strategy inner (gap_of gap inner) s
-wanted_of Indefinite strategy gap s = 1
+abbrev pub wanted_of : Option Float → AutoRepeatStrategy → Sizing → TemplateSummary → ℕ
+wanted_of (Some inner) strategy gap s = fitting_of strategy inner (gap_of gap inner) s
+wanted_of None strategy gap s = 1
 
 -- "held to 1..ceiling((10,000 − p) / k), or is 0 where p ≥ 10,000"
 abbrev pub room : ℕ → ℕ → ℕ
@@ -57,6 +55,6 @@ room p k = (10000 - p + k - 1) / k
 unfoldable pub held_of : ℕ → ℕ → ℕ → ℕ
 held_of p k n = cond (nat_le 10000 p) 0 (max 1 (min n (room p k)))
 
-unfoldable pub repetitions_of : InnerSize → AutoRepeatStrategy → Sizing → TemplateSummary → ℕ
+unfoldable pub repetitions_of : Option Float → AutoRepeatStrategy → Sizing → TemplateSummary → ℕ
 unfolding fitting_of held_of
 repetitions_of inner strategy gap s = held_of s.before s.repeated (wanted_of inner strategy gap s)

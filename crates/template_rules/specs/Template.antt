@@ -2,6 +2,7 @@
 use Rattle.std.specs.Prelude.{ℕ, zero, suc, ◌/◌, ◌%◌, cond, List, [], ◌∷◌, map, ◌==◌, slice_index}
 use Rattle.sizing.specs.Words.{min_max_of}
 use Rattle.sizing.specs.declared.MinMax.{MinMax}
+use Rattle.template_rules.specs.declared.Template.{Template}
 use Rattle.template_rules.specs.declared.RepetitionCount.{RepetitionCount}
 use Rattle.template_rules.specs.declared.RepetitionCount.TheVariants.{Single, Count, AutoFill, AutoFit}
 use Rattle.template_rules.specs.declared.GridTemplateComponent.{GridTemplateComponent}
@@ -44,3 +45,7 @@ with_tracks minimums maximums c = record { count = c.count; tracks = tracks_from
 unfoldable pub template_of : List ℕ → List ℕ → List ℕ → List Component
 unfolding component_of tracks_from
 template_of words minimums maximums = map (λ (w : ℕ). with_tracks minimums maximums (component_of w)) words
+
+-- the template of a struct of the three
+abbrev pub components_of : Template → List Component
+components_of t = template_of t.components.now t.minimums.now t.maximums.now

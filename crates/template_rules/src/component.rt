@@ -25,17 +25,15 @@ pub fn component_of(word: u64) -> GridTemplateComponent
     let kind = word / 0x1_0000 % 4;
     let count = count_of(kind, word % 0x1_0000);
     let first = word / 0x1_0000_0000 % 0x1_0000;
-    if kind == 0 {
-        return GridTemplateComponent {
-            count,
-            first,
-            length: 1,
-        };
-    }
+    let length = if kind == 0 {
+        1
+    } else {
+        word / 0x1_0000_0000_0000
+    };
     GridTemplateComponent {
         count,
         first,
-        length: word / 0x1_0000_0000_0000,
+        length,
     }
 }
 
@@ -43,11 +41,7 @@ pub fn component_of(word: u64) -> GridTemplateComponent
 pub fn word_at(words: &[u64], place: u64) -> u64
     ensures { result ≡ slice_index words.now place }
 {
-    let at = place as usize;
-    if at < words.len() {
-        return words[at];
-    }
-    0
+    words.get(place as usize).copied().unwrap_or(0)
 }
 
 // The track at a place of the tables of minimum and maximum sizes.

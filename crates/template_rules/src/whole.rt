@@ -10,7 +10,7 @@ pub fn floor_to_u32(x: f32) -> u32
         if x < 4294967296.0 {
             return std::num::truncating_f32_to_u64(x) as u32;
         }
-        return 4294967295;
+        return u32::MAX;
     }
     0
 }

@@ -1,22 +1,21 @@
 // What one walk over a template gathers: its validity, its counts and its sums of f32, in template order.
 ghost use Rattle.std.specs.Prelude.{◌≡◌, cond, ◌≤◌, eqb, leb, length};
-ghost use Rattle.template_rules.specs.Template.{with_tracks, template_of};
+ghost use Rattle.template_rules.specs.Template.{with_tracks, components_of};
 ghost use Rattle.template_rules.specs.Summary.{meaning_of, no_components, steps_inside, first_part};
 ghost use Rattle.template_rules.specs.Steps.{outside_step, automatic_step, step_by, summary_step, cut_after};
 ghost use Rattle.template_rules.specs.Bounds.{OfWord, Gathered};
 
 use crate::tracks::component_totals;
 use template_rules::component::component_of;
-use template_rules::{GridTemplateComponent, RepetitionCount, TemplateSummary, TrackTotals};
+use template_rules::{
+    GridTemplateComponent, RepetitionCount, Template, TemplateSummary, TrackTotals,
+};
 
 // How many of these tracks lie before the automatic repeat: none once there is one.
 fn tracks_before(automatic: u64, tracks: u64) -> u64
     ensures { result ≡ cond (eqb automatic 0) tracks 0 }
 {
-    if automatic == 0 {
-        return tracks;
-    }
-    0
+    if automatic == 0 { tracks } else { 0 }
 }
 
 // The step for a component outside the automatic repeat.
@@ -31,14 +30,12 @@ fn add_outside(
     ensures { result ≡ outside_step summary empty fixed tracks space }
 {
     TemplateSummary {
-        empty: summary.empty | empty,
-        fixed: summary.fixed & fixed,
-        automatic: summary.automatic,
+        empty: summary.empty || empty,
+        fixed: summary.fixed && fixed,
         outside: summary.outside + tracks,
         before: summary.before + tracks_before(summary.automatic, tracks),
-        repeated: summary.repeated,
         used: summary.used + space,
-        once: summary.once,
+        ..summary
     }
 }
 
@@ -47,27 +44,20 @@ fn add_automatic(summary: TemplateSummary, tracks: u64, totals: TrackTotals) -> 
     requires { summary.automatic ≤ 64 }
     ensures { result ≡ automatic_step summary tracks totals }
 {
-    if summary.automatic == 0 {
-        return TemplateSummary {
-            empty: summary.empty | (tracks == 0),
-            fixed: summary.fixed & totals.fixed,
-            automatic: summary.automatic + 1,
-            outside: summary.outside,
-            before: summary.before,
-            repeated: tracks,
-            used: summary.used + 0.0,
-            once: totals.space,
-        };
+    let summary = TemplateSummary {
+        empty: summary.empty || tracks == 0,
+        fixed: summary.fixed && totals.fixed,
+        automatic: summary.automatic + 1,
+        used: summary.used + 0.0,
+        ..summary
+    };
+    if summary.automatic > 1 {
+        return summary;
     }
     TemplateSummary {
-        empty: summary.empty | (tracks == 0),
-        fixed: summary.fixed & totals.fixed,
-        automatic: summary.automatic + 1,
-        outside: summary.outside,
-        before: summary.before,
-        repeated: summary.repeated,
-        used: summary.used + 0.0,
-        once: summary.once,
+        repeated: tracks,
+        once: totals.space,
+        ..summary
     }
 }
 
@@ -80,18 +70,18 @@ fn add_totals(
     requires { Gathered 64 summary × OfWord component }
     ensures { result ≡ step_by summary component.count component.length totals }
 {
-    let count = component.count;
     let length = component.length;
-    match count {
+    match component.count {
         RepetitionCount::Single => add_outside(summary, false, totals.fixed, 1, totals.space),
         RepetitionCount::Count(times) => {
             let factor = times as f32;
             let space = totals.space * factor;
-            let empty = (length == 0) | (times == 0);
+            let empty = length == 0 || times == 0;
             add_outside(summary, empty, totals.fixed, times * length, space)
         }
-        RepetitionCount::AutoFill => add_automatic(summary, length, totals),
-        RepetitionCount::AutoFit => add_automatic(summary, length, totals),
+        RepetitionCount::AutoFill | RepetitionCount::AutoFit => {
+            add_automatic(summary, length, totals)
+        }
     }
 }
 
@@ -99,14 +89,13 @@ fn add_totals(
 fn add_component(
     summary: TemplateSummary,
     component: GridTemplateComponent,
-    minimums: &[u64],
-    maximums: &[u64],
+    template: Template<'_>,
     inner: f32,
 ) -> TemplateSummary
     requires { Gathered 64 summary × OfWord component }
-    ensures { result ≡ summary_step inner summary (with_tracks minimums.now maximums.now component) }
+    ensures { result ≡ summary_step inner summary (with_tracks template.entry.minimums.now template.entry.maximums.now component) }
 {
-    let totals = component_totals(minimums, maximums, component, inner);
+    let totals = component_totals(template, component, inner);
     add_totals(summary, component, totals)
 }
 
@@ -114,12 +103,9 @@ fn add_component(
 fn steps_inside(component: GridTemplateComponent) -> u64
     ensures { result ≡ steps_inside component.count component.length }
 {
-    let count = component.count;
-    match count {
+    match component.count {
         RepetitionCount::Single => 0,
-        RepetitionCount::Count(_) => component.length,
-        RepetitionCount::AutoFill => component.length,
-        RepetitionCount::AutoFit => component.length,
+        _ => component.length,
     }
 }
 
@@ -128,11 +114,9 @@ fn first_tracks(component: GridTemplateComponent, steps: u64) -> GridTemplateCom
     ensures { result ≡ cut_after steps component }
 {
     if steps < steps_inside(component) {
-        let count = component.count;
         return GridTemplateComponent {
-            count,
-            first: component.first,
             length: steps,
+            ..component
         };
     }
     component
@@ -140,14 +124,8 @@ fn first_tracks(component: GridTemplateComponent, steps: u64) -> GridTemplateCom
 
 // The one walk over a template, for so many steps: one for each component, and one for each track in a repeat. It may end inside a
 // repeat, whose tracks so far then count. Of more than 64 components none is walked.
-pub fn template_summary(
-    components: &[u64],
-    minimums: &[u64],
-    maximums: &[u64],
-    inner: f32,
-    steps: u64,
-) -> TemplateSummary
-    ensures { (result ≡ cond (leb (length components.now) 64) (meaning_of inner (first_part steps (template_of components.now minimums.now maximums.now))) no_components) × Gathered 64 result }
+pub fn template_summary(template: Template<'_>, inner: f32, steps: u64) -> TemplateSummary
+    ensures { (result ≡ cond (leb (length template.entry.components.now) 64) (meaning_of inner (first_part steps (components_of template.entry))) no_components) × Gathered 64 result }
 {
     let mut summary = TemplateSummary {
         empty: false,
@@ -159,19 +137,17 @@ pub fn template_summary(
         used: 0.0,
         once: 0.0,
     };
-    if components.len() > 64 {
+    if template.components.len() > 64 {
         return summary;
     }
-    let mut i = 0usize;
     let mut left = steps;
-    while i < components.len() {
+    for word in template.components {
         if left == 0 {
             return summary;
         }
-        let component = first_tracks(component_of(components[i]), left - 1);
-        summary = add_component(summary, component, minimums, maximums, inner);
+        let component = first_tracks(component_of(*word), left - 1);
+        summary = add_component(summary, component, template, inner);
         left = left - 1 - steps_inside(component);
-        i += 1;
     }
     summary
 }

@@ -1,5 +1,6 @@
 -- Laws of texts that are cut at a separator, and of numbers as a sheet writes them.
 pub mod Laws
+pub mod Library
 pub mod Cut
 pub mod Which
 pub mod Places

@@ -1,41 +1,34 @@
 -- What the code's steps answer: digits are held at 2^32. The laws of the proofs make the hold vanish.
-use Rattle.std.specs.Prelude.{ℕ, suc, ◌-◌, min, cond, eqb, ltb, pos, negsuc}
+use Rattle.std.specs.Prelude.{ℕ, suc, ◌-◌, min, cond, ltb, Bool, true, false, ℤ, pos, negsuc, Option, Some, None, Result, Ok, Err}
 use Rattle.text.specs.Whole.{Natural, bad, number, Written, none, whole}
-use Rattle.text.specs.declared.Count.{Count}
-use Rattle.text.specs.declared.Count.TheVariants.{Unread as Unread-as-Count, Outside as Outside-as-Count, Value as Value-as-Count}
-use Rattle.text.specs.declared.Index.{Index}
-use Rattle.text.specs.declared.Index.TheVariants.{Unread as Unread-as-Index, Outside as Outside-as-Index, Value as Value-as-Index}
-use Rattle.text.specs.declared.whole.Digits.{Digits}
-use Rattle.text.specs.declared.whole.Digits.TheVariants.{Bad, Number}
-use Rattle.text.specs.declared.whole.Whole.{Whole}
-use Rattle.text.specs.declared.whole.Whole.TheVariants.{Unread, NonNegative, Negative}
+use Rattle.text.specs.Hexadecimal.{digit_of}
+use Rattle.text.specs.declared.NumberFault.{NumberFault}
+use Rattle.text.specs.declared.NumberFault.TheVariants.{Unread, Outside}
 
 abbrev pub top : ℕ
 top = 4294967296
 
-unfoldable pub held : Natural → Digits
-held bad = Bad
-held (number n) = Number (min top n)
+unfoldable pub held : Natural → Option ℕ
+held bad = None
+held (number n) = Some (min top n)
 
-unfoldable pub held_whole : Written → Whole
-held_whole none = Unread
-held_whole (whole (pos n)) = NonNegative (min top n)
-held_whole (whole (negsuc k)) = Negative (min top (suc k) - 1)
+unfoldable pub held_whole : Written → Option ℤ
+held_whole none = None
+held_whole (whole (pos n)) = Some (pos (min top n))
+held_whole (whole (negsuc k)) = Some (negsuc (min top (suc k) - 1))
 
-abbrev pub non_negative_of : Digits → Whole
-non_negative_of Bad = Unread
-non_negative_of (Number n) = NonNegative n
+-- whether an integer lies below another
+abbrev pub below : ℤ → ℤ → Bool
+below (pos m) (pos n) = ltb m n
+below (pos m) (negsuc n) = false
+below (negsuc m) (pos n) = true
+below (negsuc m) (negsuc n) = ltb n m
 
-abbrev pub negative_of : Digits → Whole
-negative_of Bad = Unread
-negative_of (Number n) = cond (eqb n 0) Unread (Negative (n - 1))
+-- an integer from least to most
+abbrev pub within : ℤ → ℤ → Option ℤ → Result ℤ NumberFault
+within least most None = Err Unread
+within least most (Some z) = cond (below z least) (Err Outside) (cond (below most z) (Err Outside) (Ok z))
 
-abbrev pub count_of : ℕ → ℕ → Whole → Count
-count_of least most Unread = Unread-as-Count
-count_of least most (NonNegative n) = cond (ltb n least) Outside-as-Count (cond (ltb most n) Outside-as-Count (Value-as-Count n))
-count_of least most (Negative k) = Outside-as-Count
-
-abbrev pub index_of : Whole → Index
-index_of Unread = Unread-as-Index
-index_of (NonNegative n) = cond (ltb 32767 n) Outside-as-Index (Value-as-Index (pos n))
-index_of (Negative k) = cond (ltb 32767 k) Outside-as-Index (Value-as-Index (negsuc k))
+-- a hexadecimal digit's number
+abbrev pub hex_digit : ℕ → Option ℕ
+hex_digit b = cond (ltb (digit_of b) 16) (Some (digit_of b)) None

@@ -1,9 +1,7 @@
 -- How a sheet writes a whole number (document 01, panel sheet): decimal digits, `-` before a negative one, no leading zero, no `-0`.
-use Rattle.std.specs.Prelude.{ℕ, zero, suc, ◌+◌, ◌-◌, ◌*◌, List, [], ◌∷◌, cond, eqb, ltb, ℤ, pos, negsuc}
-use Rattle.text.specs.declared.Count.{Count}
-use Rattle.text.specs.declared.Count.TheVariants.{Unread as Unread-as-Count, Outside as Outside-as-Count, Value as Value-as-Count}
-use Rattle.text.specs.declared.Index.{Index}
-use Rattle.text.specs.declared.Index.TheVariants.{Unread as Unread-as-Index, Outside as Outside-as-Index, Value as Value-as-Index}
+use Rattle.std.specs.Prelude.{ℕ, zero, suc, ◌+◌, ◌-◌, ◌*◌, List, [], ◌∷◌, cond, eqb, ltb, ℤ, pos, negsuc, Result, Ok, Err}
+use Rattle.text.specs.declared.NumberFault.{NumberFault}
+use Rattle.text.specs.declared.NumberFault.TheVariants.{Unread, Outside}
 
 -- what digits write: nothing, or a number
 pub data Natural : Type 0 where
@@ -41,13 +39,13 @@ whole_of [] = none
 whole_of (b ∷ bs) = cond (eqb b 45) (negative (natural_of bs)) (non_negative (natural_of (b ∷ bs)))
 
 -- a whole number from least to most, neither below zero
-unfoldable pub count_in : ℕ → ℕ → Written → Count
-count_in least most none = Unread-as-Count
-count_in least most (whole (pos n)) = cond (ltb n least) Outside-as-Count (cond (ltb most n) Outside-as-Count (Value-as-Count n))
-count_in least most (whole (negsuc k)) = Outside-as-Count
+unfoldable pub count_in : ℕ → ℕ → Written → Result ℕ NumberFault
+count_in least most none = Err Unread
+count_in least most (whole (pos n)) = cond (ltb n least) (Err Outside) (cond (ltb most n) (Err Outside) (Ok n))
+count_in least most (whole (negsuc k)) = Err Outside
 
 -- a whole number from -32,768 to 32,767
-unfoldable pub index_in : Written → Index
-index_in none = Unread-as-Index
-index_in (whole (pos n)) = cond (ltb 32767 n) Outside-as-Index (Value-as-Index (pos n))
-index_in (whole (negsuc k)) = cond (ltb 32767 k) Outside-as-Index (Value-as-Index (negsuc k))
+unfoldable pub index_in : Written → Result ℤ NumberFault
+index_in none = Err Unread
+index_in (whole (pos n)) = cond (ltb 32767 n) (Err Outside) (Ok (pos n))
+index_in (whole (negsuc k)) = cond (ltb 32767 k) (Err Outside) (Ok (negsuc k))

@@ -10,10 +10,10 @@ use crate::split::find;
 pub const FIELDS: usize = 14;
 
 // The starts of so many fields, and of the one that would come after them.
-pub const STARTS: usize = 15;
+pub const STARTS: usize = FIELDS + 1;
 
 // A part of a text.
-#[derive(Clone, Copy)]
+#[derive(Clone, Copy, Debug, PartialEq, Eq)]
 pub struct Place {
     pub offset: usize,
     pub length: usize,
@@ -44,16 +44,6 @@ pub fn cut_parts(s: &[u8], b: u8, starts: &mut [usize]) -> usize
     count
 }
 
-// How far a field reaches that starts at `start`, where the next starts at `next`: to the separator before it.
-fn reach(start: usize, next: usize) -> usize
-    ensures { result ≡ next - start - 1 }
-{
-    if start < next {
-        return next - start - 1;
-    }
-    0
-}
-
 // Where field k lies; the empty place past the fields that are kept.
 pub fn field_place(starts: &[usize; STARTS], k: usize) -> Place
     ensures { result ≡ place_by starts.now k }
@@ -68,7 +58,7 @@ pub fn field_place(starts: &[usize; STARTS], k: usize) -> Place
     let next = starts[k + 1];
     Place {
         offset: start,
-        length: reach(start, next),
+        length: next.saturating_sub(start).saturating_sub(1),
     }
 }
 
@@ -76,17 +66,8 @@ pub fn field_place(starts: &[usize; STARTS], k: usize) -> Place
 pub fn part_at(s: &[u8], place: Place) -> &[u8]
     ensures { result.now ≡ part_at s.now place }
 {
-    let first = place.offset;
-    let end = s.len();
-    if end <= first {
-        return &s[end..end];
-    }
-    let length = place.length;
-    if end - first < length {
-        return &s[first..end];
-    }
-    let last = first + length;
-    &s[first..last]
+    let rest = s.get(place.offset..).unwrap_or(&[]);
+    rest.get(..place.length).unwrap_or(rest)
 }
 
 // Field k of a line that is cut at these starts.

@@ -15,25 +15,9 @@ pub use split::{find, part};
 pub use whole::{read_count, read_index};
 pub use words::{equal, find_part};
 
-// A whole number in a range without negative ones: not spelt as one, outside its range, or its value.
-#[derive(Clone, Copy)]
-pub enum Count {
+// Why a field is no whole number of a range: it is not spelt as one, or lies outside.
+#[derive(Clone, Copy, Debug, PartialEq, Eq)]
+pub enum NumberFault {
     Unread,
     Outside,
-    Value(u32),
-}
-
-// A whole number in -32,768..32,767.
-#[derive(Clone, Copy)]
-pub enum Index {
-    Unread,
-    Outside,
-    Value(i32),
-}
-
-// The bits of an f32.
-#[derive(Clone, Copy)]
-pub enum Bits {
-    Unread,
-    Value(u32),
 }

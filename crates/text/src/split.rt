@@ -6,30 +6,13 @@ ghost use Rattle.text.specs.Split.{before, split};
 pub fn find(s: &[u8], at: usize, b: u8) -> usize
     ensures { result ≡ at + before b (drop at s.now) }
 {
-    let mut i = at;
-    while i < s.len() {
-        if s[i] == b {
-            return i;
-        }
-        i += 1;
-    }
-    i
+    let rest = s.get(at..).unwrap_or(&[]);
+    at + rest.iter().position(|x| *x == b).unwrap_or(rest.len())
 }
 
 // Part k of what the separator b cuts s into; empty where there are not so many.
 pub fn part(s: &[u8], b: u8, k: usize) -> &[u8]
     ensures { result.now ≡ get_or (split b s.now) k [] }
 {
-    let mut at: usize = 0;
-    let mut left = k;
-    while 0 < left {
-        let e = find(s, at, b);
-        if e == s.len() {
-            return &s[..0];
-        }
-        at = e + 1;
-        left -= 1;
-    }
-    let e = find(s, at, b);
-    &s[at..e]
+    s.split(|x| *x == b).nth(k).unwrap_or(&[])
 }

@@ -1,154 +1,80 @@
 // Whole numbers. Digits are held at 2^32, which is above every range, so that a number may be as long as it likes.
 ghost use Rattle.std.specs.Prelude.{◌≡◌, ◌+◌, ◌-◌, ◌*◌, ◌≤◌, min};
 ghost use Rattle.text.specs.Whole.{digits_of, natural_of, whole_of, count_in, index_in};
-ghost use Rattle.text.specs.Steps.{top, held, held_whole, non_negative_of, negative_of, count_of, index_of};
+ghost use Rattle.text.specs.Steps.{top, held, held_whole, within};
 
-use crate::{Count, Index};
+use crate::NumberFault;
 
-// What digits write.
-#[derive(Clone, Copy)]
-enum Digits {
-    Bad,
-    Number(u64),
-}
-
-// A whole number by its sign: `Negative(k)` is -(k + 1).
-#[derive(Clone, Copy)]
-enum Whole {
-    Unread,
-    NonNegative(u64),
-    Negative(u64),
-}
+// What digits are held at.
+const TOP: u64 = 4294967296;
 
 // One digit more.
 fn hold(v: u64, b: u8) -> u64
     requires { (v ≤ top) × (48 ≤ b) }
     ensures { result ≡ min top (v * 10 + (b - 48)) }
 {
-    let t = v * 10 + ((b - 48) as u64);
-    if t < 4294967296 { t } else { 4294967296 }
+    (v * 10 + u64::from(b - b'0')).min(TOP)
 }
 
 // The number that decimal digits write.
-fn read_digits(s: &[u8]) -> Digits
+fn read_digits(s: &[u8]) -> Option<u64>
     ensures { result ≡ held (digits_of 0 s.now) }
 {
-    let mut v: u64 = 0;
-    let mut i: usize = 0;
-    while i < s.len() {
-        let b = s[i];
-        if b < 48 {
-            return Digits::Bad;
+    let mut v = 0;
+    for b in s {
+        if !b.is_ascii_digit() {
+            return None;
         }
-        if 57 < b {
-            return Digits::Bad;
-        }
-        v = hold(v, b);
-        i += 1;
+        v = hold(v, *b);
     }
-    Digits::Number(v)
+    Some(v)
 }
 
 // At least one digit, and 0 first only by itself.
-fn natural(s: &[u8]) -> Digits
+#[tactic(auto, using(crate::proofs::Held::naturals))]
+fn natural(s: &[u8]) -> Option<u64>
     ensures { result ≡ held (natural_of s.now) }
 {
-    if s.len() == 0 {
-        return Digits::Bad;
-    }
-    if s.len() == 1 {
-        return read_digits(s);
-    }
-    if s[0] == 48 {
-        return Digits::Bad;
-    }
-    read_digits(s)
-}
-
-fn non_negative(d: Digits) -> Whole
-    ensures { result ≡ non_negative_of d }
-{
-    match d {
-        Digits::Bad => Whole::Unread,
-        Digits::Number(n) => Whole::NonNegative(n),
+    match s {
+        [] | [b'0', _, ..] => None,
+        _ => read_digits(s),
     }
 }
 
-// There is no -0.
-fn negative(d: Digits) -> Whole
-    ensures { result ≡ negative_of d }
-{
-    match d {
-        Digits::Bad => Whole::Unread,
-        Digits::Number(n) => if n == 0 {
-            Whole::Unread
-        } else {
-            Whole::Negative(n - 1)
-        },
-    }
-}
-
-// The whole number that a field writes.
-fn read_whole(s: &[u8]) -> Whole
+// The whole number that a field writes. There is no -0.
+fn read_whole(s: &[u8]) -> Option<i64>
     ensures { result ≡ held_whole (whole_of s.now) }
 {
-    if s.len() == 0 {
-        return Whole::Unread;
-    }
-    if s[0] == 45 {
-        return negative(natural(&s[1..]));
-    }
-    non_negative(natural(s))
-}
-
-fn count_of(w: Whole, least: u32, most: u32) -> Count
-    ensures { result ≡ count_of least most w }
-{
-    match w {
-        Whole::Unread => Count::Unread,
-        Whole::NonNegative(n) => {
-            if n < (least as u64) {
-                return Count::Outside;
-            }
-            if (most as u64) < n {
-                return Count::Outside;
-            }
-            Count::Value(n as u32)
-        }
-        Whole::Negative(_) => Count::Outside,
+    match s {
+        [b'-', digits @ ..] => match natural(digits)? {
+            0 => None,
+            n => Some(-(n as i64)),
+        },
+        _ => Some(natural(s)? as i64),
     }
 }
 
-fn index_of(w: Whole) -> Index
-    ensures { result ≡ index_of w }
+// A whole number in a range.
+fn read_within(s: &[u8], least: i64, most: i64) -> Result<i64, NumberFault>
+    ensures { result ≡ within least most (held_whole (whole_of s.now)) }
 {
-    match w {
-        Whole::Unread => Index::Unread,
-        Whole::NonNegative(n) => {
-            if 32767 < n {
-                return Index::Outside;
-            }
-            Index::Value(n as i32)
-        }
-        Whole::Negative(k) => {
-            if 32767 < k {
-                return Index::Outside;
-            }
-            Index::Value(-1 - (k as i32))
-        }
+    match read_whole(s) {
+        None => Err(NumberFault::Unread),
+        Some(n) if n < least || most < n => Err(NumberFault::Outside),
+        Some(n) => Ok(n),
     }
 }
 
 // A whole number from least to most.
-pub fn read_count(s: &[u8], least: u32, most: u32) -> Count
+pub fn read_count(s: &[u8], least: u32, most: u32) -> Result<u32, NumberFault>
     ensures { result ≡ count_in least most (whole_of s.now) }
 {
-    count_of(read_whole(s), least, most)
+    Ok(read_within(s, i64::from(least), i64::from(most))? as u32)
 }
 
 // A whole number from -32,768 to 32,767.
-pub fn read_index(s: &[u8]) -> Index
+pub fn read_index(s: &[u8]) -> Result<i32, NumberFault>
     ensures { result ≡ index_in (whole_of s.now) }
 {
-    index_of(read_whole(s))
+    Ok(read_within(s, -32768, 32767)? as i32)
 }

@@ -2,8 +2,7 @@
 use Rattle.std.specs.Prelude.{ℕ, cond, ℤ, pos, negsuc, ◌-ℤ◌}
 use Rattle.coordinates.specs.Refusals.{count}
 use Rattle.coordinates.specs.Lines.{outside}
-use Rattle.coordinates.specs.Answers.{count_answer, refused_count}
-use Rattle.coordinates.specs.declared.line.CountAnswer.{CountAnswer}
+use Rattle.coordinates.specs.Answers.{CountAnswer, count_answer, refused_count}
 
 -- the larger of a number and 0
 abbrev pub positive_part : ℤ → ℕ

@@ -6,18 +6,12 @@ ghost use Rattle.track_rules.specs.Records.{item_at};
 pub fn track_collapses(items: &[u8], fit: bool, track: u64) -> bool
     ensures { result ≡ (fit && not (item_at items.now track)) }
 {
-    if fit {
-        return !crate::plan::holds_item(items, track);
-    }
-    false
+    fit && !crate::plan::holds_item(items, track)
 }
 
 // Whether gutter `gutter`, which follows a track, collapses: with that track, and after the last open one.
 pub fn gutter_collapses(collapsed: bool, opened: u64, gutter: u64) -> bool
     ensures { result ≡ (collapsed || leb opened gutter) }
 {
-    if collapsed {
-        return true;
-    }
-    opened <= gutter
+    collapsed || opened <= gutter
 }

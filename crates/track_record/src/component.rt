@@ -10,12 +10,11 @@ pub fn repeated_of(word: u64) -> Repeated
     ensures { result ≡ repeated_of word }
 {
     let component = template_rules::component::component_of(word);
-    let count = component.count;
     Repeated {
         first: component.first,
         length: component.length,
-        source: source_of(count),
-        fit: is_fit(count),
+        source: source_of(component.count),
+        fit: is_fit(component.count),
     }
 }
 
@@ -23,13 +22,10 @@ pub fn repeated_of(word: u64) -> Repeated
 pub fn has_fit(components: &[u64]) -> bool
     ensures { result ≡ has_fit components.now }
 {
-    let mut component = 0;
-    while component < components.len() {
-        let part = repeated_of(components[component]);
-        if part.fit {
+    for word in components {
+        if repeated_of(*word).fit {
             return true;
         }
-        component += 1;
     }
     false
 }

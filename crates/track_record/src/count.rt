@@ -5,21 +5,12 @@ ghost use Rattle.std.specs.Prelude.{◌≡◌, ◌-◌, min};
 pub fn before_end(end: u64, at: u64, left: usize) -> usize
     ensures { result ≡ min (end - at) left }
 {
-    if end <= at {
-        return 0;
-    }
-    if end - at < left as u64 {
-        return (end - at) as usize;
-    }
-    left
+    end.saturating_sub(at).min(left as u64) as usize
 }
 
 // How far a place is past an end.
 pub fn past_end(end: u64, at: u64) -> u64
     ensures { result ≡ at - end }
 {
-    if at < end {
-        return 0;
-    }
-    at - end
+    at.saturating_sub(end)
 }

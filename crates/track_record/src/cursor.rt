@@ -15,8 +15,7 @@ pub fn repeats(count: RepetitionCount, repetitions: u32) -> u64
     match count {
         RepetitionCount::Single => 1,
         RepetitionCount::Count(n) => n,
-        RepetitionCount::AutoFill => repetitions as u64,
-        RepetitionCount::AutoFit => repetitions as u64,
+        RepetitionCount::AutoFill | RepetitionCount::AutoFit => u64::from(repetitions),
     }
 }
 
@@ -25,39 +24,37 @@ pub fn total(word: u64, repetitions: u32) -> u64
     ensures { result ≡ word_total repetitions word }
 {
     let component = template_rules::component::component_of(word);
-    let count = component.count;
-    repeats(count, repetitions) * component.length
+    repeats(component.count, repetitions) * component.length
 }
 
 // The cursor at or past track `at.offset` of the components from `at.component` on.
 pub fn settle(components: &[u64], repetitions: u32, at: Cursor) -> Cursor
     ensures { result ≡ settle_of (drop at.component (word_totals repetitions components.now)) at.component at.offset }
 {
-    let mut component = at.component;
     let mut offset = at.offset;
-    while component < components.len() {
+    for component in at.component..components.len() {
         let tracks = total(components[component], repetitions);
         if offset < tracks {
             return Cursor { component, offset };
         }
         offset -= tracks;
-        component += 1;
     }
-    Cursor { component, offset }
+    Cursor {
+        component: at.component.max(components.len()),
+        offset,
+    }
 }
 
 // The cursor one track further.
 pub fn next(components: &[u64], repetitions: u32, at: Cursor) -> Cursor
     ensures { result ≡ next_of (word_totals repetitions components.now) at }
 {
-    let component = at.component;
-    let offset = at.offset;
-    if offset == 0xffff_ffff_ffff_ffff {
+    if at.offset == u64::MAX {
         return at;
     }
     let further = Cursor {
-        component,
-        offset: offset + 1,
+        component: at.component,
+        offset: at.offset + 1,
     };
     settle(components, repetitions, further)
 }
@@ -66,12 +63,7 @@ pub fn next(components: &[u64], repetitions: u32, at: Cursor) -> Cursor
 pub fn is_fit(count: RepetitionCount) -> bool
     ensures { result ≡ is_fit count }
 {
-    match count {
-        RepetitionCount::Single => false,
-        RepetitionCount::Count(_) => false,
-        RepetitionCount::AutoFill => false,
-        RepetitionCount::AutoFit => true,
-    }
+    matches!(count, RepetitionCount::AutoFit)
 }
 
 // Where the tracks of a component come from.
@@ -79,10 +71,8 @@ pub fn source_of(count: RepetitionCount) -> TrackSource
     ensures { result ≡ source_of count }
 {
     match count {
-        RepetitionCount::Single => TrackSource::Template,
-        RepetitionCount::Count(_) => TrackSource::Template,
-        RepetitionCount::AutoFill => TrackSource::Automatic,
-        RepetitionCount::AutoFit => TrackSource::Automatic,
+        RepetitionCount::Single | RepetitionCount::Count(_) => TrackSource::Template,
+        RepetitionCount::AutoFill | RepetitionCount::AutoFit => TrackSource::Automatic,
     }
 }
 
@@ -90,9 +80,11 @@ pub fn source_of(count: RepetitionCount) -> TrackSource
 pub fn written_track(count: RepetitionCount, size: MinMax) -> WrittenTrack
     ensures { result ≡ written count size }
 {
-    let source = source_of(count);
-    let fit = is_fit(count);
-    WrittenTrack { size, source, fit }
+    WrittenTrack {
+        size,
+        source: source_of(count),
+        fit: is_fit(count),
+    }
 }
 
 // The track at a cursor, an auto track past the end of the template.

@@ -13,7 +13,7 @@ pub mod rule;
 use track_rules::TrackSource;
 
 // Tracks that repeat: the place of the first in the tables of sizes, how many there are, where they come from, and whether `fit` writes them.
-#[derive(Clone, Copy)]
+#[derive(Clone, Copy, Debug, PartialEq, Eq)]
 pub struct Repeated {
     pub first: u64,
     pub length: u64,

@@ -1,4 +1,5 @@
 -- The template's tracks, written out with layer 3's repetitions, are as many as layer 3 counts: so they lie within the explicit count. Assumes nothing.
+use Rattle.std.specs.Prelude.{Float, Option}
 use mathlib.Core.Path.{◌≡◌, refl, ◌∙◌, ap}
 use mathlib.Core.Logic.{⊎_elim}
 use mathlib.Core.Bool.{cond}
@@ -12,7 +13,6 @@ use Rattle.sizing.specs.declared.Sizing.{Sizing}
 use Rattle.template_rules.specs.Css.{Valid}
 use Rattle.template_rules.specs.Summary.{meaning_of}
 use Rattle.template_rules.specs.Explicit.{inner_value, template_size_of, explicit_size_of}
-use Rattle.template_rules.specs.declared.InnerSize.{InnerSize}
 use Rattle.template_rules.specs.declared.AutoRepeatStrategy.{AutoRepeatStrategy}
 use Rattle.template_rules.proofs.Answer.{accepted, size-counted, size-repeated}
 use Rattle.template_rules.proofs.Valid.{one_at_most}
@@ -62,7 +62,7 @@ pub covers : (cs : List Component) (r areas : ℕ) → OneTrackEach cs → autom
 covers cs r areas o z = let e = written_count_lem cs r o z in omega arith
 
 -- of what layer 3 answers for a valid template: where it is not refused, that is with at most 10,000 tracks, all that is written out is explicit
-module _ (inner : InnerSize) (strategy : AutoRepeatStrategy) (gap : Sizing) (areas : ℕ) (cs : List Component) (valid : Valid cs) where
+module _ (inner : Option Float) (strategy : AutoRepeatStrategy) (gap : Sizing) (areas : ℕ) (cs : List Component) (valid : Valid cs) where
   few : automatic_count cs ≤ 1
   few = ⊎_elim (λ (e : automatic_count cs ≡ 0). omega arith) (λ (e : automatic_count cs ≡ 1). omega arith) (one_at_most cs valid)
 

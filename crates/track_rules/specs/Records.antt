@@ -10,7 +10,7 @@ use Rattle.track_rules.specs.declared.WrittenTrack.{WrittenTrack}
 use Rattle.track_rules.specs.declared.TrackSource.{TrackSource}
 use Rattle.track_rules.specs.declared.TrackSource.TheVariants.{Negative, Area, Positive}
 use Rattle.track_rules.specs.declared.AxisTracks.{AxisTracks}
-use Rattle.track_rules.specs.declared.RecordAnswer.{RecordAnswer}
+use Rattle.track_rules.specs.Tracks.{RecordAnswer}
 use Rattle.track_rules.specs.Tracks.{auto_size, zero_grid_track, gutter_of, track_of, refused_record}
 use Rattle.track_rules.specs.Written.{written_out}
 

@@ -1,6 +1,8 @@
 -- Track records (document 01, layer 5).
-use Rattle.std.specs.Prelude.{ℕ, Bool, true, false}
-use Rattle.coordinates.specs.Refusals.{refusal_of}
+use Rattle.std.specs.Prelude.{ℕ, Bool, true, false, Result, Ok, Err}
+use Rattle.coordinates.specs.Refusals.{no_refusal, refusal_of, number_of}
+use Rattle.coordinates.specs.declared.refusal.Refusal.{Refusal}
+use Rattle.coordinates.specs.declared.refusal.Fault.{Fault}
 use Rattle.sizing.specs.Words.{zero32}
 use Rattle.sizing.specs.declared.MinMax.{MinMax}
 use Rattle.sizing.specs.declared.Sizing.{Sizing}
@@ -11,7 +13,6 @@ use Rattle.track_rules.specs.declared.GridTrackKind.TheVariants.{Track, Gutter}
 use Rattle.track_rules.specs.declared.TrackSource.{TrackSource}
 use Rattle.track_rules.specs.declared.TrackSource.TheVariants as Source
 use Rattle.track_rules.specs.declared.WrittenTrack.{WrittenTrack}
-use Rattle.track_rules.specs.declared.RecordAnswer.{RecordAnswer}
 
 abbrev pub zero_size : MinMax
 zero_size = record { min = Length zero32; max = Length zero32 }
@@ -36,6 +37,16 @@ track_of x collapsed = grid_track Track x.source x.size collapsed
 abbrev pub zero_grid_track : GridTrack
 zero_grid_track = grid_track Track Source.Negative zero_size false
 
+-- one record, or a refusal and the zero record
+pub record RecordAnswer : Type 0 where
+  pub refusal : Refusal
+  pub track : GridTrack
+
 -- a refused answer: the number, line 0 and the zero record
 abbrev pub refused_record : ℕ → RecordAnswer
 refused_record number = record { refusal = refusal_of number; track = zero_grid_track }
+
+-- the numbers and values of what a call for one record answers
+abbrev pub answered_record : Result GridTrack Fault → RecordAnswer
+answered_record (Ok track) = record { refusal = no_refusal; track = track }
+answered_record (Err fault) = refused_record (number_of fault)

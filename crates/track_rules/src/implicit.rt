@@ -4,7 +4,7 @@ ghost use Rattle.track_rules.specs.Tracks.{auto_size};
 ghost use Rattle.track_rules.specs.Written.{spares_of};
 ghost use Rattle.track_rules.specs.Records.{implicit, spare_at, negative_at, no_track};
 
-use crate::{TrackSource, WrittenTrack};
+use crate::{SpareSizes, TrackSource, WrittenTrack};
 use sizing::{MinMax, Sizing};
 
 // The size where there are no spare sizes.
@@ -17,52 +17,44 @@ pub fn auto_size() -> MinMax
     }
 }
 
+// A track whose size is a spare one.
+pub fn implicit(source: TrackSource, size: MinMax) -> WrittenTrack
+    ensures { result ≡ implicit source size }
+{
+    WrittenTrack {
+        size,
+        source,
+        fit: false,
+    }
+}
+
 // An auto track, for a place where there is no track.
 pub fn no_track() -> WrittenTrack
     ensures { result ≡ no_track }
 {
-    let size = auto_size();
-    WrittenTrack {
-        size,
-        source: TrackSource::Positive,
-        fit: false,
-    }
+    implicit(TrackSource::Positive, auto_size())
 }
 
 // Spare size `index` of a list that repeats, auto where there is none.
-pub fn spare_at(spare_minimums: &[u64], spare_maximums: &[u64], index: u64) -> MinMax
-    ensures { result ≡ spare_at (spares_of spare_minimums.now spare_maximums.now) index }
+pub fn spare_at(spares: SpareSizes, index: u64) -> MinMax
+    ensures { result ≡ spare_at (spares_of spares.entry.minimums.now spares.entry.maximums.now) index }
 {
-    let length = spare_minimums.len() as u64;
+    let length = spares.minimums.len() as u64;
     if length == 0 {
         return auto_size();
     }
-    template_rules::component::track_at(spare_minimums, spare_maximums, index % length)
+    template_rules::component::track_at(spares.minimums, spares.maximums, index % length)
 }
 
 // Of `count` tracks before the grid, track `index`: the last takes the last spare size.
-pub fn negative_at(
-    spare_minimums: &[u64],
-    spare_maximums: &[u64],
-    count: u16,
-    index: u16,
-) -> WrittenTrack
-    ensures { result ≡ negative_at (spares_of spare_minimums.now spare_maximums.now) count index }
+pub fn negative_at(spares: SpareSizes, count: u16, index: u16) -> WrittenTrack
+    ensures { result ≡ negative_at (spares_of spares.entry.minimums.now spares.entry.maximums.now) count index }
 {
-    let length = spare_minimums.len() as u64;
+    let length = spares.minimums.len() as u64;
     if length == 0 {
-        let size = auto_size();
-        return WrittenTrack {
-            size,
-            source: TrackSource::Negative,
-            fit: false,
-        };
+        return implicit(TrackSource::Negative, auto_size());
     }
     let skipped = length - count as u64 % length;
-    let size = spare_at(spare_minimums, spare_maximums, skipped + index as u64);
-    WrittenTrack {
-        size,
-        source: TrackSource::Negative,
-        fit: false,
-    }
+    let size = spare_at(spares, skipped + index as u64);
+    implicit(TrackSource::Negative, size)
 }

@@ -4,20 +4,20 @@
 
 pub mod grid_track;
 pub mod implicit;
+pub mod number;
 
-use coordinates::Refusal;
 use sizing::{MinMax, Sizing};
 use track_counts::TrackCounts;
 
 // Whether a record is a track or a gutter between tracks.
-#[derive(Clone, Copy)]
+#[derive(Clone, Copy, Debug, PartialEq, Eq)]
 pub enum GridTrackKind {
     Track,
     Gutter,
 }
 
 // Where a record came from: before the grid, a single or counted repeat, an automatic repeat, an area alone, after the grid; or it is a gutter.
-#[derive(Clone, Copy)]
+#[derive(Clone, Copy, Debug, PartialEq, Eq)]
 pub enum TrackSource {
     Negative,
     Template,
@@ -28,7 +28,7 @@ pub enum TrackSource {
 }
 
 // A track record. A collapsed one has both sizes length 0, and keeps its source.
-#[derive(Clone, Copy)]
+#[derive(Clone, Copy, Debug, PartialEq)]
 pub struct GridTrack {
     pub kind: GridTrackKind,
     pub collapsed: bool,
@@ -37,7 +37,7 @@ pub struct GridTrack {
 }
 
 // A track as it is written out, before any collapses, and whether `fit` wrote it.
-#[derive(Clone, Copy)]
+#[derive(Clone, Copy, Debug, PartialEq)]
 pub struct WrittenTrack {
     pub size: MinMax,
     pub source: TrackSource,
@@ -45,36 +45,36 @@ pub struct WrittenTrack {
 }
 
 // What is known of the tracks of an axis before they are written out.
-#[derive(Clone, Copy)]
+#[derive(Clone, Copy, Debug, PartialEq)]
 pub struct AxisTracks {
     pub counts: TrackCounts,
     pub repetitions: u32,
     pub gap: Sizing,
 }
 
-// One record, or a refusal and the zero record.
-#[derive(Clone, Copy)]
-pub struct RecordAnswer {
-    pub refusal: Refusal,
-    pub track: GridTrack,
+// The sizes of the implicit tracks, which repeat: their minimums and their maximums.
+#[derive(Clone, Copy, Debug)]
+pub struct SpareSizes<'a> {
+    pub minimums: &'a [u64],
+    pub maximums: &'a [u64],
 }
 
 // A component of a template, and which of the tracks that it writes.
-#[derive(Clone, Copy)]
+#[derive(Clone, Copy, Debug, PartialEq, Eq)]
 pub struct Cursor {
     pub component: usize,
     pub offset: u64,
 }
 
 // The explicit tracks that the template writes, and one past the last open track.
-#[derive(Clone, Copy)]
+#[derive(Clone, Copy, Debug, PartialEq, Eq)]
 pub struct Plan {
     pub written: u32,
     pub opened: u64,
 }
 
 // What is carried from record to record of an axis: its plan, and the cursor that belongs to the next record.
-#[derive(Clone, Copy)]
+#[derive(Clone, Copy, Debug, PartialEq)]
 pub struct TrackWalk {
     pub axis: AxisTracks,
     pub plan: Plan,

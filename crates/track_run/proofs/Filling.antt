@@ -7,9 +7,13 @@ use mathlib.Core.Logic.{⊎_elim}
 use mathlib.Core.Bool.{Bool, true, false, cond}
 use mathlib.Core.List.{List, [], ◌∷◌, ◌++◌, append_assoc}
 use lib.Dec.{eqb, ltb}
-use lib.ListN.{length, get_or, set, drop, replicate, length-append, length-drop, get_or-append}
+use lib.ListN.{length, get_or, set, take, drop, replicate, length-append, length-drop, drop_of_length-le, get_or-append}
+use Rattle.std.proofs.lemmas.List.{length-take-le}
 use lib.Seq.{drop-cons, set_at}
-use borrow.Author.Tests.{ltb-false, lt-ltb, le-ltb, eq-eqb, ne_eqb}
+use borrow.Author.Tests.{eqb-false, ltb-false, lt-ltb, le-ltb, eq-eqb, ne_eqb}
+use Rattle.std.specs.Prelude.{Ok, Err}
+use Rattle.coordinates.specs.Refusals.{no_refusal, short}
+use Rattle.coordinates.specs.declared.refusal.Fault.{Fault}
 use Rattle.sizing.specs.declared.MinMax.{MinMax}
 use Rattle.template_rules.specs.Template.{Component, template_of}
 use Rattle.track_rules.specs.declared.GridTrack.{GridTrack}
@@ -22,12 +26,13 @@ use Rattle.track_rules.specs.Records.{listed, negative_of, explicit_of, tracks_i
 use Rattle.track_rules.specs.Steps.{totals_of, word_totals, cursor_of, next_of, cursor_at, plan_of, record_of}
 use Rattle.track_rules.specs.Lines.{Stands}
 use Rattle.track_rules.proofs.Lists.{lt_or_ge, length-listed, listed_same}
+use Rattle.track_rules.proofs.Answers.{fault_some}
 use Rattle.track_rules.proofs.Words.{totals_words}
 use Rattle.track_rules.proofs.Cursors.{next-cursor}
 use Rattle.track_rules.proofs.RecordList.{record_same, records-length, record_of_lem}
 use Rattle.track_rules.proofs.Lines.{line_record}
 use Rattle.track_rules.specs.declared.TrackWalk.{TrackWalk}
-use Rattle.track_run.specs.Run.{run_after, zero_records}
+use Rattle.track_run.specs.Run.{FillAnswer, refused_fill, answered_fill, fill_answer_of, run_after, zero_records}
 use Rattle.track_run.specs.Steps.{fill_count, filled_to, state_at, state_record, advance_of}
 
 module _ (a : AxisTracks) (cs : List Component) (item : ℕ → Bool) where
@@ -91,6 +96,44 @@ module _ (a : AxisTracks) (cs : List Component) (sp : List MinMax) (item : ℕ �
       rw (add-one, drop-cons run i (record_of a cs sp item i))
       (set_at (listed (record_of a cs sp item) i) (get_or run i (record_of a cs sp item i)) (drop (suc i) run) (record_of a cs sp item i) i (length-listed (record_of a cs sp item) i)
       ∙ sym (append_assoc (listed (record_of a cs sp item) i) (record_of a cs sp item i ∷ []) (drop (suc i) run)))
+
+-- a refusal has count 0 beside it
+pub refused-none : (n : ℕ) → (refused_fill n).count ≡ 0
+refused-none n = refl
+
+-- an accepted call counts the records that are written
+pub filled-count : (a : AxisTracks) (lent items n : ℕ) → answered_fill (Ok n) ≡ fill_answer_of a lent items → n ≡ fill_count a lent items
+unfolding fill_answer_of fill_count
+filled-count a lent items n e = go (eqb (axis_refusal a) 0) (ltb lent (records_in a)) (ltb items (tracks_in a)) (eqb-false (axis_refusal a) 0) e
+  where
+    go : (w x y : Bool) → (w ≡ false → axis_refusal a ≡ 0 → ⊥) →
+        answered_fill (Ok n) ≡ cond w (cond x (refused_fill short) (cond y (refused_fill short) (record { refusal = no_refusal; count = records_in a }))) (refused_fill (axis_refusal a)) →
+        n ≡ cond w (cond x 0 (cond y 0 (records_in a))) 0
+    go false x y h e = absurd (h refl (sym (ap (λ (u : FillAnswer). u.refusal.number) e)))
+    go true true y h e = let z : ◌≡◌ {A = ℕ} 0 10 = ap (λ (u : FillAnswer). u.refusal.number) e in omega (arith, z)
+    go true false true h e = let z : ◌≡◌ {A = ℕ} 0 10 = ap (λ (u : FillAnswer). u.refusal.number) e in omega (arith, z)
+    go true false false h e = ap (λ (u : FillAnswer). u.count) e
+
+-- a refused call leaves the run
+pub refused-run : (a : AxisTracks) (cs : List Component) (sp : List MinMax) (items : List ℕ) (run : List GridTrack) (fault : Fault) →
+    answered_fill (Err fault) ≡ fill_answer_of a (length run) (length items) → run ≡ run_after a cs sp items run
+unfolding fill_answer_of run_after
+refused-run a cs sp items run fault e = go (eqb (axis_refusal a) 0) (ltb (length run) (records_in a)) (ltb (length items) (tracks_in a)) e
+  where
+    go : (w x y : Bool) →
+        answered_fill (Err fault) ≡ cond w (cond x (refused_fill short) (cond y (refused_fill short) (record { refusal = no_refusal; count = records_in a }))) (refused_fill (axis_refusal a)) →
+        run ≡ cond w (cond x run (cond y run (records_of a cs sp items ++ drop (records_in a) run))) run
+    go false x y e = refl
+    go true true y e = refl
+    go true false true e = refl
+    go true false false e = absurd (fault_some fault (ap (λ (u : FillAnswer). u.refusal.number) e))
+
+-- the part that is written, before the rest of the run
+pub filled-part : (a : AxisTracks) (cs : List Component) (sp : List MinMax) (item : ℕ → Bool) (n : ℕ) (run : List GridTrack) → n ≤ length run →
+    filled_to a cs sp item n (take n run) ++ drop n run ≡ filled_to a cs sp item n run
+filled-part a cs sp item n run h =
+    append_assoc (listed (record_of a cs sp item) n) (drop n (take n run)) (drop n run)
+    ∙ ap (λ (l : List GridTrack). listed (record_of a cs sp item) n ++ (l ++ drop n run)) (drop_of_length-le (take n run) {i = n} (omega (arith, length-take-le n run h)))
 
 -- a count is within the run that is lent
 pub count-within : (a : AxisTracks) (lent items : ℕ) → fill_count a lent items ≤ lent

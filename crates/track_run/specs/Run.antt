@@ -1,17 +1,28 @@
 -- The call that fills a lent run of records (document 01, layer 5 and the table of refusals).
-use Rattle.std.specs.Prelude.{ℕ, cond, List, ◌++◌, eqb, ltb, length, drop, replicate}
-use Rattle.coordinates.specs.Refusals.{no_refusal, refusal_of, short}
+use Rattle.std.specs.Prelude.{ℕ, cond, List, ◌++◌, eqb, ltb, length, drop, replicate, Result, Ok, Err}
+use Rattle.coordinates.specs.Refusals.{no_refusal, refusal_of, number_of, short}
+use Rattle.coordinates.specs.declared.refusal.Refusal.{Refusal}
+use Rattle.coordinates.specs.declared.refusal.Fault.{Fault}
 use Rattle.sizing.specs.declared.MinMax.{MinMax}
 use Rattle.template_rules.specs.Template.{Component}
 use Rattle.track_rules.specs.declared.GridTrack.{GridTrack}
 use Rattle.track_rules.specs.declared.AxisTracks.{AxisTracks}
 use Rattle.track_rules.specs.Tracks.{zero_grid_track}
 use Rattle.track_rules.specs.Records.{tracks_in, records_in, records_of, axis_refusal}
-use Rattle.track_run.specs.declared.FillAnswer.{FillAnswer}
+
+-- how many records were written, or a refusal and 0
+pub record FillAnswer : Type 0 where
+  pub refusal : Refusal
+  pub count : ℕ
 
 -- a refused answer: its number, line 0 and count 0
 abbrev pub refused_fill : ℕ → FillAnswer
 refused_fill number = record { refusal = refusal_of number; count = 0 }
+
+-- the numbers of what the call answers
+abbrev pub answered_fill : Result ℕ Fault → FillAnswer
+answered_fill (Ok count) = record { refusal = no_refusal; count = count }
+answered_fill (Err fault) = refused_fill (number_of fault)
 
 -- the refusal of its axis, 3 or 4; 10 for "lent records below 2N + 1, item bytes below N"; else 2N + 1
 unfoldable pub fill_answer_of : AxisTracks → ℕ → ℕ → FillAnswer

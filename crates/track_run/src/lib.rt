@@ -3,54 +3,34 @@
 #![tactic(auto)]
 
 ghost use Rattle.std.specs.Prelude.{◌≡◌, ◌++◌, length};
-ghost use Rattle.template_rules.specs.Template.{template_of};
+ghost use Rattle.template_rules.specs.Template.{components_of};
 ghost use Rattle.track_rules.specs.Written.{spares_of};
-ghost use Rattle.track_run.specs.Run.{fill_answer_of, run_after};
+ghost use Rattle.track_run.specs.Run.{answered_fill, fill_answer_of, run_after};
 
 pub mod lender;
 pub mod state;
 
-use coordinates::Refusal;
-use track_rules::{AxisTracks, GridTrack};
-
-// How many records were written, or a refusal and 0.
-#[derive(Clone, Copy)]
-pub struct FillAnswer {
-    pub refusal: Refusal,
-    pub count: u32,
-}
+use coordinates::Fault;
+use template_rules::Template;
+use track_rules::{AxisTracks, GridTrack, SpareSizes};
 
 // Writes the records of an axis into a lent run, 2N + 1 of them. Refuses a gap out of range by 3, a count out of range by 4, fewer records and
 // fewer than N item bytes by 10, and writes nothing then.
 pub fn initialize_grid_tracks(
     records: &mut [GridTrack],
-    components: &[u64],
-    minimums: &[u64],
-    maximums: &[u64],
-    spare_minimums: &[u64],
-    spare_maximums: &[u64],
+    template: Template,
+    spares: SpareSizes,
     items: &[u8],
     axis: AxisTracks,
-) -> FillAnswer
-    ensures { (result ≡ fill_answer_of axis (length records.old) (length items.now))
-        × (records.new ≡ run_after axis (template_of components.now minimums.now maximums.now) (spares_of spare_minimums.now spare_maximums.now) items.now records.old) }
+) -> Result<u32, Fault>
+    ensures { (answered_fill result ≡ fill_answer_of axis (length records.old) (length items.now))
+        × (records.new ≡ run_after axis (components_of template.entry) (spares_of spares.entry.minimums.now spares.entry.maximums.now) items.now records.old) }
 {
-    let count = state::fill_count(records.len(), items.len(), axis);
-    let mut at = state::begin(components, minimums, maximums, items, axis);
-    let mut index = 0;
-    while index < count {
-        records[index] = state::record_at(
-            components,
-            minimums,
-            maximums,
-            spare_minimums,
-            spare_maximums,
-            items,
-            at,
-            index,
-        );
-        at = state::advance(components, at, index);
-        index += 1;
+    let count = state::fill_count(records.len(), items.len(), axis)?;
+    let mut at = state::begin_at(template, items, axis, 0);
+    for (index, record) in records[..count as usize].iter_mut().enumerate() {
+        *record = state::record_at(template, spares, items, at, index);
+        at = state::advance(template.components, at, index);
     }
-    state::fill_answer(records.len(), items.len(), axis)
+    Ok(count)
 }

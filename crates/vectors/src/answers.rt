@@ -1,70 +1,46 @@
 // The lines of a panel's answer beside the expected text.
-use crate::expected::seen_part;
+use crate::expected::Expected;
+use crate::tables::Shown;
 use coordinates::Axis;
 use panel_answer::AnswerLine;
 use panel_answer::line::{is_end, next_line, put_line};
-use panel_tables::Grid;
-use panel_tables::region::{PANEL_BYTES, PANEL_WORDS};
 
 // Whether a line stands in the expected text: a cut one has no records.
 fn is_listed(at: AnswerLine, cut: bool) -> bool {
     match at {
-        AnswerLine::Refused(_) => true,
-        AnswerLine::Size(_) => true,
         AnswerLine::Record(_, _, _) => !cut,
-        AnswerLine::Place(_) => true,
         AnswerLine::End => false,
+        _ => true,
     }
 }
 
 // One line.
-fn seen_line(
-    expected: &[u8],
-    seen: usize,
-    grid: Grid,
-    words: &[u64; PANEL_WORDS],
-    bytes: &[u8; PANEL_BYTES],
-    columnstore: &[u8],
-    rowstore: &[u8],
-    at: AnswerLine,
-) -> usize {
+fn seen_line<'a>(expected: Expected<'a>, shown: Shown, at: AnswerLine) -> Expected<'a> {
     let mut line = [0u8; 128];
-    let count = put_line(&mut line, grid, words, bytes, columnstore, rowstore, at);
-    seen_part(expected, seen, &line[..count])
+    let count = put_line(
+        &mut line,
+        shown.grid,
+        shown.words,
+        shown.bytes,
+        shown.columnstore,
+        shown.rowstore,
+        at,
+    );
+    expected.part(&line[..count])
 }
 
 // All lines, of which there are at most 120,260.
-pub fn seen_answer(
-    expected: &[u8],
-    seen: usize,
-    cut: bool,
-    grid: Grid,
-    words: &[u64; PANEL_WORDS],
-    bytes: &[u8; PANEL_BYTES],
-    columnstore: &[u8],
-    rowstore: &[u8],
-) -> usize {
+pub fn seen_answer<'a>(expected: Expected<'a>, cut: bool, shown: Shown) -> Expected<'a> {
     let mut at = AnswerLine::Size(Axis::Column);
-    let mut last = seen;
-    let mut turns: u32 = 0;
-    while turns < 120260 {
+    let mut seen = expected;
+    for _ in 0..120260 {
         if is_end(at) {
-            return last;
+            break;
         }
         if is_listed(at, cut) {
-            last = seen_line(
-                expected,
-                last,
-                grid,
-                words,
-                bytes,
-                columnstore,
-                rowstore,
-                at,
-            );
+            seen = seen_line(seen, shown, at);
         }
-        at = next_line(grid, words, bytes, at);
-        turns += 1;
+        at = next_line(shown.grid, shown.words, shown.bytes, at);
     }
-    last
+    seen
 }

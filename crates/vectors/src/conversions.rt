@@ -1,117 +1,99 @@
 // Rows of conversions: explicit count, grid line, refusal, origin-zero line, the grid line back, and its mark, `y` or `n`; or explicit count, `-`, refusal,
-// origin-zero line, its grid line, and refusal and tracks that it implies before the grid, and after it.
-use crate::input::{after_line, line_at, number_of};
-use coordinates::line::CountAnswer;
+// origin-zero line, its grid line, and refusal and tracks that it implies before the grid, and after it. Beside a refusal stand zeros and `n`.
+use crate::input::{Lines, field, line_of, number_of};
 use coordinates::signed::{joined, split};
-use coordinates::{GridLine, OriginZeroLine};
-use std::num::wrapping_add_u32;
-use text::Index;
-
-// Rows that were compared: how many differ, and where the next line starts.
-#[derive(Clone, Copy)]
-pub struct Rows {
-    pub different: u32,
-    pub next: usize,
-}
+use coordinates::{Fault, GridLine, MarkedLine, OriginZeroLine};
 
 // The whole number that a field writes, 0 where it writes none.
 fn whole_of(field: &[u8]) -> i16 {
-    match text::read_index(field) {
-        Index::Unread => 0,
-        Index::Outside => 0,
-        Index::Value(n) => joined(split(n)),
+    joined(split(line_of(field)))
+}
+
+// The explicit count of a row.
+fn explicit_of(row: &[u8]) -> u16 {
+    (number_of(field(row, 0)) % 65536) as u16
+}
+
+// The number of what an answer is refused by, 0 where it is not.
+fn refusal_of<T: Copy>(answer: Result<T, Fault>) -> u32 {
+    match answer {
+        Ok(_) => 0,
+        Err(fault) => u32::from(fault),
+    }
+}
+
+// The grid line of an origin-zero line, 0 where it is refused.
+fn line_back(line: OriginZeroLine, explicit: u16) -> i16 {
+    match line.into_grid_line(explicit) {
+        Ok(back) => back.0,
+        Err(_) => 0,
     }
 }
 
 // Whether a field writes a mark.
 fn is_mark(held: bool, field: &[u8]) -> bool {
-    if held {
-        return text::equal(field, b"y");
+    match field {
+        b"y" => held,
+        b"n" => !held,
+        _ => false,
     }
-    text::equal(field, b"n")
+}
+
+// Whether a row of a grid line that is converted holds.
+fn is_converted(row: &[u8], there: MarkedLine) -> bool {
+    number_of(field(row, 2)) == 0
+        && there.line.0 == whole_of(field(row, 3))
+        && is_mark(there.held, field(row, 5))
+        && line_back(there.line, explicit_of(row)) == whole_of(field(row, 4))
+}
+
+// Whether a row of a grid line that is refused holds.
+fn is_refused(row: &[u8], fault: Fault) -> bool {
+    number_of(field(row, 2)) == u32::from(fault)
+        && whole_of(field(row, 3)) == 0
+        && is_mark(false, field(row, 5))
 }
 
 // Whether a row of a grid line holds.
 fn is_right(row: &[u8]) -> bool {
-    let explicit = (number_of(text::part(row, 9, 0)) % 65536) as u16;
-    let refusal = number_of(text::part(row, 9, 2));
-    let there = GridLine(whole_of(text::part(row, 9, 1))).into_origin_zero_line(explicit);
-    if there.refusal.number != refusal {
-        return false;
+    let line = GridLine(whole_of(field(row, 1)));
+    match line.into_origin_zero_line(explicit_of(row)) {
+        Ok(there) => is_converted(row, there),
+        Err(fault) => is_refused(row, fault),
     }
-    let line = there.line;
-    if line.0 != whole_of(text::part(row, 9, 3)) {
-        return false;
-    }
-    if !is_mark(there.held, text::part(row, 9, 5)) {
-        return false;
-    }
-    if refusal != 0 {
-        return true;
-    }
-    let back = line.into_grid_line(explicit);
-    let found = back.line;
-    found.0 == whole_of(text::part(row, 9, 4))
 }
 
-// Whether a refusal and a count are those that two fields write.
-fn is_count(answer: CountAnswer, number: &[u8], count: &[u8]) -> bool {
-    let refusal = answer.refusal;
-    if refusal.number != number_of(number) {
-        return false;
-    }
-    answer.count == number_of(count)
+// Whether an answer is the refusal and the count that two fields write.
+fn is_count(answer: Result<u32, Fault>, number: &[u8], count: &[u8]) -> bool {
+    refusal_of(answer) == number_of(number) && answer.unwrap_or(0) == number_of(count)
 }
 
 // Whether a row of an origin-zero line holds.
 fn is_origin_right(row: &[u8]) -> bool {
-    let explicit = (number_of(text::part(row, 9, 0)) % 65536) as u16;
-    let line = OriginZeroLine(whole_of(text::part(row, 9, 3)));
-    let back = line.into_grid_line(explicit);
-    let refusal = back.refusal;
-    let found = back.line;
-    if refusal.number != number_of(text::part(row, 9, 2)) {
-        return false;
-    }
-    if found.0 != whole_of(text::part(row, 9, 4)) {
-        return false;
-    }
+    let explicit = explicit_of(row);
+    let line = OriginZeroLine(whole_of(field(row, 3)));
     let before = line.implied_negative_implicit_tracks();
-    if !is_count(before, text::part(row, 9, 5), text::part(row, 9, 6)) {
-        return false;
-    }
     let after = line.implied_positive_implicit_tracks(explicit);
-    is_count(after, text::part(row, 9, 7), text::part(row, 9, 8))
+    refusal_of(line.into_grid_line(explicit)) == number_of(field(row, 2))
+        && line_back(line, explicit) == whole_of(field(row, 4))
+        && is_count(before, field(row, 5), field(row, 6))
+        && is_count(after, field(row, 7), field(row, 8))
 }
 
 // Whether a row of either kind holds.
 fn is_row_right(row: &[u8]) -> bool {
-    if text::equal(text::part(row, 9, 1), b"-") {
-        return is_origin_right(row);
+    match field(row, 1) {
+        b"-" => is_origin_right(row),
+        _ => is_right(row),
     }
-    is_right(row)
 }
 
-// One more where a row doesn't hold.
-fn counted(row: &[u8], different: u32) -> u32 {
-    if is_row_right(row) {
-        return different;
+// How many of the rows differ.
+pub fn different_rows(rows: Lines) -> u64 {
+    let mut different: u64 = 0;
+    let lines = rows.text.split(|byte| *byte == b'\n');
+    for row in lines.take(rows.count as usize) {
+        different = different.wrapping_add(u64::from(!is_row_right(row)));
     }
-    wrapping_add_u32(different, 1)
-}
-
-// So many rows from a place on.
-pub fn replay_rows(input: &[u8], at: usize, count: u32) -> Rows {
-    let mut place = at;
-    let mut different: u32 = 0;
-    let mut left = count;
-    while 0 < left {
-        different = counted(line_at(input, place), different);
-        place = after_line(input, place);
-        left -= 1;
-    }
-    Rows {
-        different,
-        next: place,
-    }
+    different
 }

@@ -1,12 +1,8 @@
 // What was replayed.
 use std::io;
 use std::io::Write;
-use std::num::wrapping_add_u64;
 
-// How many that differ are named.
-const MOST_NAMED: u64 = 64;
-
-#[derive(Clone, Copy)]
+#[derive(Clone, Copy, Debug, PartialEq, Eq, Default)]
 pub struct Counts {
     pub blocks: u64,
     pub calls: u64,
@@ -15,46 +11,29 @@ pub struct Counts {
     pub different: u64,
 }
 
-// One block more.
-pub fn more_blocks(counts: Counts, calls: u32, questions: u32, same: bool) -> Counts {
-    let mut after = counts;
-    after.blocks = wrapping_add_u64(counts.blocks, 1);
-    after.calls = wrapping_add_u64(counts.calls, calls as u64);
-    after.questions = wrapping_add_u64(counts.questions, questions as u64);
-    if same {
-        return after;
+impl Counts {
+    // One block more.
+    pub fn add_block(&mut self, calls: u32, questions: u32) {
+        self.blocks = self.blocks.wrapping_add(1);
+        self.calls = self.calls.wrapping_add(u64::from(calls));
+        self.questions = self.questions.wrapping_add(u64::from(questions));
     }
-    after.different = wrapping_add_u64(counts.different, 1);
-    after
-}
 
-// So many rows more.
-pub fn more_rows(counts: Counts, rows: u32, different: u32) -> Counts {
-    let mut after = counts;
-    after.rows = wrapping_add_u64(counts.rows, rows as u64);
-    after.different = wrapping_add_u64(counts.different, different as u64);
-    after
-}
-
-fn print_count<W: Write>(out: &mut W, word: &[u8], count: u64) -> io::Result<()> {
-    out.write_all(word)?;
-    writeln!(out, "{count}")
-}
-
-pub fn print_counts<W: Write>(out: &mut W, counts: Counts) -> io::Result<()> {
-    print_count(out, b"blocks\t", counts.blocks)?;
-    print_count(out, b"calls\t", counts.calls)?;
-    print_count(out, b"questions\t", counts.questions)?;
-    print_count(out, b"rows\t", counts.rows)?;
-    print_count(out, b"different\t", counts.different)
-}
-
-// The first line of a block or of a list of rows that differs, where few differ before it.
-pub fn print_different<W: Write>(out: &mut W, counts: Counts, line: &[u8]) -> io::Result<()> {
-    if counts.different < MOST_NAMED {
-        out.write_all(b"differs\t")?;
-        out.write_all(line)?;
-        out.write_all(b"\n")?;
+    // So many rows more.
+    pub fn add_rows(&mut self, rows: u32) {
+        self.rows = self.rows.wrapping_add(u64::from(rows));
     }
-    Ok(())
+
+    // So many more that differ.
+    pub fn add_different(&mut self, different: u64) {
+        self.different = self.different.wrapping_add(different);
+    }
+
+    pub fn print<W: Write>(&self, out: &mut W) -> io::Result<()> {
+        writeln!(out, "blocks\t{}", self.blocks)?;
+        writeln!(out, "calls\t{}", self.calls)?;
+        writeln!(out, "questions\t{}", self.questions)?;
+        writeln!(out, "rows\t{}", self.rows)?;
+        writeln!(out, "different\t{}", self.different)
+    }
 }

@@ -1,63 +1,73 @@
-// An expected text that is compared part by part: the place up to which it is seen, or `DIFFERENT`.
-use coordinates::Refusal;
+// An expected text that is compared part by part.
+use coordinates::{Axis, Fault, Refusal};
+use sheet_rules::Overlap;
 
-// No place of a text.
-pub const DIFFERENT: usize = 18446744073709551615;
+// What is left of an expected text after the parts that it went on with; none once it went on otherwise.
+#[derive(Clone, Copy, Debug, PartialEq, Eq)]
+pub struct Expected<'a> {
+    rest: Option<&'a [u8]>,
+}
 
-// The place after a part, where the text goes on with it.
-pub fn seen_part(expected: &[u8], seen: usize, part: &[u8]) -> usize {
-    if seen <= expected.len() {
-        if part.len() <= expected.len() - seen {
-            let end = seen + part.len();
-            if text::equal(&expected[seen..end], part) {
-                return end;
-            }
+// The text after a part, where it starts with that.
+fn after_part<'a>(text: &'a [u8], part: &[u8]) -> Option<&'a [u8]> {
+    if text.starts_with(part) {
+        return text.get(part.len()..);
+    }
+    None
+}
+
+impl<'a> Expected<'a> {
+    // A text of which nothing was compared.
+    pub fn new(text: &'a [u8]) -> Expected<'a> {
+        Expected { rest: Some(text) }
+    }
+
+    // Whether the text was seen to its end.
+    pub fn is_over(self) -> bool {
+        self.rest.is_some_and(|rest| rest.is_empty())
+    }
+
+    // The text goes on with a part.
+    pub fn part(self, part: &[u8]) -> Expected<'a> {
+        Expected {
+            rest: self.rest.and_then(|rest| after_part(rest, part)),
         }
     }
-    DIFFERENT
-}
 
-// The same for the line of a refusal.
-pub fn seen_refusal(expected: &[u8], seen: usize, refusal: Refusal) -> usize {
-    let mut line = [0u8; 128];
-    let count = panel_text::refused_line(&mut line, refusal);
-    seen_part(expected, seen, &line[..count])
-}
+    // A number, digit after digit, the highest first.
+    pub fn number(self, number: u64) -> Expected<'a> {
+        let digit = [b'0' + (number % 10) as u8];
+        if number < 10 {
+            return self.part(&digit);
+        }
+        self.number(number / 10).part(&digit)
+    }
 
-// The same for a question that is refused by a number.
-pub fn seen_refused(expected: &[u8], seen: usize, number: u32) -> usize {
-    seen_refusal(expected, seen, Refusal { number, line: 0 })
-}
-
-// The same for the pair of areas that share a cell, which has a line where it is not zeros.
-pub fn seen_pair(expected: &[u8], seen: usize, earlier: u32, later: u32) -> usize {
-    if earlier == 0 {
-        if later == 0 {
-            return seen;
+    // The letter of an axis.
+    pub fn axis(self, axis: Axis) -> Expected<'a> {
+        match axis {
+            Axis::Column => self.part(b"c"),
+            Axis::Row => self.part(b"r"),
         }
     }
-    let first = seen_number(
-        expected,
-        seen_part(expected, seen, b"pair\t"),
-        earlier as u64,
-    );
-    let last = seen_number(expected, seen_part(expected, first, b"\t"), later as u64);
-    seen_part(expected, last, b"\n")
-}
 
-// The same for the answer of an entry call.
-pub fn seen_entry(expected: &[u8], seen: usize, refusal: Refusal) -> usize {
-    if refusal.number == 0 {
-        return seen_part(expected, seen, b"entered\t0\t0\n");
+    // The line of a refusal: its fault, and the line of the sheet that has it, 0 for none.
+    pub fn refused(self, fault: Fault, line: u32) -> Expected<'a> {
+        let mut text = [0u8; 128];
+        let number = u32::from(fault);
+        let count = panel_text::refused_line(&mut text, Refusal { number, line });
+        self.part(&text[..count])
     }
-    seen_refusal(expected, seen, refusal)
-}
 
-// The same for a number, digit after digit, the highest first.
-pub fn seen_number(expected: &[u8], seen: usize, number: u64) -> usize {
-    let digit = [48 + (number % 10) as u8];
-    if number < 10 {
-        return seen_part(expected, seen, &digit);
+    // The line of two areas that share a cell, where there are any.
+    pub fn overlap(self, overlap: Option<Overlap>) -> Expected<'a> {
+        let Some(pair) = overlap else {
+            return self;
+        };
+        self.part(b"pair\t")
+            .number(u64::from(pair.earlier))
+            .part(b"\t")
+            .number(u64::from(pair.later))
+            .part(b"\n")
     }
-    seen_part(expected, seen_number(expected, seen, number / 10), &digit)
 }

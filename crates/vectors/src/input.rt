@@ -1,93 +1,117 @@
 // The text of the lists: lines, their first words, and parts that are as long as a number says.
-ghost use Rattle.std.specs.Prelude.{◌≤◌, length};
 
-use text::{Bits, Count};
+use coordinates::Axis;
 
-// The first words of lines, by number.
-pub const STORES: usize = 1;
+// The first word of a line, where it decides what follows.
+#[derive(Clone, Copy, Debug, PartialEq, Eq)]
+pub enum Word {
+    Stores,
+    Display,
+    Ask,
+    Cut,
+    Lines,
+    Other,
+}
 
-pub const CUT: usize = 5;
-
-pub const LINES: usize = 6;
-
-pub const DISPLAY: usize = 7;
-
-pub const ASK: usize = 8;
-
-// A line that starts with a word and a number: both, and where the next line starts.
-#[derive(Clone, Copy)]
+// The word and the number that a line starts with.
+#[derive(Clone, Copy, Debug, PartialEq, Eq)]
 pub struct Head {
-    pub word: usize,
+    pub word: Word,
     pub number: u32,
-    pub next: usize,
 }
 
-// The part between two places; empty where there is none.
-pub fn between(input: &[u8], from: usize, to: usize) -> &[u8] {
-    if to <= input.len() {
-        if from <= to {
-            return &input[from..to];
-        }
-    }
-    &input[..0]
+// So many lines at the start of a text.
+#[derive(Clone, Copy, Debug, PartialEq, Eq)]
+pub struct Lines<'a> {
+    pub count: u32,
+    pub text: &'a [u8],
 }
 
-// The place after a line feed, or the end.
-pub fn after_line(input: &[u8], at: usize) -> usize
-    ensures { result ≤ length input.now }
-{
-    let end = text::find(input, at, 10);
-    if end < input.len() {
-        return end + 1;
-    }
-    input.len()
+// The text that is still to be read.
+#[derive(Clone, Copy, Debug, PartialEq, Eq)]
+pub struct Reader<'a> {
+    pub rest: &'a [u8],
 }
 
-// The place so many bytes further, or the end.
-pub fn further(input: &[u8], at: usize, count: u32) -> usize
-    ensures { result ≤ length input.now }
-{
-    if at <= input.len() {
-        if count as usize <= input.len() - at {
-            return at + count as usize;
-        }
-    }
-    input.len()
+// Field k of a line.
+pub fn field(line: &[u8], k: usize) -> &[u8] {
+    text::part(line, b'\t', k)
 }
 
 // The number that a field writes, 0 where it writes none.
 pub fn number_of(field: &[u8]) -> u32 {
-    match text::read_count(field, 0, 4294967295) {
-        Count::Unread => 0,
-        Count::Outside => 0,
-        Count::Value(n) => n,
-    }
+    text::read_count(field, 0, u32::MAX).unwrap_or(0)
 }
 
 // The bits that a field writes, all ones where it writes none.
 pub fn bits_of(field: &[u8]) -> u32 {
-    match text::read_bits(field) {
-        Bits::Unread => 4294967295,
-        Bits::Value(n) => n,
+    text::read_bits(field).unwrap_or(u32::MAX)
+}
+
+// The grid line that a field writes, 0 where it writes none.
+pub fn line_of(field: &[u8]) -> i32 {
+    text::read_index(field).unwrap_or(0)
+}
+
+// The axis that a field writes.
+pub fn axis_of(field: &[u8]) -> Axis {
+    match field {
+        b"c" => Axis::Column,
+        _ => Axis::Row,
     }
 }
 
-// The line at a place, without its line feed.
-pub fn line_at(input: &[u8], at: usize) -> &[u8] {
-    between(input, at, text::find(input, at, 10))
+// A first word.
+fn word_of(word: &[u8]) -> Word {
+    match word {
+        b"stores" => Word::Stores,
+        b"display" => Word::Display,
+        b"ask" => Word::Ask,
+        b"cut" => Word::Cut,
+        b"lines" => Word::Lines,
+        _ => Word::Other,
+    }
 }
 
-// The word and the number that the line at a place starts with.
-pub fn head_at(input: &[u8], at: usize) -> Head {
-    let line = line_at(input, at);
-    let word = text::find_part(
-        b"case\nstores\nsheet\nenter\nexpect\ncut\nlines\ndisplay\nask",
-        10,
-        text::part(line, 32, 0),
-    );
+// The word and the number that a line starts with.
+pub fn head_of(line: &[u8]) -> Head {
     Head {
-        word,
-        number: number_of(text::part(line, 32, 1)),
-        next: after_line(input, at),
+        word: word_of(text::part(line, b' ', 0)),
+        number: number_of(text::part(line, b' ', 1)),
+    }
+}
+
+impl<'a> Reader<'a> {
+    // So many bytes, or all that are left.
+    pub fn bytes(&mut self, count: usize) -> &'a [u8] {
+        let (part, rest) = self.rest.split_at(count.min(self.rest.len()));
+        self.rest = rest;
+        part
+    }
+
+    // The next line, without its line feed.
+    pub fn line(&mut self) -> &'a [u8] {
+        let line = text::part(self.rest, b'\n', 0);
+        self.bytes(line.len() + 1);
+        line
+    }
+
+    // What the next line starts with.
+    pub fn head(&mut self) -> Head {
+        head_of(self.line())
+    }
+
+    // The next lines.
+    pub fn lines(&mut self, count: u32) -> Lines<'a> {
+        let text = self.rest;
+        for _ in 0..count {
+            self.line();
+        }
+        Lines { count, text }
+    }
+    // The lines after the next, as many as that says.
+    pub fn counted(&mut self) -> Lines<'a> {
+        let head = self.head();
+        self.lines(head.number)
     }
 }

@@ -6,7 +6,6 @@
 
 mod answers;
 mod block;
-mod buffer;
 mod calls;
 mod conversions;
 mod counts;
@@ -19,27 +18,24 @@ mod nearest;
 mod questions;
 mod replay;
 mod resizes;
+mod tables;
+mod window;
 
-use counts::print_counts;
 use panel_tables::region::{PANEL_BYTES, PANEL_WORDS};
 use replay::replay_all;
 use std::io;
+use tables::{STORE, Tables};
+use window::Window;
 
 fn main(rt: HostRuntime) -> io::Result<()> {
     let mut out = rt.stdout();
-    let mut buffer = [0u8; 131072];
-    let mut words = [0u64; PANEL_WORDS];
-    let mut bytes = [0u8; PANEL_BYTES];
-    let mut columnstore = [0u8; 32800];
-    let mut rowstore = [0u8; 32800];
-    let counts = replay_all(
-        &mut rt.stdin(),
-        &mut out,
-        &mut buffer,
-        &mut words,
-        &mut bytes,
-        &mut columnstore,
-        &mut rowstore,
-    )?;
-    print_counts(&mut out, counts)
+    let mut window = Window::new();
+    let mut tables = Tables {
+        words: [0; PANEL_WORDS],
+        bytes: [0; PANEL_BYTES],
+        columnstore: [0; STORE],
+        rowstore: [0; STORE],
+    };
+    let counts = replay_all(&mut rt.stdin(), &mut out, &mut window, &mut tables)?;
+    counts.print(&mut out)
 }

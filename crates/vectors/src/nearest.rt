@@ -1,46 +1,32 @@
 // The nearest line to a cursor, beside the expected text: `nearest`, then a grid line.
-use crate::calls::{axis_of, lent};
-use crate::expected::{seen_number, seen_part, seen_refused};
-use crate::input::{bits_of, number_of};
-use coordinates::signed::{Signed, split};
+use crate::expected::Expected;
+use crate::tables::Shown;
+use coordinates::Axis;
 use panel_positions::nearest_line;
-use panel_tables::Grid;
-use panel_tables::region::{PANEL_BYTES, PANEL_WORDS, marks};
 
-// A number after its sign.
-fn seen_signed(expected: &[u8], seen: usize, number: i32) -> usize {
-    match split(number) {
-        Signed::NonNegative(n) => seen_number(expected, seen, n as u64),
-        Signed::Negative(k) => seen_number(expected, seen_part(expected, seen, b"-"), k as u64 + 1),
-    }
+// A cursor on an axis, by the bits of its position, and how many item bytes are lent.
+#[derive(Clone, Copy, Debug, PartialEq, Eq)]
+pub struct Cursor {
+    pub axis: Axis,
+    pub position: u32,
+    pub items: u32,
 }
 
-// The nearest line: axis, cursor, item bytes.
-pub fn seen_nearest(
-    expected: &[u8],
-    seen: usize,
-    question: &[u8],
-    grid: Grid,
-    words: &[u64; PANEL_WORDS],
-    bytes: &[u8; PANEL_BYTES],
-) -> usize {
-    let axis = axis_of(text::part(question, 9, 1));
-    let items = marks(bytes, axis);
-    let count = lent(items, true, number_of(text::part(question, 9, 3)));
-    let answer = nearest_line(
-        grid,
-        words,
-        axis,
-        &items[..count],
-        bits_of(text::part(question, 9, 2)),
-    );
-    if answer.number != 0 {
-        return seen_refused(expected, seen, answer.number);
+// A number after its sign.
+fn seen_signed(expected: Expected, number: i32) -> Expected {
+    let size = u64::from(number.unsigned_abs());
+    if number < 0 {
+        return expected.part(b"-").number(size);
     }
-    let last = seen_signed(
-        expected,
-        seen_part(expected, seen, b"nearest\t"),
-        answer.line,
-    );
-    seen_part(expected, last, b"\n")
+    expected.number(size)
+}
+
+// The nearest line.
+pub fn seen_nearest<'a>(expected: Expected<'a>, cursor: Cursor, shown: Shown) -> Expected<'a> {
+    let items = shown.items(cursor.axis, cursor.items);
+    let found = nearest_line(shown.grid, shown.words, cursor.axis, items, cursor.position);
+    match found {
+        Ok(line) => seen_signed(expected.part(b"nearest\t"), line).part(b"\n"),
+        Err(fault) => expected.refused(fault, 0),
+    }
 }

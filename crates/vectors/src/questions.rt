@@ -1,69 +1,76 @@
 // Questions to a panel, each a line: its word, its axis, and what it asks.
-use crate::block::{Block, expected_of};
-use crate::hits::seen_hits;
-use crate::input::{after_line, line_at};
-use crate::nearest::seen_nearest;
+ghost use Rattle.std.specs.Prelude.{◌≤◌};
+
+use crate::expected::Expected;
+use crate::hits::{ListLengths, seen_around, seen_within};
+use crate::input::{Lines, axis_of, bits_of, field, line_of, number_of};
+use crate::nearest::{Cursor, seen_nearest};
 use crate::resizes::seen_resize;
-use panel_tables::Grid;
-use panel_tables::region::{PANEL_BYTES, PANEL_WORDS};
+use crate::tables::{Shown, StoreLengths};
+use coordinates::Axis;
+use panel_hits::{Around, Span};
+
+// What a line asks: the line nearest to a cursor, the least resize of an axis, or the placements within a span or around a line.
+#[derive(Clone, Copy)]
+enum Question {
+    Nearest(Cursor),
+    Resize(Axis),
+    Within(Span, ListLengths),
+    Around(Around, ListLengths),
+}
+
+// The lengths that a list is asked with, from a field on.
+fn lengths_at(line: &[u8], first: usize) -> ListLengths
+    requires { first ≤ 4 }
+{
+    ListLengths {
+        items: number_of(field(line, first)),
+        stores: StoreLengths {
+            columns: number_of(field(line, first + 1)),
+            rows: number_of(field(line, first + 2)),
+        },
+    }
+}
+
+// The question of a line.
+fn question_of(text: &[u8]) -> Question {
+    let axis = axis_of(field(text, 1));
+    let second = field(text, 2);
+    match field(text, 0) {
+        b"nearest" => Question::Nearest(Cursor {
+            axis,
+            position: bits_of(second),
+            items: number_of(field(text, 3)),
+        }),
+        b"resize" => Question::Resize(axis),
+        b"within" => {
+            let low = bits_of(second);
+            let high = bits_of(field(text, 3));
+            Question::Within(Span { axis, low, high }, lengths_at(text, 4))
+        }
+        _ => {
+            let line = line_of(second);
+            Question::Around(Around { axis, line }, lengths_at(text, 3))
+        }
+    }
+}
 
 // One question.
-fn seen_question(
-    expected: &[u8],
-    seen: usize,
-    question: &[u8],
-    grid: Grid,
-    words: &[u64; PANEL_WORDS],
-    bytes: &[u8; PANEL_BYTES],
-    columnstore: &[u8],
-    rowstore: &[u8],
-) -> usize {
-    if text::equal(text::part(question, 9, 0), b"nearest") {
-        return seen_nearest(expected, seen, question, grid, words, bytes);
+fn seen_question<'a>(expected: Expected<'a>, question: Question, shown: Shown) -> Expected<'a> {
+    match question {
+        Question::Nearest(cursor) => seen_nearest(expected, cursor, shown),
+        Question::Resize(axis) => seen_resize(expected, axis, shown),
+        Question::Within(span, lengths) => seen_within(expected, span, lengths, shown),
+        Question::Around(around, lengths) => seen_around(expected, around, lengths, shown),
     }
-    if text::equal(text::part(question, 9, 0), b"resize") {
-        return seen_resize(expected, seen, question, grid, words);
-    }
-    seen_hits(
-        expected,
-        seen,
-        question,
-        grid,
-        words,
-        bytes,
-        columnstore,
-        rowstore,
-    )
 }
 
 // The questions of a block, each a line.
-pub fn seen_questions(
-    input: &[u8],
-    block: Block,
-    seen: usize,
-    grid: Grid,
-    words: &[u64; PANEL_WORDS],
-    bytes: &[u8; PANEL_BYTES],
-    columnstore: &[u8],
-    rowstore: &[u8],
-) -> usize {
-    let expected = expected_of(input, block);
-    let mut place = block.questions;
-    let mut last = seen;
-    let mut left = block.questioncount;
-    while 0 < left {
-        last = seen_question(
-            expected,
-            last,
-            line_at(input, place),
-            grid,
-            words,
-            bytes,
-            columnstore,
-            rowstore,
-        );
-        place = after_line(input, place);
-        left -= 1;
+pub fn seen_questions<'a>(expected: Expected<'a>, questions: Lines, shown: Shown) -> Expected<'a> {
+    let mut seen = expected;
+    let lines = questions.text.split(|byte| *byte == b'\n');
+    for line in lines.take(questions.count as usize) {
+        seen = seen_question(seen, question_of(line), shown);
     }
-    last
+    seen
 }

@@ -1,122 +1,78 @@
 // The blocks and rows of the lists, one after the other.
-use crate::block::{block_at, is_same};
-use crate::buffer::{Window, filled};
-use crate::conversions::replay_rows;
-use crate::counts::{Counts, more_blocks, more_rows, print_different};
-use crate::input::{Head, LINES, head_at, line_at};
-use panel_tables::region::{PANEL_BYTES, PANEL_WORDS};
+use crate::block::Block;
+use crate::conversions::different_rows;
+use crate::counts::Counts;
+use crate::input::{Reader, Word, head_of};
+use crate::tables::Tables;
+use crate::window::Window;
 use std::io;
 use std::io::{Read, Write};
 
-// A block or a list of rows that was replayed, and where the next starts.
-#[derive(Clone, Copy)]
-struct Replayed {
-    counts: Counts,
-    next: usize,
+// How many that differ are named.
+const MOST_NAMED: u64 = 64;
+
+// The first line of a block or of a list of rows that differs.
+fn print_different<W: Write>(out: &mut W, line: &[u8]) -> io::Result<()> {
+    out.write_all(b"differs\t")?;
+    out.write_all(line)?;
+    out.write_all(b"\n")
 }
 
-// The rows at a place.
-fn replay_list<W: Write>(
-    out: &mut W,
-    input: &[u8],
-    at: usize,
-    head: Head,
-    counts: Counts,
-) -> io::Result<Replayed> {
-    let rows = replay_rows(input, head.next, head.number);
-    if rows.different != 0 {
-        print_different(out, counts, line_at(input, at))?;
-    }
-    Ok(Replayed {
-        counts: more_rows(counts, head.number, rows.different),
-        next: rows.next,
-    })
+// The block after its `case` line: 1 where it differs.
+fn replay_block(input: &mut Reader, counts: &mut Counts, tables: &mut Tables) -> u64 {
+    let block = Block::read(input);
+    counts.add_block(
+        block.calls.count,
+        block.questions.map_or(0, |questions| questions.count),
+    );
+    u64::from(!block.is_same(tables))
 }
 
-// The block at a place.
-fn replay_block<W: Write>(
-    out: &mut W,
-    input: &[u8],
-    at: usize,
-    counts: Counts,
-    words: &mut [u64; PANEL_WORDS],
-    bytes: &mut [u8; PANEL_BYTES],
-    columnstore: &mut [u8],
-    rowstore: &mut [u8],
-) -> io::Result<Replayed> {
-    let block = block_at(input, at);
-    let same = is_same(input, block, words, bytes, columnstore, rowstore);
-    if !same {
-        print_different(out, counts, line_at(input, at))?;
-    }
-    Ok(Replayed {
-        counts: more_blocks(counts, block.callcount, block.questioncount, same),
-        next: block.end,
-    })
+// The rows after their `lines` line: how many differ.
+fn replay_rows(input: &mut Reader, counts: &mut Counts, number: u32) -> u64 {
+    counts.add_rows(number);
+    different_rows(input.lines(number))
 }
 
-// What stands at a place.
-fn replay_at<W: Write>(
+// A block or a list of rows. Its first line is printed where it differs and few differ before it.
+fn replay_next<W: Write>(
     out: &mut W,
-    input: &[u8],
-    at: usize,
-    counts: Counts,
-    words: &mut [u64; PANEL_WORDS],
-    bytes: &mut [u8; PANEL_BYTES],
-    columnstore: &mut [u8],
-    rowstore: &mut [u8],
-) -> io::Result<Replayed> {
-    let head = head_at(input, at);
-    if head.word == LINES {
-        return replay_list(out, input, at, head, counts);
+    input: &mut Reader,
+    counts: &mut Counts,
+    tables: &mut Tables,
+) -> io::Result<()> {
+    let line = input.line();
+    let head = head_of(line);
+    let different = match head.word {
+        Word::Lines => replay_rows(input, counts, head.number),
+        _ => replay_block(input, counts, tables),
+    };
+    if different != 0 && counts.different < MOST_NAMED {
+        print_different(out, line)?;
     }
-    replay_block(out, input, at, counts, words, bytes, columnstore, rowstore)
+    counts.add_different(different);
+    Ok(())
 }
 
 // All that standard input holds, at most a million blocks.
 pub fn replay_all<R: Read, W: Write>(
     input: &mut R,
     out: &mut W,
-    buffer: &mut [u8],
-    words: &mut [u64; PANEL_WORDS],
-    bytes: &mut [u8; PANEL_BYTES],
-    columnstore: &mut [u8],
-    rowstore: &mut [u8],
+    window: &mut Window,
+    tables: &mut Tables,
 ) -> io::Result<Counts> {
-    let mut counts = Counts {
-        blocks: 0,
-        calls: 0,
-        questions: 0,
-        rows: 0,
-        different: 0,
-    };
-    let mut at: usize = 0;
-    let mut held: usize = 0;
-    let mut turns: u32 = 0;
-    while turns < 1000000 {
-        let Window {
-            at: first,
-            held: filled_to,
-            taken,
-        } = filled(input, buffer, at, held);
-        taken?;
-        held = filled_to;
-        if first == held {
-            return Ok(counts);
+    let mut counts = Counts::default();
+    for _ in 0..1000000 {
+        window.fill(input)?;
+        let mut reader = Reader {
+            rest: window.rest(),
+        };
+        if reader.rest.is_empty() {
+            break;
         }
-        let done = replay_at(
-            out,
-            &buffer[..held],
-            first,
-            counts,
-            words,
-            bytes,
-            columnstore,
-            rowstore,
-        )?;
-        counts = done.counts;
-        at = done.next;
-        turns += 1;
+        replay_next(out, &mut reader, &mut counts, tables)?;
+        let left = reader.rest.len();
+        window.keep(left);
     }
     Ok(counts)
 }

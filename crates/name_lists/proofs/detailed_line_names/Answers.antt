@@ -1,21 +1,25 @@
-use mathlib.Core.Path.{sym, ◌∙◌}
+use mathlib.Core.Path.{◌≡◌, sym}
 use native.Mathlib.Omega.{arith}
 use lib.ListN.{length}
+use borrow.Author.Rules.{rules}
+use Rattle.std.specs.Prelude.{Err}
 use Rattle.name_lists.proofs.Fitting.{unrefused, listed-refused, listed-written}
 use Rattle.name_lists.proofs.detailed_line_names.Goals as goal
 
-pub returns-then-number-ne0 : goal.returns-then-number-ne0
-returns-then-number-ne0 c =
+pub returns-in_err-check_lists : goal.returns-in_err-check_lists
+returns-in_err-check_lists c =
     let a = c.args in
-    listed-refused a.explicit a.entries.now a.store.now a.words.now a.words.now _ _ c.lists_refusal-number.ensures c.if-number-ne0.true c.refusal_of-refusal.ensures
+    let fault = c.in_err-check_lists.field-0.0 in
+    let h : c.from_residual.result ≡ Err fault = search rules in
+    rw h (listed-refused a.explicit a.names.entries.now a.names.store.now a.words.now a.words.now fault c.in_err-check_lists.ensures)
+
+pub write_lists-requires : goal.write_lists-requires
+write_lists-requires c =
+    let a = c.args in
+    let u = unrefused a.explicit (length a.names.entries.now) (length a.names.store.now) (sym c.in_ok-check_lists.ensures) in
+    record { explicit_bound = u.0; entries_len_bound = u.1.0; entries_in_bounds = omega (arith, u) }
 
 pub returns : goal.returns
 returns c =
     let a = c.args in
-    listed-written a.explicit a.entries.now a.store.now a.words.now _ _ _ (sym c.lists_refusal-number.ensures ∙ c.if-number-ne0.false) c.no_refusal-refusal.ensures c.write_lists-count.ensures
-
-pub write_lists-count-requires : goal.write_lists-count-requires
-write_lists-count-requires c =
-    let a = c.args in
-    let u = unrefused a.explicit (length a.entries.now) (length a.store.now) (sym c.lists_refusal-number.ensures ∙ c.if-number-ne0.false) in
-    record { explicit_bound = u.0; entries_len_bound = u.1.0; entries_in_bounds = omega (arith, u) }
+    listed-written a.explicit a.names.entries.now a.names.store.now a.words.now _ c.write_lists.result (sym c.in_ok-check_lists.ensures) c.write_lists.ensures

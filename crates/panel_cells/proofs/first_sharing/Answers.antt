@@ -1,35 +1,20 @@
-use Prim.Native.Nat.{ℕ, ◌+◌, ◌-◌}
-use mathlib.Core.Path.{◌≡◌, sym, ap, ◌∙◌}
+use Rattle.std.proofs.Common.{rules, tests}
+use Prim.Native.Nat.{ℕ, min}
+use mathlib.Core.Path.{ap, sym, ◌∙◌}
 use native.Mathlib.Omega.{arith}
-use Rattle.panel_tables.specs.declared.AreaPlace.{AreaPlace}
-use Rattle.panel_cells.specs.Steps.{shares, sharing_in}
-use Rattle.panel_cells.proofs.Search.{sharing-here, sharing-on, sharing-end}
+use Rattle.std.proofs.lemmas.Iterator.{YieldsList-from_range}
+use Rattle.std.proofs.lemmas.Iterator.Adapters.{option_map_id}
+use Rattle.std.proofs.lemmas.Iterator.Search.{find_from_yields_List}
+use Rattle.panel_tables.specs.Areas.{area_at}
+use Rattle.panel_cells.specs.Steps.{shares, area_number_of}
+use Rattle.panel_cells.proofs.Search.{sharing_find}
 use Rattle.panel_cells.proofs.first_sharing.Goals as goal
-
-pub returns-then-shares : goal.returns-then-shares
-returns-then-shares c =
-    let a = c.args in
-    let l = c.loop-i in
-    let most = c.at_most_all-most.result in
-    let e = sym (ap (λ (p : AreaPlace). shares p.edges a.edges) c.area_at-place.ensures) ∙ sym c.shares.ensures ∙ c.if-shares.true in
-    sym (l.invariant.2 ∙ sharing-here a.words.now a.edges (most - l.i) l.i (omega arith) e)
-
-pub loop-i-preserved : goal.loop-i-preserved
-loop-i-preserved c =
-    let a = c.args in
-    let l = c.loop-i in
-    let most = c.at_most_all-most.result in
-    let e = sym (ap (λ (p : AreaPlace). shares p.edges a.edges) c.area_at-place.ensures) ∙ sym c.shares.ensures ∙ c.if-shares.false in
-    let z : most - l.i - 1 ≡ most - (l.i + 1) = omega arith in (
-      omega arith,
-      l.invariant.1,
-      l.invariant.2 ∙ sharing-on a.words.now a.edges (most - l.i) l.i (omega arith) e ∙ ap (λ (k : ℕ). sharing_in a.words.now a.edges k (l.i + 1)) z,
-    )
 
 pub returns : goal.returns
 returns c =
     let a = c.args in
-    let l = c.loop-i in
-    let most = c.at_most_all-most.result in
-    let z : most - l.i ≡ 0 = omega arith in
-    sym (l.invariant.2 ∙ ap (λ (k : ℕ). sharing_in a.words.now a.edges k l.i) z ∙ sharing-end a.words.now a.edges l.i)
+    ap area_number_of (
+    sym (option_map_id c.find.result)
+    ∙ find_from_yields_List (λ (n : ℕ). shares (area_at a.words.now n).edges a.edges) _ _ c.find.result c.find.ensures.ran (YieldsList-from_range 0 (min a.areas 64) (min a.areas 64) (search rules) (omega arith)) (λ x b q k. search (rules, tests))
+    )
+    ∙ sym (sharing_find a.words.now a.edges (min a.areas 64) 0)

@@ -1,15 +1,20 @@
+use Rattle.std.proofs.Common.{rules, ◌≡◌}
+use Rattle.std.specs.Prelude.{Err}
 use mathlib.Core.Path.{sym, ap, ◌∙◌}
 use Rattle.panel_hits.specs.Settled.{lent_in}
-use Rattle.panel_hits.specs.Lists.{lower, store_refusal}
-use Rattle.panel_hits.proofs.Answers.{lower-none, stores_long, within-refused, within-listed}
+use Rattle.panel_hits.specs.Lists.{store_refusal}
+use Rattle.panel_hits.proofs.Answers.{within-refused, within_long, within-listed}
 use Rattle.panel_hits.proofs.placements_within.Goals as goal
 
-pub returns-then-number-ne0 : goal.returns-then-number-ne0
-returns-then-number-ne0 c = let a = c.args in within-refused a.grid a.words.now (lent_in a.words.now a.bytes.now a.columnstore.now a.rowstore.now) a.items.now a.hits.now a.span c.lines_within-lines.result c.lines_within-lines.ensures c.lower-number.result (c.lower-number.ensures ∙ ap (lower c.lines_within-lines.result.number) (c.store_refusal-stores.ensures ∙ ap store_refusal c.smaller.ensures)) _ c.if-number-ne0.true c.refused.ensures
+pub returns-in_err-within : goal.returns-in_err-within
+returns-in_err-within c =
+    let a = c.args in
+    let fault = c.in_err-within.field-0.0 in
+    let h : c.from_residual.result ≡ Err fault = search rules in
+    rw h (within-refused a.grid a.words.now (lent_in a.words.now a.bytes.now a.columnstore.now a.rowstore.now) a.items.now a.hits.now c.lines_within-lines.result c.check_stores-stores.result (c.check_stores-stores.ensures ∙ ap store_refusal c.min.ensures) a.span c.lines_within-lines.ensures fault (sym c.in_err-within.ensures))
 
-pub write_settled-count-requires : goal.write_settled-count-requires
-write_settled-count-requires c = let none = lower-none c.lines_within-lines.result.number c.store_refusal-stores.result (sym c.lower-number.ensures ∙ c.if-number-ne0.false) in
-    rw c.smaller.ensures at (stores_long c.smaller.result (sym c.store_refusal-stores.ensures ∙ none.1))
+pub write_settled-requires : goal.write_settled-requires
+write_settled-requires c = let a = c.args in within_long a.grid a.words.now (lent_in a.words.now a.bytes.now a.columnstore.now a.rowstore.now) a.items.now a.hits.now c.lines_within-lines.result c.check_stores-stores.result (c.check_stores-stores.ensures ∙ ap store_refusal c.min.ensures) _ (sym c.in_ok-within.ensures)
 
 pub returns : goal.returns
-returns c = let a = c.args in within-listed a.grid a.words.now (lent_in a.words.now a.bytes.now a.columnstore.now a.rowstore.now) a.items.now a.hits.now a.span c.lines_within-lines.result c.lines_within-lines.ensures c.lower-number.result (c.lower-number.ensures ∙ ap (lower c.lines_within-lines.result.number) (c.store_refusal-stores.ensures ∙ ap store_refusal c.smaller.ensures)) _ _ c.if-number-ne0.false c.write_settled-count.ensures
+returns c = let a = c.args in within-listed a.grid a.words.now (lent_in a.words.now a.bytes.now a.columnstore.now a.rowstore.now) a.items.now a.hits.now c.lines_within-lines.result c.check_stores-stores.result (c.check_stores-stores.ensures ∙ ap store_refusal c.min.ensures) a.span c.lines_within-lines.ensures _ (sym c.in_ok-within.ensures) _ _ c.write_settled.ensures

@@ -4,34 +4,10 @@ use Rattle.cell_placing.proofs.Cursors.{row-begins, row_more}
 use Rattle.cell_placing.proofs.cursor.row_cursor.Goals as goal
 
 pub loop-j-init : goal.loop-j-init
-loop-j-init c = (omega arith, row-begins c.args.items.now c.args.placed.now c.args.row)
-
-pub overflow_cast-j : goal.overflow_cast-j
-overflow_cast-j c = omega arith
-
-pub offset_bounds-items-j : goal.offset_bounds-items-j
-offset_bounds-items-j c = omega arith
-
-pub bounds-items-j : goal.bounds-items-j
-bounds-items-j c = omega arith
-
-pub overflow_cast-j-in-loop-j : goal.overflow_cast-j-in-loop-j
-overflow_cast-j-in-loop-j c = omega arith
-
-pub offset_bounds-placed-j : goal.offset_bounds-placed-j
-offset_bounds-placed-j c = omega arith
-
-pub bounds-placed-j : goal.bounds-placed-j
-bounds-placed-j c = omega arith
-
-pub overflow_add-j : goal.overflow_add-j
-overflow_add-j c = omega arith
-
-pub loop-j-smaller : goal.loop-j-smaller
-loop-j-smaller c = omega arith
+loop-j-init c = row-begins c.args.turn.cells.items.now c.args.turn.placed.now c.args.row
 
 pub loop-j-preserved : goal.loop-j-preserved
-loop-j-preserved c = let a = c.args in let l = c.loop-j in (omega arith, row_more a.items.now a.placed.now a.row l.j l.column _ l.invariant.1 c.later_column-column.ensures)
+loop-j-preserved c = let a = c.args in let l = c.loop-j in row_more a.turn.cells.items.now a.turn.placed.now a.row l.j l.column _ l.invariant c.later_column-column.ensures
 
 pub returns : goal.returns
-returns c = let a = c.args in let l = c.loop-j in let z : l.j ≡ a.count = omega (arith, c.loop-j-test.false, l.invariant.0) in rw (← z) l.invariant.1
+returns c = let a = c.args in let l = c.loop-j in let z : l.j ≡ a.turn.index = omega (arith, c.loop-j-test.false, l.auto.j-end) in rw (← z) l.invariant

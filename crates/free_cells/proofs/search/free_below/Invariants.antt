@@ -1,9 +1,10 @@
-use Prim.Native.Nat.{◌+◌, ◌-◌, ◌≤◌, min}
+use Prim.Native.Nat.{◌+◌, ◌-◌, ◌≤◌}
+use lib.ListN.{length}
 use Rattle.free_cells.proofs.Places.{NoneAbove}
 use Rattle.free_cells.proofs.search.free_below.Given as goal
 
 abbrev pub invariant-loop-at : goal.invariant-loop-at
-invariant-loop-at l = (l.row + 1 ≤ l.at) × NoneAbove l.words (min l.count 256) l.last l.size l.row l.at
+invariant-loop-at l = (l.row + 1 ≤ l.at) × NoneAbove l.words (length l.words) l.last l.size l.row l.at
 
 abbrev pub decreases-loop-at : goal.decreases-loop-at
 decreases-loop-at l = 10002 - l.at

@@ -1,9 +1,10 @@
-use Prim.Native.Nat.{◌+◌, ◌-◌, ◌≤◌, min}
+use Prim.Native.Nat.{◌+◌, ◌-◌, ◌≤◌}
+use lib.ListN.{length}
 use Rattle.free_cells.proofs.Cells.{NoneBefore}
 use Rattle.free_cells.proofs.search.free_line.Given as goal
 
 abbrev pub invariant-loop-at : goal.invariant-loop-at
-invariant-loop-at l = (1 ≤ l.at) × (l.from ≤ l.at) × NoneBefore l.words (min l.count 256) l.axis l.last l.from l.tracks l.across l.at
+invariant-loop-at l = (1 ≤ l.at) × (l.from ≤ l.at) × NoneBefore l.words (length l.words) l.axis l.last l.from l.tracks l.across l.at
 
 abbrev pub decreases-loop-at : goal.decreases-loop-at
 decreases-loop-at l = l.most + 1 - l.at

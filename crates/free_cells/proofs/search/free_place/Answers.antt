@@ -1,9 +1,9 @@
-use Prim.Native.Nat.{min}
-use Rattle.free_cells.proofs.Places.{place-in-row, place-below}
+use lib.ListN.{length}
+use Rattle.free_cells.proofs.Places.{place_in_row, place_below}
 use Rattle.free_cells.proofs.search.free_place.Goals as goal
 
-pub returns-then-column-ne0 : goal.returns-then-column-ne0
-returns-then-column-ne0 c = let a = c.args in place-in-row a.words.now (min a.count 256) a.last a.size a.from _ c.column_in_row-column.ensures c.if-column-ne0.true
+pub returns-in-Some : goal.returns-in-Some
+returns-in-Some c = let a = c.args in place_in_row a.words.now (length a.words.now) a.last a.size a.from _ (rw c.in-Some.is at c.column_in_row.ensures)
 
-pub returns : goal.returns
-returns c = let a = c.args in place-below a.words.now (min a.count 256) a.last a.size a.from _ (rw c.if-column-ne0.false at c.column_in_row-column.ensures) c.free_below.ensures
+pub returns-in-None : goal.returns-in-None
+returns-in-None c = let a = c.args in place_below a.words.now (length a.words.now) a.last a.size a.from _ (rw c.in-None.is at c.column_in_row.ensures) c.free_below.ensures

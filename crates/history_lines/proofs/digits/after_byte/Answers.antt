@@ -1,12 +1,23 @@
-use mathlib.Core.Path.{sym}
+use Rattle.std.proofs.Common.{rules, sym, ◌<◌, ◌≤◌, ◌≡◌, length, get_or}
 use Rattle.history_lines.proofs.Places.{byte_past, byte-other, byte-here}
 use Rattle.history_lines.proofs.digits.after_byte.Goals as goal
 
-pub returns-then-s-place : goal.returns-then-s-place
-returns-then-s-place c = sym (byte_past _ _ _ c.if-s-place.true)
+pub returns-in-Some : goal.returns-in-Some
+returns-in-Some c =
+    let a = c.args in
+    let h : a.place < length a.s.now = search rules in
+    let e : get_or a.s.now a.place 0 ≡ a.byte = search rules in
+    sym (byte-here _ _ _ h e)
 
-pub returns-then-s-place-2 : goal.returns-then-s-place-2
-returns-then-s-place-2 c = sym (byte-other _ _ _ c.if-s-place.false c.if-s-place-2.true)
+pub returns-in_default : goal.returns-in_default
+returns-in_default c =
+    let a = c.args in
+    let h : a.place < length a.s.now = search rules in
+    let e : get_or a.s.now a.place 0 ≡ a.byte → ⊥ = search rules in
+    sym (byte-other _ _ _ h e)
 
-pub returns : goal.returns
-returns c = sym (byte-here _ _ _ c.if-s-place.false c.if-s-place-2.false)
+pub returns-in_default-2 : goal.returns-in_default-2
+returns-in_default-2 c =
+    let a = c.args in
+    let h : length a.s.now ≤ a.place = search rules in
+    sym (byte_past _ _ _ h)

@@ -115,11 +115,11 @@ overflow_add-late-2 c =
 pub returns : goal.returns
 returns c =
     let a = c.args in
-    pairs_written a.grid a.plan a.tables.now a.items.now c.axis_tracks.result c.spare_minimums_of-minimums.result.now c.spare_maximums_of-maximums.result.now c.gutters_of-gutters.result
-    c.before_end-before.result c.before_end-written.result c.past_end-offset.result c.past_end-passed.result a.tracks.first a.tracks.count a.tracks.place
+    pairs_written a.grid a.plan a.tables.now a.items.now c.axis_tracks.result c.spares_on-spares.result.minimums.now c.spares_on-spares.result.maximums.now c.gutters_of-gutters.result
+    c.before_end-before.result c.before_end-written.result c.saturating_sub-offset.result c.saturating_sub-passed.result a.tracks.first a.tracks.count a.tracks.place
     a.words.now c.write_negative.new.words c.write_template.new.words c.write_positive.new.words
-    c.axis_tracks.ensures c.spare_minimums_of-minimums.ensures c.spare_maximums_of-maximums.ensures c.gutters_of-gutters.ensures c.requires.written_value
-    c.before_end-before.ensures c.before_end-written.ensures c.past_end-offset.ensures c.past_end-passed.ensures
+    c.axis_tracks.ensures c.spares_on-spares.ensures.minimums c.spares_on-spares.ensures.maximums c.gutters_of-gutters.ensures c.requires.written_value
+    c.before_end-before.ensures c.before_end-written.ensures c.saturating_sub-offset.ensures c.saturating_sub-passed.ensures
     c.write_negative.ensures c.write_template.ensures c.write_positive.ensures
 
 pub write_positive-requires : goal.write_positive-requires
@@ -133,7 +133,7 @@ write_positive-requires c =
     let w = taken-fits written (negative + a.plan.written) (a.tracks.first + before) (a.tracks.count - before) c.before_end-written.ensures in
     let kept : length c.write_template.new.words ≡ length a.words.now =
     ap length c.write_template.ensures ∙ simp length-sets (ap length c.write_negative.ensures ∙ simp length-sets) in record {
-      offset_bound = omega (arith, c.past_end-passed.ensures, track-room a.tracks.first a.tracks.count before written b w p.count_bound);
+      offset_bound = omega (arith, c.saturating_sub-passed.ensures, track-room a.tracks.first a.tracks.count before written b w p.count_bound);
       count_bound = rest-tracks a.tracks.first a.tracks.count before written b w p.count_bound;
       count_in_bounds = subst (λ (n : ℕ). a.tracks.place + 6 * (before + written) + 6 * (a.tracks.count - before - written) ≤ n) (sym kept) (rest-room a.tracks.place (length a.words.now) a.tracks.count before written b w p.count_in_bounds);
     }
@@ -150,8 +150,8 @@ write_template-requires c =
     let w = taken-fits written (negative + a.plan.written) (a.tracks.first + before) (a.tracks.count - before) c.before_end-written.ensures in
     let kept : length c.write_negative.new.words ≡ length a.words.now = ap length c.write_negative.ensures ∙ simp length-sets in
     let same : axis ≡ axis_tracks a.grid = c.axis_tracks.ensures in record {
-      count_bound = λ h. template-room negative a.plan.written a.tracks.first a.tracks.count before written c.past_end-offset.result (explicit_of (axis_tracks a.grid)) (sum_of (word_totals a.grid.size.repetitions (part_of a.tables.now 0 a.grid.template.components)))
-          p.written_value c.before_end-before.ensures c.before_end-written.ensures c.past_end-offset.ensures h;
+      count_bound = λ h. template-room negative a.plan.written a.tracks.first a.tracks.count before written c.saturating_sub-offset.result (explicit_of (axis_tracks a.grid)) (sum_of (word_totals a.grid.size.repetitions (part_of a.tables.now 0 a.grid.template.components)))
+          p.written_value c.before_end-before.ensures c.before_end-written.ensures c.saturating_sub-offset.ensures h;
       count_bound_2 = track-room a.tracks.first a.tracks.count before written b w p.count_bound;
       count_in_bounds = subst (λ (n : ℕ). a.tracks.place + 6 * before + 6 * written ≤ n) (sym kept) (place-room a.tracks.place (length a.words.now) a.tracks.count before written b w p.count_in_bounds);
     }

@@ -11,11 +11,11 @@ use Rattle.library_records.proofs.implicit.write_negative.Goals as goal
 pub returns-then-tracks-eq0 : goal.returns-then-tracks-eq0
 returns-then-tracks-eq0 c =
     let a = c.args in
-    let n = length a.spare_minimums.now in
-    put-none (spare_pair Negative (spares_of a.spare_minimums.now a.spare_maximums.now) a.items.now (n - a.negative % n + a.tracks.first) a.tracks.first a.gutters) a.words.now a.tracks.place a.tracks.first a.tracks.count c.if-tracks-eq0.true
+    let n = length a.spares.minimums.now in
+    put-none (spare_pair Negative (spares_of a.spares.minimums.now a.spares.maximums.now) a.items.now (n - a.negative % n + a.tracks.first) a.tracks.first a.gutters) a.words.now a.tracks.place a.tracks.first a.tracks.count c.if-tracks-eq0.true
 
 pub returns : goal.returns
 returns c =
     let a = c.args in
     c.write_spares.ensures
-    ∙ ap (λ (n : ℕ). sets a.words.now a.tracks.place (joined (spare_pair Negative (spares_of a.spare_minimums.now a.spare_maximums.now) a.items.now (n + a.tracks.first) a.tracks.first a.gutters) a.tracks.first a.tracks.count)) c.first_spare.ensures
+    ∙ ap (λ (n : ℕ). sets a.words.now a.tracks.place (joined (spare_pair Negative (spares_of a.spares.minimums.now a.spares.maximums.now) a.items.now (n + a.tracks.first) a.tracks.first a.gutters) a.tracks.first a.tracks.count)) c.first_spare.ensures

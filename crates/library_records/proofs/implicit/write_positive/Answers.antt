@@ -5,6 +5,6 @@ use Rattle.library_records.proofs.implicit.write_positive.Goals as goal
 pub returns : goal.returns
 returns c =
     let a = c.args in
-    positive-runs (spares_of a.spare_minimums.now a.spare_maximums.now) a.items.now a.end a.offset a.tracks.first a.gutters c.before_end-areas.result a.tracks.count a.tracks.place
+    positive-runs (spares_of a.spares.minimums.now a.spares.maximums.now) a.items.now a.end a.offset a.tracks.first a.gutters c.before_end-areas.result a.tracks.count a.tracks.place
     a.words.now c.write_spares.new.words c.write_spares-2.new.words
     c.before_end-areas.ensures c.write_spares.ensures c.write_spares-2.ensures

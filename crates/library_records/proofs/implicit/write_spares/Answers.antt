@@ -13,24 +13,24 @@ use Rattle.library_records.proofs.implicit.write_spares.Goals as goal
 pub returns-then-tracks-eq0 : goal.returns-then-tracks-eq0
 returns-then-tracks-eq0 c =
     let a = c.args in
-    let mi = c.args.spare_minimums.now in
-    put-none (spare_pair a.source (spares_of mi a.spare_maximums.now) a.items.now a.offset a.tracks.first a.gutters) a.words.now a.tracks.place a.tracks.first a.tracks.count c.if-tracks-eq0.true
+    let mi = c.args.spares.minimums.now in
+    put-none (spare_pair a.source (spares_of mi a.spares.maximums.now) a.items.now a.offset a.tracks.first a.gutters) a.words.now a.tracks.place a.tracks.first a.tracks.count c.if-tracks-eq0.true
 
 pub returns-then-length-eq0 : goal.returns-then-length-eq0
 returns-then-length-eq0 c =
     let a = c.args in
-    let mi = c.args.spare_minimums.now in
+    let mi = c.args.spares.minimums.now in
     let auto : List ℕ = 12884901888 ∷ [] in
     c.write_part.ensures
     ∙ ap (sets a.words.now a.tracks.place)
-    (joined_same (part_pair auto auto a.items.now (record { first = 0; length = 1; source = a.source; fit = false }) 0 a.tracks.first a.gutters) (spare_pair a.source (spares_of mi a.spare_maximums.now) a.items.now a.offset a.tracks.first a.gutters) a.tracks.first a.tracks.count
-    (λ j h. pair-auto mi a.spare_maximums.now a.items.now a.source a.offset a.tracks.first a.gutters auto refl c.if-length-eq0.true j))
+    (joined_same (part_pair auto auto a.items.now (record { first = 0; length = 1; source = a.source; fit = false }) 0 a.tracks.first a.gutters) (spare_pair a.source (spares_of mi a.spares.maximums.now) a.items.now a.offset a.tracks.first a.gutters) a.tracks.first a.tracks.count
+    (λ j h. pair-auto mi a.spares.maximums.now a.items.now a.source a.offset a.tracks.first a.gutters auto refl c.if-length-eq0.true j))
 
 pub returns : goal.returns
 returns c =
     let a = c.args in
-    let mi = c.args.spare_minimums.now in
+    let mi = c.args.spares.minimums.now in
     c.write_part-2.ensures
     ∙ ap (sets a.words.now a.tracks.place)
-    (joined_same (part_pair mi a.spare_maximums.now a.items.now (record { first = 0; length = length mi; source = a.source; fit = false }) a.offset a.tracks.first a.gutters) (spare_pair a.source (spares_of mi a.spare_maximums.now) a.items.now a.offset a.tracks.first a.gutters) a.tracks.first a.tracks.count
-    (λ j h. pair-spare mi a.spare_maximums.now a.items.now a.source a.offset a.tracks.first a.gutters c.if-length-eq0.false j))
+    (joined_same (part_pair mi a.spares.maximums.now a.items.now (record { first = 0; length = length mi; source = a.source; fit = false }) a.offset a.tracks.first a.gutters) (spare_pair a.source (spares_of mi a.spares.maximums.now) a.items.now a.offset a.tracks.first a.gutters) a.tracks.first a.tracks.count
+    (λ j h. pair-spare mi a.spares.maximums.now a.items.now a.source a.offset a.tracks.first a.gutters c.if-length-eq0.false j))

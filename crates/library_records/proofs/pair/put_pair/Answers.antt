@@ -1,9 +1,9 @@
-use native.Mathlib.Omega.{arith}
+use mathlib.Core.Path.{refl}
 use lib.ListN.{get_or}
 use Rattle.sizing.specs.Words.{min_max_of}
 use Rattle.track_rules.specs.Records.{item_at}
 use Rattle.library_records.proofs.Pairs.{put_pair}
-use Rattle.library_records.proofs.Running.{source_fits}
+use Rattle.track_rules.specs.Numbers.{source_number}
 use Rattle.library_records.proofs.pair.put_pair.Goals as goal
 
 pub returns : goal.returns
@@ -11,10 +11,5 @@ returns c =
     let a = c.args in
     let size = min_max_of (get_or a.minimums.now a.track.size 0) (get_or a.maximums.now a.track.size 0) in
     put_pair a.gutters (item_at a.items.now) a.track.number (record { size = size; source = a.track.source; fit = a.track.fit }) a.words.now c.put_record.new.words c.put_record-2.new.words a.place
-    c.track_collapses-collapsed.result c.gutter_collapses-shut.result c.source_number.result c.size_at.result c.size_at-2.result
-    c.source_number.ensures c.track_collapses-collapsed.ensures c.gutter_collapses-shut.ensures c.size_at.ensures c.size_at-2.ensures c.put_record.ensures c.put_record-2.ensures
-
-pub put_record-requires : goal.put_record-requires
-put_record-requires c =
-    let a = c.args in
-    record { kind_bound = omega arith; source_bound = source_fits a.track.source c.source_number.result c.source_number.ensures; place_in_bounds = omega arith }
+    c.track_collapses-collapsed.result c.gutter_collapses-shut.result (source_number a.track.source) c.size_at.result c.size_at-2.result
+    refl c.track_collapses-collapsed.ensures c.gutter_collapses-shut.ensures c.size_at.ensures c.size_at-2.ensures c.put_record.ensures c.put_record-2.ensures

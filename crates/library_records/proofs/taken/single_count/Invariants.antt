@@ -1,4 +1,3 @@
-use Prim.Native.Nat.{◌-◌, ◌≤◌}
 use mathlib.Core.Path.{◌≡◌}
 use lib.ListN.{drop}
 use Rattle.library_records.specs.Parts.{singles_of}
@@ -6,7 +5,4 @@ use Rattle.library_records.proofs.Singles.{rest}
 use Rattle.library_records.proofs.taken.single_count.Given as goal
 
 abbrev pub invariant-loop-run : goal.invariant-loop-run
-invariant-loop-run l = (l.run ≤ l.most) × (rest l.components l.component l.first l.left l.run ≡ singles_of l.first (drop l.component l.components) l.left)
-
-abbrev pub decreases-loop-run : goal.decreases-loop-run
-decreases-loop-run l = l.most - l.run
+invariant-loop-run l = rest l.components l.component l.first l.left l.run ≡ singles_of l.first (drop l.component l.components) l.left

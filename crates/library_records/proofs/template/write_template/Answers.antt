@@ -16,13 +16,13 @@ pub loop-done-init : goal.loop-done-init
 loop-done-init c =
     let a = c.args in
     let p = c.requires in
-    let ws = c.components_of-components.result.now in
+    let ws = c.template_on-template.result.components.now in
     let r = c.args.grid.size.repetitions in (
       omega arith,
-      λ h. let g : a.offset + a.tracks.count ≤ sum_of (totals r ws) = subst (λ (x : List ℕ). a.offset + a.tracks.count ≤ sum_of (word_totals r x)) (sym c.components_of-components.ensures) (p.count_bound (omega arith)) in omega arith,
+      λ h. let g : a.offset + a.tracks.count ≤ sum_of (totals r ws) = subst (λ (x : List ℕ). a.offset + a.tracks.count ≤ sum_of (word_totals r x)) (sym c.template_on-template.ensures.components) (p.count_bound (omega arith)) in omega arith,
       runs_first r ws a.offset (a.tracks.count - 0),
       refl,
-      written_none (template_pair (totals a.grid.size.repetitions ws) (template_of ws c.minimums_of-minimums.result.now c.maximums_of-maximums.result.now) a.items.now a.offset a.tracks.first a.gutters) a.words.now a.tracks.place a.tracks.first a.tracks.count,
+      written_none (template_pair (totals a.grid.size.repetitions ws) (template_of ws c.template_on-template.result.minimums.now c.template_on-template.result.maximums.now) a.items.now a.offset a.tracks.first a.gutters) a.words.now a.tracks.place a.tracks.first a.tracks.count,
     )
 
 pub overflow_sub-left : goal.overflow_sub-left
@@ -45,27 +45,27 @@ pub overflow_add-done : goal.overflow_add-done
 overflow_add-done c =
     let a = c.args in
     let p = c.requires in
-    let ws = c.components_of-components.result.now in
+    let ws = c.template_on-template.result.components.now in
     let l = c.loop-done in
     let less = c.loop-done-test.true in
-    let small : l.component < length ws = component-left a.grid.size.repetitions ws l.component l.at (a.tracks.count - l.done) (l.invariant.1 (omega (arith, less))) (omega (arith, less)) in
+    let small : l.at.component < length ws = component-left a.grid.size.repetitions ws l.at.component l.at.offset (a.tracks.count - l.done) (l.invariant.1 (omega (arith, less))) (omega (arith, less)) in
     let x = c.part_at-part.result in
-    let mi = c.minimums_of-minimums.result.now in
-    let ma = c.maximums_of-maximums.result.now in
-    let t = taken a.grid.size.repetitions ws mi ma a.offset l.done a.tracks.count l.component l.at small l.invariant.1 l.invariant.2 x c.part_at-part.ensures.value in
+    let mi = c.template_on-template.result.minimums.now in
+    let ma = c.template_on-template.result.maximums.now in
+    let t = taken a.grid.size.repetitions ws mi ma a.offset l.done a.tracks.count l.at.component l.at.offset small l.invariant.1 l.invariant.2 x c.part_at-part.ensures.value in
     omega (arith, p.count_bound_2, less, t.fits)
 
 pub loop-done-smaller : goal.loop-done-smaller
 loop-done-smaller c =
     let a = c.args in
-    let ws = c.components_of-components.result.now in
+    let ws = c.template_on-template.result.components.now in
     let l = c.loop-done in
     let less = c.loop-done-test.true in
-    let small : l.component < length ws = component-left a.grid.size.repetitions ws l.component l.at (a.tracks.count - l.done) (l.invariant.1 (omega (arith, less))) (omega (arith, less)) in
+    let small : l.at.component < length ws = component-left a.grid.size.repetitions ws l.at.component l.at.offset (a.tracks.count - l.done) (l.invariant.1 (omega (arith, less))) (omega (arith, less)) in
     let x = c.part_at-part.result in
-    let mi = c.minimums_of-minimums.result.now in
-    let ma = c.maximums_of-maximums.result.now in
-    let t = taken a.grid.size.repetitions ws mi ma a.offset l.done a.tracks.count l.component l.at small l.invariant.1 l.invariant.2 x c.part_at-part.ensures.value in
+    let mi = c.template_on-template.result.minimums.now in
+    let ma = c.template_on-template.result.maximums.now in
+    let t = taken a.grid.size.repetitions ws mi ma a.offset l.done a.tracks.count l.at.component l.at.offset small l.invariant.1 l.invariant.2 x c.part_at-part.ensures.value in
     omega (arith, small, t.on, t.held)
 
 pub shape_of-words : goal.shape_of-words
@@ -75,39 +75,39 @@ shape_of-words c =
 pub returns : goal.returns
 returns c =
     let a = c.args in
-    let ws = c.components_of-components.result.now in
+    let ws = c.template_on-template.result.components.now in
     let l = c.loop-done in
-    let mi = c.minimums_of-minimums.result.now in
-    let ma = c.maximums_of-maximums.result.now in
+    let mi = c.template_on-template.result.minimums.now in
+    let ma = c.template_on-template.result.maximums.now in
     let pair = template_pair (totals a.grid.size.repetitions ws) (template_of ws mi ma) a.items.now a.offset a.tracks.first a.gutters in
     sym (written_all pair l.words a.tracks.place a.tracks.first a.tracks.count l.done c.loop-done-test.false) ∙ l.invariant.4
     ∙ ap (sets a.words.now a.tracks.place)
-    (in_parts a.grid a.tables.now ws mi ma c.components_of-components.ensures c.minimums_of-minimums.ensures c.maximums_of-maximums.ensures a.items.now a.offset a.tracks.first a.tracks.count a.gutters)
+    (in_parts a.grid a.tables.now ws mi ma c.template_on-template.ensures.components c.template_on-template.ensures.minimums c.template_on-template.ensures.maximums a.items.now a.offset a.tracks.first a.tracks.count a.gutters)
 
 pub part_at-part-requires : goal.part_at-part-requires
 part_at-part-requires c =
     let a = c.args in
     let p = c.requires in
-    let ws = c.components_of-components.result.now in
+    let ws = c.template_on-template.result.components.now in
     let l = c.loop-done in
     let less = c.loop-done-test.true in
-    let small : l.component < length ws = component-left a.grid.size.repetitions ws l.component l.at (a.tracks.count - l.done) (l.invariant.1 (omega (arith, less))) (omega (arith, less)) in
-    let few : length ws ≤ a.grid.template.components = subst (λ (x : List ℕ). length x ≤ a.grid.template.components) (sym c.components_of-components.ensures) (part_few a.tables.now 0 a.grid.template.components) in
+    let small : l.at.component < length ws = component-left a.grid.size.repetitions ws l.at.component l.at.offset (a.tracks.count - l.done) (l.invariant.1 (omega (arith, less))) (omega (arith, less)) in
+    let few : length ws ≤ a.grid.template.components = subst (λ (x : List ℕ). length x ≤ a.grid.template.components) (sym c.template_on-template.ensures.components) (part_few a.tables.now 0 a.grid.template.components) in
     record { component_in_bounds = small; components_len_bound = omega (arith, few, c.well_formed); left_bound = omega arith }
 
 pub loop-done-preserved : goal.loop-done-preserved
 loop-done-preserved c =
     let a = c.args in
-    let ws = c.components_of-components.result.now in
+    let ws = c.template_on-template.result.components.now in
     let l = c.loop-done in
     let less = c.loop-done-test.true in
-    let small : l.component < length ws = component-left a.grid.size.repetitions ws l.component l.at (a.tracks.count - l.done) (l.invariant.1 (omega (arith, less))) (omega (arith, less)) in
+    let small : l.at.component < length ws = component-left a.grid.size.repetitions ws l.at.component l.at.offset (a.tracks.count - l.done) (l.invariant.1 (omega (arith, less))) (omega (arith, less)) in
     let x = c.part_at-part.result in
-    let mi = c.minimums_of-minimums.result.now in
-    let ma = c.maximums_of-maximums.result.now in
-    let t = taken a.grid.size.repetitions ws mi ma a.offset l.done a.tracks.count l.component l.at small l.invariant.1 l.invariant.2 x c.part_at-part.ensures.value in
+    let mi = c.template_on-template.result.minimums.now in
+    let ma = c.template_on-template.result.maximums.now in
+    let t = taken a.grid.size.repetitions ws mi ma a.offset l.done a.tracks.count l.at.component l.at.offset small l.invariant.1 l.invariant.2 x c.part_at-part.ensures.value in
     let pair = template_pair (totals a.grid.size.repetitions ws) (template_of ws mi ma) a.items.now a.offset a.tracks.first a.gutters in
-    let part = part_pair mi ma a.items.now x.repeated l.at (a.tracks.first + l.done) a.gutters in
+    let part = part_pair mi ma a.items.now x.repeated l.at.offset (a.tracks.first + l.done) a.gutters in
     let put = c.write_part.ensures in (
       omega (arith, less, t.fits),
       t.sum,
@@ -116,19 +116,19 @@ loop-done-preserved c =
       written-more pair (λ u. refl) l.words c.write_part.new.words a.tracks.place a.tracks.first a.tracks.count l.done x.count (omega (arith, less, t.fits))
           (put ∙ ap (sets l.words (a.tracks.place + 6 * l.done))
           (joined_same part pair (a.tracks.first + l.done) x.count
-          (taken-pair a.grid.size.repetitions ws mi ma a.offset l.done a.tracks.count l.component l.at small l.invariant.1 l.invariant.2 a.items.now a.gutters a.tracks.first x c.part_at-part.ensures.value))) ∙ l.invariant.4,
+          (taken-pair a.grid.size.repetitions ws mi ma a.offset l.done a.tracks.count l.at.component l.at.offset small l.invariant.1 l.invariant.2 a.items.now a.gutters a.tracks.first x c.part_at-part.ensures.value))) ∙ l.invariant.4,
     )
 
 pub write_part-requires : goal.write_part-requires
 write_part-requires c =
     let a = c.args in
     let p = c.requires in
-    let ws = c.components_of-components.result.now in
+    let ws = c.template_on-template.result.components.now in
     let l = c.loop-done in
     let less = c.loop-done-test.true in
-    let small : l.component < length ws = component-left a.grid.size.repetitions ws l.component l.at (a.tracks.count - l.done) (l.invariant.1 (omega (arith, less))) (omega (arith, less)) in
+    let small : l.at.component < length ws = component-left a.grid.size.repetitions ws l.at.component l.at.offset (a.tracks.count - l.done) (l.invariant.1 (omega (arith, less))) (omega (arith, less)) in
     let x = c.part_at-part.result in
-    let mi = c.minimums_of-minimums.result.now in
-    let ma = c.maximums_of-maximums.result.now in
-    let t = taken a.grid.size.repetitions ws mi ma a.offset l.done a.tracks.count l.component l.at small l.invariant.1 l.invariant.2 x c.part_at-part.ensures.value in
+    let mi = c.template_on-template.result.minimums.now in
+    let ma = c.template_on-template.result.maximums.now in
+    let t = taken a.grid.size.repetitions ws mi ma a.offset l.done a.tracks.count l.at.component l.at.offset small l.invariant.1 l.invariant.2 x c.part_at-part.ensures.value in
     record { length_nonzero = t.some; length_bound = c.part_at-part.ensures.few; count_bound = omega (arith, less, t.fits); count_in_bounds = omega (arith, less, t.fits, l.invariant.3) }

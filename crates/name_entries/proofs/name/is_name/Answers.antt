@@ -1,12 +1,13 @@
-use mathlib.Core.Path.{sym, ◌∙◌}
-use Rattle.name_entries.proofs.Graphic.{short-name, long_name, sized-name}
+use Rattle.std.proofs.Common.{rules, ◌∙◌, sym}
+use Rattle.std.proofs.lemmas.Iterator.{YieldsList-from_slice}
+use Rattle.std.proofs.lemmas.Iterator.Search.{all_from_yields_List}
+use borrow.Author.Tests.{tests}
+use Rattle.std.specs.Char.{is_ascii_graphic}
+use Rattle.name_entries.proofs.Graphic.{sized-name}
 use Rattle.name_entries.proofs.name.is_name.Goals as goal
 
-pub returns-then-length-lt1 : goal.returns-then-length-lt1
-returns-then-length-lt1 c = sym (short-name c.args.name.now c.if-length-lt1.true)
-
-pub returns-then-length-gt32 : goal.returns-then-length-gt32
-returns-then-length-gt32 c = sym (long_name c.args.name.now c.if-length-lt1.false c.if-length-gt32.true)
-
 pub returns : goal.returns
-returns c = c.all_graphic.ensures ∙ sym (sized-name c.args.name.now c.if-length-lt1.false c.if-length-gt32.false)
+returns c =
+    let a = c.args in
+    all_from_yields_List is_ascii_graphic _ _ c.all.result c.all.ensures.ran (YieldsList-from_slice a.name.now cc) (λ x b q k. search (rules, tests))
+    ∙ sym (sized-name a.name.now c.if-name-lt1.false c.if-name-gt32.false)

@@ -4,9 +4,9 @@ use Rattle.name_lists.proofs.line.part_word.Goals as goal
 
 pub overflow_add-result-2 : goal.overflow_add-result-2
 overflow_add-result-2 c = let a = c.args in
-    let e = c.entry_of-entry in
+    let e = c.from-entry in
     let n = c.name_in-length in
-    let o = c.offset_in-offset in
+    let o = c.min-offset in
     record {
       fits = omega (
         arith,

@@ -1,9 +1,5 @@
-use Prim.Native.Nat.{◌≤◌, ◌+◌, ◌-◌}
 use Rattle.name_lists.proofs.Lines.{Lines}
 use Rattle.name_lists.proofs.passes.write_by_passes.Given as goal
 
 abbrev pub invariant-loop-line : goal.invariant-loop-line
-invariant-loop-line l = (l.line ≤ l.explicit + 2) × Lines l.explicit l.entries l.store l.initial.words l.words l.count l.line
-
-abbrev pub decreases-loop-line : goal.decreases-loop-line
-decreases-loop-line l = l.explicit + 2 - l.line
+invariant-loop-line l = Lines l.explicit l.names.entries.now l.names.store.now l.initial.words l.words l.count l.line

@@ -1,4 +1,5 @@
 -- The loop's invariant says what is still to be marked: the edges of the areas from i on.
+use native.Mathlib.Omega.{arith}
 use Prim.Native.Nat.{suc, ◌+◌}
 use lib.ListN.{drop, get_or}
 use Rattle.name_rules.specs.Rule.{any}
@@ -9,9 +10,9 @@ use Rattle.name_search.proofs.areas.mark_areas.Goals as goal
 
 pub loop-i-preserved : goal.loop-i-preserved
 loop-i-preserved c = let a = c.args in let l = c.loop-i in
-    rest-step a.marks.now l.marks c.mark_area.new.marks (λ k. any (edged? a.name.now (side_of a.end) (suc (a.low + k))) (areas_of a.axis (drop l.i a.edges.now) (drop l.i a.areas.now) a.areastore.now)) (λ k. edged? a.name.now (side_of a.end) (suc (a.low + k)) (area_of a.axis (get_or a.edges.now l.i 0) (get_or a.areas.now l.i 0) a.areastore.now)) (λ k. any (edged? a.name.now (side_of a.end) (suc (a.low + k))) (areas_of a.axis (drop (l.i + 1) a.edges.now) (drop (l.i + 1) a.areas.now) a.areastore.now)) (λ k. any (edged? a.name.now (side_of a.end) (suc (a.low + k))) (areas_of a.axis a.edges.now a.areas.now a.areastore.now))
-    (λ k. areas-step (edged? a.name.now (side_of a.end) (suc (a.low + k))) a.axis a.edges.now a.areas.now a.areastore.now l.i c.loop-i-test.true) l.invariant (rw (← c.word_at-area.ensures) c.mark_area.ensures)
+    rest-step a.marks.now l.marks c.mark_area.new.marks (λ k. any (edged? a.name.now (side_of a.end) (suc (a.sought.from + k))) (areas_of a.sought.axis (drop l.i a.areas.edges.now) (drop l.i a.areas.names.now) a.areas.store.now)) (λ k. edged? a.name.now (side_of a.end) (suc (a.sought.from + k)) (area_of a.sought.axis (get_or a.areas.edges.now l.i 0) (get_or a.areas.names.now l.i 0) a.areas.store.now)) (λ k. any (edged? a.name.now (side_of a.end) (suc (a.sought.from + k))) (areas_of a.sought.axis (drop (l.i + 1) a.areas.edges.now) (drop (l.i + 1) a.areas.names.now) a.areas.store.now)) (λ k. any (edged? a.name.now (side_of a.end) (suc (a.sought.from + k))) (areas_of a.sought.axis a.areas.edges.now a.areas.names.now a.areas.store.now))
+    (λ k. areas-step (edged? a.name.now (side_of a.end) (suc (a.sought.from + k))) a.sought.axis a.areas.edges.now a.areas.names.now a.areas.store.now l.i (omega arith)) l.invariant (rw (← c.word_at-area.ensures) c.mark_area.ensures)
 
 pub returns : goal.returns
 returns c = let a = c.args in let l = c.loop-i in
-    rest_end a.marks.now l.marks (λ k. any (edged? a.name.now (side_of a.end) (suc (a.low + k))) (areas_of a.axis (drop l.i a.edges.now) (drop l.i a.areas.now) a.areastore.now)) (λ k. any (edged? a.name.now (side_of a.end) (suc (a.low + k))) (areas_of a.axis a.edges.now a.areas.now a.areastore.now)) (λ k. areas-end (edged? a.name.now (side_of a.end) (suc (a.low + k))) a.axis a.edges.now a.areas.now a.areastore.now l.i c.loop-i-test.false) l.invariant
+    rest_end a.marks.now l.marks (λ k. any (edged? a.name.now (side_of a.end) (suc (a.sought.from + k))) (areas_of a.sought.axis (drop l.i a.areas.edges.now) (drop l.i a.areas.names.now) a.areas.store.now)) (λ k. any (edged? a.name.now (side_of a.end) (suc (a.sought.from + k))) (areas_of a.sought.axis a.areas.edges.now a.areas.names.now a.areas.store.now)) (λ k. areas-end (edged? a.name.now (side_of a.end) (suc (a.sought.from + k))) a.sought.axis a.areas.edges.now a.areas.names.now a.areas.store.now l.i (omega arith)) l.invariant

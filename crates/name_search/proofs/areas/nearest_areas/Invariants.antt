@@ -1,5 +1,4 @@
-use Prim.Native.Nat.{◌-◌}
-use lib.ListN.{length, drop}
+use lib.ListN.{drop}
 use Rattle.name_rules.specs.Rule.{any}
 use Rattle.name_lines.specs.Areas.{areas_of, edged?, side_of}
 use Rattle.name_search.specs.Nearest.{number_at}
@@ -7,7 +6,4 @@ use Rattle.name_search.proofs.Passes.{Rest}
 use Rattle.name_search.proofs.areas.nearest_areas.Given as goal
 
 abbrev pub invariant-loop-i : goal.invariant-loop-i
-invariant-loop-i l = Rest (λ d. any (edged? l.name (side_of l.end) (number_at l.sought.way l.sought.from d)) (areas_of l.sought.axis (drop l.i l.edges) (drop l.i l.areas) l.areastore)) (λ d. any (edged? l.name (side_of l.end) (number_at l.sought.way l.sought.from d)) (areas_of l.sought.axis l.edges l.areas l.areastore)) l.limit l.best
-
-abbrev pub decreases-loop-i : goal.decreases-loop-i
-decreases-loop-i l = length l.edges - l.i
+invariant-loop-i l = Rest (λ d. any (edged? l.name (side_of l.end) (number_at l.sought.way l.sought.from d)) (areas_of l.sought.axis (drop l.i l.areas.edges.now) (drop l.i l.areas.names.now) l.areas.store.now)) (λ d. any (edged? l.name (side_of l.end) (number_at l.sought.way l.sought.from d)) (areas_of l.sought.axis l.areas.edges.now l.areas.names.now l.areas.store.now)) l.limit l.best

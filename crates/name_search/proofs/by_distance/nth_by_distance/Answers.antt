@@ -4,19 +4,19 @@ use mathlib.Core.Bool.{Bool}
 use Prim.Native.Nat.{ℕ}
 use native.Mathlib.Omega.{arith}
 use Rattle.name_lines.specs.Marks.{seek_of, walk}
-use Rattle.name_lines.specs.declared.Found.TheVariants.{At, Left}
 use Rattle.name_search.specs.Sought.{marks_of}
 use Rattle.name_search.proofs.Walks.{walk-left, walk-below, walk-past, walk-next}
 use Rattle.name_search.proofs.by_distance.nth_by_distance.Goals as goal
+use Rattle.std.specs.Prelude.{Ok, Err}
 
 pub returns-in_default : goal.returns-in_default
-returns-in_default c = let a = c.args in let l = c.loop-line in let p : ℕ → Bool = marks_of a.sought a.entries.now a.store.now a.edges.now a.areas.now a.areastore.now a.stem.now in let found : seek_of (Left c.in_default.field-0) ≡ walk a.sought.way p l.from 0 = rw (c.in_default.is, c.sought_from-next.ensures) at c.nearest_line.ensures in
+returns-in_default c = let a = c.args in let l = c.loop-line in let p : ℕ → Bool = marks_of a.sought a.names.entries.now a.names.store.now a.areas.edges.now a.areas.names.now a.areas.store.now a.stem.now in let found : seek_of (Err c.in_default.field-0) ≡ walk a.sought.way p l.from 0 = rw (c.in_default.is, c.part-next.ensures) at c.nearest_line.ensures in
     walk-left p a.sought.way l.from c.in_default.field-0 l.m found ∙ l.invariant.1
 
 pub past_line-from-requires : goal.past_line-from-requires
-past_line-from-requires c = let a = c.args in let l = c.loop-line in let p : ℕ → Bool = marks_of a.sought a.entries.now a.store.now a.edges.now a.areas.now a.areastore.now a.stem.now in let found : seek_of (At c.in-At.line) ≡ walk a.sought.way p l.from 0 = rw (c.in-At.is, c.sought_from-next.ensures) at c.nearest_line.ensures in
-    omega (arith, c.well_formed, walk-below p a.sought.way l.from c.in-At.line a.sought.from found l.invariant.0)
+past_line-from-requires c = let a = c.args in let l = c.loop-line in let p : ℕ → Bool = marks_of a.sought a.names.entries.now a.names.store.now a.areas.edges.now a.areas.names.now a.areas.store.now a.stem.now in let found : seek_of (Ok c.in-Ok.line) ≡ walk a.sought.way p l.from 0 = rw (c.in-Ok.is, c.part-next.ensures) at c.nearest_line.ensures in
+    omega (arith, c.well_formed, walk-below p a.sought.way l.from c.in-Ok.line a.sought.from found l.invariant.0)
 
 pub loop-line-preserved : goal.loop-line-preserved
-loop-line-preserved c = let a = c.args in let l = c.loop-line in let p : ℕ → Bool = marks_of a.sought a.entries.now a.store.now a.edges.now a.areas.now a.areastore.now a.stem.now in let found : seek_of (At c.in-At.line) ≡ walk a.sought.way p l.from 0 = rw (c.in-At.is, c.sought_from-next.ensures) at c.nearest_line.ensures in
-    (rw c.past_line-from.ensures (walk-past p a.sought.way l.from c.in-At.line a.sought.from found l.invariant.0), rw c.past_line-from.ensures (sym (walk-next p a.sought.way l.from c.in-At.line l.m found c.if-m-eq0.false) ∙ l.invariant.1))
+loop-line-preserved c = let a = c.args in let l = c.loop-line in let p : ℕ → Bool = marks_of a.sought a.names.entries.now a.names.store.now a.areas.edges.now a.areas.names.now a.areas.store.now a.stem.now in let found : seek_of (Ok c.in-Ok.line) ≡ walk a.sought.way p l.from 0 = rw (c.in-Ok.is, c.part-next.ensures) at c.nearest_line.ensures in
+    (rw c.past_line-from.ensures (walk-past p a.sought.way l.from c.in-Ok.line a.sought.from found l.invariant.0), rw c.past_line-from.ensures (sym (walk-next p a.sought.way l.from c.in-Ok.line l.m found c.if-m-eq0.false) ∙ l.invariant.1))

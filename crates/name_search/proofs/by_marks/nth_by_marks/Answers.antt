@@ -4,26 +4,26 @@ use mathlib.Core.Bool.{Bool}
 use Prim.Native.Nat.{ℕ, ◌-◌, ◌≤◌}
 use native.Mathlib.Omega.{arith}
 use Rattle.name_lines.specs.Marks.{seek_of}
-use Rattle.name_lines.specs.declared.Found.TheVariants.{At, Left}
 use Rattle.name_lines.proofs.HighestLine.{sought_past}
 use Rattle.name_search.specs.Scans.{next_window}
 use Rattle.name_search.specs.Sought.{marks_of}
 use Rattle.name_search.proofs.Scanning.{scan_in, scan-end, scan_sought, scan-found, scan-left}
 use Rattle.name_search.proofs.by_marks.nth_by_marks.Goals as goal
+use Rattle.std.specs.Prelude.{Ok, Err}
 
 pub loop-lines-init : goal.loop-lines-init
-loop-lines-init c = let a = c.args in let p : ℕ → Bool = marks_of a.sought a.entries.now a.store.now a.edges.now a.areas.now a.areastore.now a.stem.now in
-    rw c.lines_sought-lines.ensures (scan_sought a.sought.way p a.sought.from c.highest_line-highest.result a.sought.over (λ j h. sought_past a.sought.axis a.entries.now a.store.now a.edges.now a.areas.now a.areastore.now a.stem.now a.sought.edge j (rw c.highest_line-highest.ensures at h)))
+loop-lines-init c = let a = c.args in let p : ℕ → Bool = marks_of a.sought a.names.entries.now a.names.store.now a.areas.edges.now a.areas.names.now a.areas.store.now a.stem.now in
+    rw c.lines_sought-lines.ensures (scan_sought a.sought.way p a.sought.from c.highest_line-highest.result a.sought.over (λ j h. sought_past a.sought.axis a.names.entries.now a.names.store.now a.areas.edges.now a.areas.names.now a.areas.store.now a.stem.now a.sought.edge j (rw c.highest_line-highest.ensures at h)))
 
-pub returns-in-At : goal.returns-in-At
-returns-in-At c = let a = c.args in let l = c.loop-lines in let h : l.lines.low ≤ l.lines.end = omega (arith, c.loop-lines-test.true) in let p : ℕ → Bool = marks_of a.sought a.entries.now a.store.now a.edges.now a.areas.now a.areastore.now a.stem.now in
-    let found : seek_of (At c.in-At.line) ≡ scan_in a.sought.way p (next_window a.sought.way l.lines) l.m = rw (c.in-At.is, c.sought_in-part.ensures, c.next_window-window.ensures) at c.nth_in_window.ensures in
-    scan-found p l.lines h a.sought.way l.m c.in-At.line found ∙ l.invariant
+pub returns-in-Ok : goal.returns-in-Ok
+returns-in-Ok c = let a = c.args in let l = c.loop-lines in let h : l.lines.low ≤ l.lines.end = omega (arith, c.loop-lines-test.true) in let p : ℕ → Bool = marks_of a.sought a.names.entries.now a.names.store.now a.areas.edges.now a.areas.names.now a.areas.store.now a.stem.now in
+    let found : seek_of (Ok c.in-Ok.line) ≡ scan_in a.sought.way p (next_window a.sought.way l.lines) l.m = rw (c.in-Ok.is, c.part-part.ensures, c.next_window-window.ensures) at c.nth_in_window.ensures in
+    scan-found p l.lines h a.sought.way l.m c.in-Ok.line found ∙ l.invariant
 
 pub loop-lines-preserved : goal.loop-lines-preserved
-loop-lines-preserved c = let a = c.args in let l = c.loop-lines in let h : l.lines.low ≤ l.lines.end = omega (arith, c.loop-lines-test.true) in let p : ℕ → Bool = marks_of a.sought a.entries.now a.store.now a.edges.now a.areas.now a.areastore.now a.stem.now in
-    let found : seek_of (Left c.in-Left.n) ≡ scan_in a.sought.way p (next_window a.sought.way l.lines) l.m = rw (c.in-Left.is, c.sought_in-part.ensures, c.next_window-window.ensures) at c.nth_in_window.ensures in
-    rw (c.lines_left-lines.ensures, c.next_window-window.ensures) (scan-left p l.lines h a.sought.way l.m c.in-Left.n found ∙ l.invariant)
+loop-lines-preserved c = let a = c.args in let l = c.loop-lines in let h : l.lines.low ≤ l.lines.end = omega (arith, c.loop-lines-test.true) in let p : ℕ → Bool = marks_of a.sought a.names.entries.now a.names.store.now a.areas.edges.now a.areas.names.now a.areas.store.now a.stem.now in
+    let found : seek_of (Err c.in-Err.left) ≡ scan_in a.sought.way p (next_window a.sought.way l.lines) l.m = rw (c.in-Err.is, c.part-part.ensures, c.next_window-window.ensures) at c.nth_in_window.ensures in
+    rw (c.lines_left-lines.ensures, c.next_window-window.ensures) (scan-left p l.lines h a.sought.way l.m c.in-Err.left found ∙ l.invariant)
 
 pub returns : goal.returns
-returns c = let a = c.args in let l = c.loop-lines in scan-end a.sought.way (marks_of a.sought a.entries.now a.store.now a.edges.now a.areas.now a.areastore.now a.stem.now) l.lines.low (l.lines.end - l.lines.low) l.m (omega (arith, c.loop-lines-test.false)) ∙ l.invariant
+returns c = let a = c.args in let l = c.loop-lines in scan-end a.sought.way (marks_of a.sought a.names.entries.now a.names.store.now a.areas.edges.now a.areas.names.now a.areas.store.now a.stem.now) l.lines.low (l.lines.end - l.lines.low) l.m (omega (arith, c.loop-lines-test.false)) ∙ l.invariant

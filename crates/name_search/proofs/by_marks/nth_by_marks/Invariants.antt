@@ -6,7 +6,7 @@ use Rattle.name_search.proofs.Scanning.{scan_in}
 use Rattle.name_search.proofs.by_marks.nth_by_marks.Given as goal
 
 abbrev pub invariant-loop-lines : goal.invariant-loop-lines
-invariant-loop-lines l = scan_in l.sought.way (marks_of l.sought l.entries l.store l.edges l.areas l.areastore l.stem) l.lines l.m ≡ walk l.sought.way (marks_of l.sought l.entries l.store l.edges l.areas l.areastore l.stem) l.sought.from l.sought.over
+invariant-loop-lines l = scan_in l.sought.way (marks_of l.sought l.names.entries.now l.names.store.now l.areas.edges.now l.areas.names.now l.areas.store.now l.stem) l.lines l.m ≡ walk l.sought.way (marks_of l.sought l.names.entries.now l.names.store.now l.areas.edges.now l.areas.names.now l.areas.store.now l.stem) l.sought.from l.sought.over
 
 abbrev pub decreases-loop-lines : goal.decreases-loop-lines
 decreases-loop-lines l = l.lines.end - l.lines.low

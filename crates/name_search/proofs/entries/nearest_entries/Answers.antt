@@ -1,4 +1,5 @@
 -- The loop's invariant says what is still to be passed: the lines of the entries from i on.
+use native.Mathlib.Omega.{arith}
 use Prim.Native.Nat.{◌+◌}
 use mathlib.Core.List.{◌++◌}
 use lib.ListN.{drop, get_or}
@@ -10,11 +11,11 @@ use Rattle.name_search.specs.Nearest.{number_at}
 use Rattle.name_search.proofs.Passes.{rest-step, rest_end}
 use Rattle.name_search.proofs.entries.nearest_entries.Goals as goal
 
-pub loop-i-preserved : goal.loop-i-preserved
-loop-i-preserved c = let a = c.args in let l = c.loop-i in
-    rest-step (λ d. any (written? (a.stem.now ++ tail_of a.edge) (number_at a.way a.from d)) (entries_of (drop l.i a.entries.now) a.store.now)) (λ d. written? (a.stem.now ++ tail_of a.edge) (number_at a.way a.from d) (named_entry a.store.now (entry_of (get_or a.entries.now l.i 0)))) (λ d. any (written? (a.stem.now ++ tail_of a.edge) (number_at a.way a.from d)) (entries_of (drop (l.i + 1) a.entries.now) a.store.now)) (λ d. any (written? (a.stem.now ++ tail_of a.edge) (number_at a.way a.from d)) (entries_of a.entries.now a.store.now)) a.limit l.best c.nearest_entry-best.result
-    (λ d. entries-step (written? (a.stem.now ++ tail_of a.edge) (number_at a.way a.from d)) a.entries.now a.store.now l.i c.loop-i-test.true) l.invariant c.nearest_entry-best.ensures
+pub loop-word-preserved : goal.loop-word-preserved
+loop-word-preserved c = let a = c.args in let l = c.loop-word in
+    rest-step (λ d. any (written? (a.stem.now ++ tail_of a.sought.edge) (number_at a.sought.way a.sought.from d)) (entries_of (drop l.word-index a.names.entries.now) a.names.store.now)) (λ d. written? (a.stem.now ++ tail_of a.sought.edge) (number_at a.sought.way a.sought.from d) (named_entry a.names.store.now (entry_of (get_or a.names.entries.now l.word-index 0)))) (λ d. any (written? (a.stem.now ++ tail_of a.sought.edge) (number_at a.sought.way a.sought.from d)) (entries_of (drop (l.word-index + 1) a.names.entries.now) a.names.store.now)) (λ d. any (written? (a.stem.now ++ tail_of a.sought.edge) (number_at a.sought.way a.sought.from d)) (entries_of a.names.entries.now a.names.store.now)) a.limit l.best c.nearest_entry-best.result
+    (λ d. entries-step (written? (a.stem.now ++ tail_of a.sought.edge) (number_at a.sought.way a.sought.from d)) a.names.entries.now a.names.store.now l.word-index (omega arith)) l.invariant c.nearest_entry-best.ensures
 
 pub returns : goal.returns
-returns c = let a = c.args in let l = c.loop-i in
-    rest_end (λ d. any (written? (a.stem.now ++ tail_of a.edge) (number_at a.way a.from d)) (entries_of (drop l.i a.entries.now) a.store.now)) (λ d. any (written? (a.stem.now ++ tail_of a.edge) (number_at a.way a.from d)) (entries_of a.entries.now a.store.now)) a.limit l.best (λ d. entries-end (written? (a.stem.now ++ tail_of a.edge) (number_at a.way a.from d)) a.entries.now a.store.now l.i c.loop-i-test.false) l.invariant
+returns c = let a = c.args in let l = c.loop-word in
+    rest_end (λ d. any (written? (a.stem.now ++ tail_of a.sought.edge) (number_at a.sought.way a.sought.from d)) (entries_of (drop l.word-index a.names.entries.now) a.names.store.now)) (λ d. any (written? (a.stem.now ++ tail_of a.sought.edge) (number_at a.sought.way a.sought.from d)) (entries_of a.names.entries.now a.names.store.now)) a.limit l.best (λ d. entries-end (written? (a.stem.now ++ tail_of a.sought.edge) (number_at a.sought.way a.sought.from d)) a.names.entries.now a.names.store.now l.word-index (omega arith)) l.invariant

@@ -1,6 +1,5 @@
-use Prim.Native.Nat.{◌-◌}
 use mathlib.Core.List.{◌++◌}
-use lib.ListN.{length, drop}
+use lib.ListN.{drop}
 use Rattle.name_rules.specs.Rule.{any, written?}
 use Rattle.name_entries.specs.Entries.{entries_of}
 use Rattle.name_lines.specs.Suffixes.{tail_of}
@@ -8,8 +7,5 @@ use Rattle.name_search.specs.Nearest.{number_at}
 use Rattle.name_search.proofs.Passes.{Rest}
 use Rattle.name_search.proofs.entries.nearest_entries.Given as goal
 
-abbrev pub invariant-loop-i : goal.invariant-loop-i
-invariant-loop-i l = Rest (λ d. any (written? (l.stem ++ tail_of l.edge) (number_at l.way l.from d)) (entries_of (drop l.i l.entries) l.store)) (λ d. any (written? (l.stem ++ tail_of l.edge) (number_at l.way l.from d)) (entries_of l.entries l.store)) l.limit l.best
-
-abbrev pub decreases-loop-i : goal.decreases-loop-i
-decreases-loop-i l = length l.entries - l.i
+abbrev pub invariant-loop-word : goal.invariant-loop-word
+invariant-loop-word l = Rest (λ d. any (written? (l.stem ++ tail_of l.sought.edge) (number_at l.sought.way l.sought.from d)) (entries_of (drop l.word-index l.names.entries.now) l.names.store.now)) (λ d. any (written? (l.stem ++ tail_of l.sought.edge) (number_at l.sought.way l.sought.from d)) (entries_of l.names.entries.now l.names.store.now)) l.limit l.best

@@ -8,14 +8,14 @@ use Rattle.name_search.proofs.nearest.nearest_line.Goals as goal
 pub returns-then-limit-near : goal.returns-then-limit-near
 unfolding sought_in
 returns-then-limit-near c = let a = c.args in
-    walk-clear (λ n. bears_joined (entries_of a.entries.now a.store.now) (areas_of a.sought.axis a.edges.now a.areas.now a.areastore.now) a.stem.now a.sought.edge n) a.sought.way a.sought.from c.lines_on-limit.result c.nearest_sought-near.result c.lines_on-limit.ensures c.nearest_sought-near.ensures c.if-limit-near.true
+    walk-clear (λ n. bears_joined (entries_of a.names.entries.now a.names.store.now) (areas_of a.sought.axis a.areas.edges.now a.areas.names.now a.areas.store.now) a.stem.now a.sought.edge n) a.sought.way a.sought.from c.lines_on-limit.result c.nearest_sought-near.result c.lines_on-limit.ensures c.nearest_sought-near.ensures c.if-limit-near.true
 
 pub returns-in-Up : goal.returns-in-Up
 unfolding sought_in
 returns-in-Up c = let a = c.args in
-    walk-found (λ n. bears_joined (entries_of a.entries.now a.store.now) (areas_of a.sought.axis a.edges.now a.areas.now a.areastore.now) a.stem.now a.sought.edge n) a.sought.way a.sought.from c.lines_on-limit.result c.nearest_sought-near.result c.lines_on-limit.ensures c.nearest_sought-near.ensures _ (rw c.in-Up.is) c.if-limit-near.false
+    walk-found (λ n. bears_joined (entries_of a.names.entries.now a.names.store.now) (areas_of a.sought.axis a.areas.edges.now a.areas.names.now a.areas.store.now) a.stem.now a.sought.edge n) a.sought.way a.sought.from c.lines_on-limit.result c.nearest_sought-near.result c.lines_on-limit.ensures c.nearest_sought-near.ensures _ (rw c.in-Up.is) c.if-limit-near.false
 
 pub returns-in-Down : goal.returns-in-Down
 unfolding sought_in
 returns-in-Down c = let a = c.args in let r : c.lines_on-limit.result ≡ a.sought.from = rw c.in-Down.is at c.lines_on-limit.ensures in
-    walk-found (λ n. bears_joined (entries_of a.entries.now a.store.now) (areas_of a.sought.axis a.edges.now a.areas.now a.areastore.now) a.stem.now a.sought.edge n) a.sought.way a.sought.from c.lines_on-limit.result c.nearest_sought-near.result c.lines_on-limit.ensures c.nearest_sought-near.ensures _ (rw c.in-Down.is (omega (arith, c.if-limit-near.false))) c.if-limit-near.false
+    walk-found (λ n. bears_joined (entries_of a.names.entries.now a.names.store.now) (areas_of a.sought.axis a.areas.edges.now a.areas.names.now a.areas.store.now) a.stem.now a.sought.edge n) a.sought.way a.sought.from c.lines_on-limit.result c.nearest_sought-near.result c.lines_on-limit.ensures c.nearest_sought-near.ensures _ (rw c.in-Down.is (omega (arith, c.if-limit-near.false))) c.if-limit-near.false

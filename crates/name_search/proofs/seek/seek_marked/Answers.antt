@@ -2,20 +2,19 @@
 use mathlib.Core.Path.{◌≡◌, sym, ◌∙◌}
 use Prim.Native.Nat.{◌+◌, ◌-◌}
 use native.Mathlib.Omega.{arith}
-use borrow.Author.Tests.{ne_eqb, eq-eqb}
 use Rattle.name_lines.specs.Marks.{marked}
 use Rattle.name_search.specs.Scans.{place_at}
 use Rattle.name_search.proofs.Scanning.{rest_from, scan-end, scan-miss, scan-hit, scan-over}
 use Rattle.name_search.proofs.seek.seek_marked.Goals as goal
-use Rattle.name_search.proofs.seek.seek_marked.Goals.{then-marks-place-eq1+else-m-eq0, else-marks-place-eq1}
+use Rattle.name_search.proofs.seek.seek_marked.Goals.{then-marks-place+else-m-eq0, else-marks-place}
 
 pub returns-then-m-eq0 : goal.returns-then-m-eq0
 returns-then-m-eq0 c = let a = c.args in let l = c.loop-i in let s : a.window.low + (place_at a.way (a.window.end - a.window.low) l.i) - a.window.low ≡ c.place_at-place.result = omega (arith, c.place_at-place.ensures) in
-    rw c.place_at-place.ensures (sym (scan-hit a.way (λ l. marked a.marks.now (l - a.window.low)) a.window.low (a.window.end - a.window.low) l.i c.loop-i-test.true l.m (rw s (eq-eqb _ 1 c.if-marks-place-eq1.true)) c.if-m-eq0.true) ∙ l.invariant)
+    rw c.place_at-place.ensures (sym (scan-hit a.way (λ l. marked a.marks.now (l - a.window.low)) a.window.low (a.window.end - a.window.low) l.i c.loop-i-test.true l.m (rw s c.if-marks-place.true) c.if-m-eq0.true) ∙ l.invariant)
 
 pub loop-i-preserved : goal.loop-i-preserved
 loop-i-preserved c = let a = c.args in let l = c.loop-i in let t = c.loop-i-test.true in let s : a.window.low + (place_at a.way (a.window.end - a.window.low) l.i) - a.window.low ≡ c.place_at-place.result = omega (arith, c.place_at-place.ensures) in
-    elim c.if-marks-place-eq1.branch [ then-marks-place-eq1+else-m-eq0 w ↦ rw w.m-is (sym (scan-over a.way (λ l. marked a.marks.now (l - a.window.low)) a.window.low (a.window.end - a.window.low) l.i t l.m (rw s (eq-eqb _ 1 w.if-marks-place-eq1.true)) w.if-m-eq0.false) ∙ l.invariant) | else-marks-place-eq1 w ↦ rw w.m-is (sym (scan-miss a.way (λ l. marked a.marks.now (l - a.window.low)) a.window.low (a.window.end - a.window.low) l.i t l.m (rw s (ne_eqb _ 1 w.if-marks-place-eq1.false))) ∙ l.invariant) ]
+    elim c.if-marks-place.branch [ then-marks-place+else-m-eq0 w ↦ rw w.m-is (sym (scan-over a.way (λ l. marked a.marks.now (l - a.window.low)) a.window.low (a.window.end - a.window.low) l.i t l.m (rw s w.if-marks-place.true) w.if-m-eq0.false) ∙ l.invariant) | else-marks-place w ↦ rw w.m-is (sym (scan-miss a.way (λ l. marked a.marks.now (l - a.window.low)) a.window.low (a.window.end - a.window.low) l.i t l.m (rw s w.if-marks-place.false)) ∙ l.invariant) ]
 
 pub returns : goal.returns
 returns c = let a = c.args in let l = c.loop-i in scan-end a.way (λ l. marked a.marks.now (l - a.window.low)) (rest_from a.way a.window.low l.i) ((a.window.end - a.window.low) - l.i) l.m (omega arith) ∙ l.invariant

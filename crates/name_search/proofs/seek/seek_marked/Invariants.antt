@@ -7,6 +7,3 @@ use Rattle.name_search.proofs.seek.seek_marked.Given as goal
 
 abbrev pub invariant-loop-i : goal.invariant-loop-i
 invariant-loop-i l = scan l.way (λ k. marked l.marks (k - l.window.low)) (rest_from l.way l.window.low l.i) (l.window.end - l.window.low - l.i) l.m ≡ scan l.way (λ k. marked l.marks (k - l.window.low)) l.window.low (l.window.end - l.window.low) l.over
-
-abbrev pub decreases-loop-i : goal.decreases-loop-i
-decreases-loop-i l = l.window.end - l.window.low - l.i

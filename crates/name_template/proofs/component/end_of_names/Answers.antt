@@ -1,17 +1,18 @@
-use native.Mathlib.Omega.{arith}
-use mathlib.Core.Path.{sym, ◌∙◌}
-use Rattle.name_template.proofs.Leading.{leading-stop, leading-next, leading_end}
+use Rattle.std.proofs.Common.{rules, ◌∙◌, sym, ap, ℕ, ◌+◌, drop}
+use Rattle.std.proofs.lemmas.Iterator.{YieldsList-from_slice}
+use Rattle.std.proofs.lemmas.Iterator.Search.{YieldsList-from_take_while}
+use Rattle.std.proofs.lemmas.Iterator.Consumers.{count_from_yields_List}
+use Rattle.std.proofs.lemmas.List.Folds.{length-prefix_len}
+use borrow.Author.Tests.{tests}
+use Rattle.name_template.specs.Records.{stands}
+use Rattle.name_template.proofs.Leading.{leading_prefix, rest_all}
 use Rattle.name_template.proofs.component.end_of_names.Goals as goal
 
-pub returns-then-not-stands_there : goal.returns-then-not-stands_there
-returns-then-not-stands_there c = let l = c.loop-i in let a = c.args in
-    let z = leading-stop a.inside a.component a.names.now l.i (omega arith) (sym c.stands_there.ensures ∙ c.if-not-stands_there.true) in
-    omega (arith, l.invariant.1)
-
-pub loop-i-preserved : goal.loop-i-preserved
-loop-i-preserved c = let l = c.loop-i in let a = c.args in
-    let z = leading-next a.inside a.component a.names.now l.i (omega arith) (sym c.stands_there.ensures ∙ c.if-not-stands_there.false) in
-    (omega arith, omega (arith, l.invariant.1))
-
 pub returns : goal.returns
-returns c = let l = c.loop-i in let a = c.args in let z = leading_end a.inside a.component a.names.now l.i (omega arith) in omega (arith, l.invariant.1)
+returns c =
+    let a = c.args in
+    ap (λ (n : ℕ). a.at + n)
+    (count_from_yields_List c.take_while-standing.result c.count.result c.count.ensures.ran
+    (YieldsList-from_take_while _ (stands a.inside a.component) (YieldsList-from_slice (drop a.at a.names.now) (rw (← rest_all a.names.now a.at) cc))
+    c.take_while-standing.ensures.closure c.take_while-standing.ensures.done (λ x b q k. search (rules, tests)))
+    ∙ length-prefix_len (stands a.inside a.component) (drop a.at a.names.now) ∙ sym (leading_prefix a.inside a.component (drop a.at a.names.now)))

@@ -14,8 +14,5 @@ returns-then-line-gt10000 c = let a = c.args in sym (written-past a.times a.line
 pub returns-then-tracks-eq0 : goal.returns-then-tracks-eq0
 returns-then-tracks-eq0 c = let a = c.args in sym (written_still a.times a.line a.tracks c.if-line-gt10000.false c.if-tracks-eq0.true)
 
-pub returns-then-times-most : goal.returns-then-times-most
-returns-then-times-most c = let a = c.args in let m = written-most a.times a.line a.tracks (omega arith) (omega arith) in omega arith
-
 pub returns : goal.returns
 returns c = let a = c.args in let m = written-most a.times a.line a.tracks (omega arith) (omega arith) in omega arith

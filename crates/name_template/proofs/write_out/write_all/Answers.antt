@@ -17,9 +17,9 @@ write_component-o-requires c = let l = c.loop-k in let a = c.args in
     let w : ℕ = get_or a.components.now l.k 0 in
     let rest = drop (l.k + 1) a.components.now in
     let d : drop l.k a.components.now ≡ w ∷ rest = rw (add-one l.k) (drop-cons a.components.now l.k 0 (omega arith)) in
-    let n : component_count l.at c.component_names-c.result + _ ≡ _ = sym (met-length a.names.now l.at (get_or a.components.now l.k 0) l.k l.line a.repetitions c.component_names-c.result c.component_names-c.ensures l.invariant.1.placed rest) in
-    let q = rw d at l.invariant.3 in
-    writable a.names.now l.at (get_or a.components.now l.k 0) l.k l.line a.repetitions c.component_names-c.result c.component_names-c.ensures (c.shared_slice_known-in-loop-k-1.given l.k).fits l.invariant.1 (omega arith) _ l.o (omega (arith, n, q, c.requires))
+    let n : component_count l.at c.component_names-c.result + _ ≡ _ = sym (met-length a.names.now l.at (get_or a.components.now l.k 0) l.k l.line a.repetitions c.component_names-c.result c.component_names-c.ensures l.invariant.0.placed rest) in
+    let q = rw d at l.invariant.2 in
+    writable a.names.now l.at (get_or a.components.now l.k 0) l.k l.line a.repetitions c.component_names-c.result c.component_names-c.ensures (c.shared_slice_known-in-loop-k-1.given l.k).fits l.invariant.0 (omega arith) _ l.o (omega (arith, n, q, c.requires))
 
 pub loop-k-preserved : goal.loop-k-preserved
 loop-k-preserved c = let l = c.loop-k in let a = c.args in
@@ -27,27 +27,32 @@ loop-k-preserved c = let l = c.loop-k in let a = c.args in
     let rest = drop (l.k + 1) a.components.now in
     let d : drop l.k a.components.now ≡ w ∷ rest = rw (add-one l.k) (drop-cons a.components.now l.k 0 (omega arith)) in
     let x = c.write_component-o in (
-      omega arith,
-      stands-next a.names.now l.at (get_or a.components.now l.k 0) l.k l.line a.repetitions c.component_names-c.result c.component_names-c.ensures (c.shared_slice_known-in-loop-k-1.given l.k).fits l.invariant.1,
-      rw x.ensures.1 (simp length-sets l.invariant.2),
-      omega (arith, x.ensures.0, met-length a.names.now l.at (get_or a.components.now l.k 0) l.k l.line a.repetitions c.component_names-c.result c.component_names-c.ensures l.invariant.1.placed rest, rw d at l.invariant.3),
-      rw (x.ensures.1, x.ensures.0) ((rw d at l.invariant.4) ∙ met-placed a.names.now l.at (get_or a.components.now l.k 0) l.k l.line a.repetitions c.component_names-c.result c.component_names-c.ensures l.invariant.1.placed rest l.entries l.o),
+      stands-next a.names.now l.at (get_or a.components.now l.k 0) l.k l.line a.repetitions c.component_names-c.result c.component_names-c.ensures (c.shared_slice_known-in-loop-k-1.given l.k).fits l.invariant.0,
+      rw x.ensures.1 (simp length-sets l.invariant.1),
+      omega (arith, x.ensures.0, met-length a.names.now l.at (get_or a.components.now l.k 0) l.k l.line a.repetitions c.component_names-c.result c.component_names-c.ensures l.invariant.0.placed rest, rw d at l.invariant.2),
+      rw (x.ensures.1, x.ensures.0) ((rw d at l.invariant.3) ∙ met-placed a.names.now l.at (get_or a.components.now l.k 0) l.k l.line a.repetitions c.component_names-c.result c.component_names-c.ensures l.invariant.0.placed rest l.entries l.o),
     )
 
 pub slice_bounds-write_once-end : goal.slice_bounds-write_once-end
-slice_bounds-write_once-end c = let l = c.loop-k in let a = c.args in let h : c.end_of_names-end.result ≤ length a.names.now = rw c.end_of_names-end.ensures (ends_within false l.k a.names.now l.at l.invariant.1.placed) in
+slice_bounds-write_once-end c = let l = c.loop-k in let a = c.args in
+    let z : c.min-last.result ≡ l.k = omega arith in
+    let f = rw z at c.end_of_names-end.ensures in let h : c.end_of_names-end.result ≤ length a.names.now = rw f (ends_within false l.k a.names.now l.at l.invariant.0.placed) in
     omega arith
 
 pub write_once-requires : goal.write_once-requires
 write_once-requires c = let l = c.loop-k in let a = c.args in
-    let h : c.end_of_names-end.result ≤ length a.names.now = rw c.end_of_names-end.ensures (ends_within false l.k a.names.now l.at l.invariant.1.placed) in
-    let e : l.k ≡ min 256 (length a.components.now) = omega (arith, c.lesser-last.ensures) in
-    let s : c.end_of_names-end.result - l.at ≡ leading false l.k (drop l.at a.names.now) = omega (arith, c.end_of_names-end.ensures) in
+    let z : c.min-last.result ≡ l.k = omega arith in
+    let f = rw z at c.end_of_names-end.ensures in
+    let h : c.end_of_names-end.result ≤ length a.names.now = rw f (ends_within false l.k a.names.now l.at l.invariant.0.placed) in
+    let e : l.k ≡ min 256 (length a.components.now) = omega (arith, c.min-last.ensures) in
+    let s : c.end_of_names-end.result - l.at ≡ leading false l.k (drop l.at a.names.now) = omega (arith, f) in
     let n = last-length a.repetitions l.k l.line l.at a.names.now a.components.now e in
-    (omega arith, rw (part_length a.names.now l.at c.end_of_names-end.result (omega (arith, c.end_of_names-end.ensures)) h) (omega (arith, n, s, l.invariant.3, c.requires)))
+    (omega arith, rw (part_length a.names.now l.at c.end_of_names-end.result (omega (arith, f)) h) (omega (arith, n, s, l.invariant.2, c.requires)))
 
 pub returns : goal.returns
 returns c = let l = c.loop-k in let a = c.args in
-    let e : l.k ≡ min 256 (length a.components.now) = omega (arith, c.lesser-last.ensures) in
-    let s : c.end_of_names-end.result - l.at ≡ leading false l.k (drop l.at a.names.now) = omega (arith, c.end_of_names-end.ensures) in
-    c.write_once.ensures ∙ sym (l.invariant.4 ∙ rw (last_written a.repetitions l.k l.line (drop l.at a.names.now) a.components.now e, s))
+    let z : c.min-last.result ≡ l.k = omega arith in
+    let f = rw z at c.end_of_names-end.ensures in
+    let e : l.k ≡ min 256 (length a.components.now) = omega (arith, c.min-last.ensures) in
+    let s : c.end_of_names-end.result - l.at ≡ leading false l.k (drop l.at a.names.now) = omega (arith, f) in
+    c.write_once.ensures ∙ sym (l.invariant.3 ∙ rw (last_written a.repetitions l.k l.line (drop l.at a.names.now) a.components.now e, s))

@@ -1,6 +1,6 @@
 use mathlib.Core.Path.{◌≡◌}
 use mathlib.Core.List.{map}
-use Prim.Native.Nat.{◌+◌, ◌-◌, ◌≤◌}
+use Prim.Native.Nat.{◌+◌}
 use lib.ListN.{length, drop}
 use lib.Seq.{sets}
 use Rattle.name_template.specs.Writing.{written_from, written_entries, entry_word}
@@ -9,11 +9,7 @@ use Rattle.name_template.proofs.write_out.write_all.Given as goal
 
 abbrev pub invariant-loop-k : goal.invariant-loop-k
 invariant-loop-k l =
-    (l.k ≤ l.last)
-    × Stands l.names l.at l.line l.k
+    Stands l.names l.at l.line l.k
     × (length l.entries ≡ length l.initial.entries)
     × (l.o + length (written_from l.repetitions l.k l.line (drop l.at l.names) (drop l.k l.components)) ≡ length (written_entries l.names l.components l.repetitions))
     × (sets l.initial.entries 0 (map entry_word (written_entries l.names l.components l.repetitions)) ≡ sets l.entries l.o (map entry_word (written_from l.repetitions l.k l.line (drop l.at l.names) (drop l.k l.components))))
-
-abbrev pub decreases-loop-k : goal.decreases-loop-k
-decreases-loop-k l = l.last - l.k

@@ -1,27 +1,33 @@
 use native.Mathlib.Omega.{arith}
-use mathlib.Core.Path.{sym, ◌∙◌}
+use mathlib.Core.Path.{◌≡◌, sym, ◌∙◌}
+use Prim.Native.Nat.{◌+◌, ◌-◌}
+use borrow.Author.Tests.{eqb-true}
 use lib.ListN.{length}
 use lib.Seq.{length-sets}
 use Rattle.name_template.proofs.Placing.{one_less, copies-next, copies-end, none_left}
 use Rattle.name_template.proofs.Walking.{no_copies}
 use Rattle.name_template.proofs.write_out.write_copies.Goals as goal
 
-pub returns-then-names-eq0 : goal.returns-then-names-eq0
-returns-then-names-eq0 c = let a = c.args in (
-  rw c.if-names-eq0.true (omega arith),
-  rw (no_copies a.times a.line a.tracks a.names.now c.if-names-eq0.true),
-)
+pub returns-then-is_empty : goal.returns-then-is_empty
+returns-then-is_empty c = let a = c.args in
+    let e : length a.names.now ≡ 0 = eqb-true (length a.names.now) 0 (sym c.is_empty.ensures ∙ c.if-is_empty.true) in (
+      rw e (omega arith),
+      rw (no_copies a.times a.line a.tracks a.names.now e),
+    )
 
-pub loop-left-preserved : goal.loop-left-preserved
-loop-left-preserved c = let l = c.loop-left in let a = c.args in let m = one_less l.left (length a.names.now) c.loop-left-test.true in let t = one_less l.left a.tracks c.loop-left-test.true in (
-  rw c.write_once.ensures (simp length-sets l.invariant.0),
-  omega arith,
-  omega arith,
-  rw c.write_once.ensures (l.invariant.3 ∙ copies-next l.left l.on a.tracks a.names.now l.entries l.o c.loop-left-test.true),
-)
+pub loop-done-preserved : goal.loop-done-preserved
+loop-done-preserved c = let l = c.loop-done in let a = c.args in
+    let left : a.times - (l.done + 1) ≡ a.times - l.done - 1 = omega arith in
+    let m = one_less (a.times - l.done) (length a.names.now) (λ z. omega arith) in
+    let t = one_less (a.times - l.done) a.tracks (λ z. omega arith) in (
+      rw c.write_once.ensures (simp length-sets l.invariant.0),
+      rw left (omega arith),
+      rw left (omega arith),
+      rw (left, c.write_once.ensures) (l.invariant.3 ∙ copies-next (a.times - l.done) l.on a.tracks a.names.now l.entries l.o (λ z. omega arith)),
+    )
 
 pub returns : goal.returns
-returns c = let l = c.loop-left in let a = c.args in (
-  none_left l.left (length a.names.now) l.o _ c.loop-left-test.false l.invariant.1,
-  sym (l.invariant.3 ∙ copies-end l.on a.tracks a.names.now l.entries l.o l.left c.loop-left-test.false),
+returns c = let l = c.loop-done in let a = c.args in (
+  none_left (a.times - l.done) (length a.names.now) l.o _ (omega arith) l.invariant.1,
+  sym (l.invariant.3 ∙ copies-end l.on a.tracks a.names.now l.entries l.o (a.times - l.done) (omega arith)),
 )

@@ -1,6 +1,6 @@
 use mathlib.Core.Path.{◌≡◌}
 use mathlib.Core.List.{map}
-use Prim.Native.Nat.{◌+◌, ◌-◌, ◌≤◌}
+use Prim.Native.Nat.{◌+◌}
 use lib.ListN.{length, drop}
 use lib.Seq.{sets}
 use Rattle.name_template.specs.Writing.{entries_on, entry_word}
@@ -8,8 +8,5 @@ use Rattle.name_template.proofs.write_out.write_once.Given as goal
 
 abbrev pub invariant-loop-j : goal.invariant-loop-j
 invariant-loop-j l =
-    (l.o ≡ l.place + l.j) × (l.j ≤ length l.names) × (length l.entries ≡ length l.initial.entries)
-    × (sets l.initial.entries l.place (map entry_word (entries_on l.line l.names)) ≡ sets l.entries l.o (map entry_word (entries_on l.line (drop l.j l.names))))
-
-abbrev pub decreases-loop-j : goal.decreases-loop-j
-decreases-loop-j l = length l.names - l.j
+    (length l.entries ≡ length l.initial.entries)
+    × (sets l.initial.entries l.place (map entry_word (entries_on l.line l.names)) ≡ sets l.entries (l.place + l.j) (map entry_word (entries_on l.line (drop l.j l.names))))

@@ -5,4 +5,4 @@ use Rattle.panel_hits.proofs.settled.write_settled.Goals as goal
 
 pub returns : goal.returns
 returns c = let a = c.args in let l = lent_in a.words.now a.bytes.now a.columnstore.now a.rowstore.now in
-    settled-listed a.grid l _ _ a.axis a.question c.axis_number.result c.counts_in.result a.hits.now _ c.axis_number.ensures c.counts_in.ensures c.write_placements.ensures c.requires refl c.write_hits.ensures
+    settled-listed a.grid l _ _ a.axis a.question c.counts_in.result a.hits.now _ c.counts_in.ensures c.write_placements-written.ensures c.requires refl c.write_hits.ensures

@@ -11,8 +11,8 @@ returns-in-Column c =
     let a = c.args in
     let k = c.requires in
     let e = c.enter_on-own.ensures ∙ ap (λ (s : AxisState). entered_on s Column a.words.now a.columnstore.now a.line a.name.now) (rw c.in-Column.is at c.state_in-state.ensures) in
-    rw (c.with_state-panel.ensures, c.in-Column.is) (record {
-      rowstore_after = entered a.words.now a.columnstore.now a.rowstore.now a.line a.name.now _ a.panel Column c.no_refusal-refusal.result (rw c.in-Column.is at k.few) c.no_refusal-refusal.ensures e;
+    rw (c.with_state.ensures, c.in-Column.is) (record {
+      rowstore_after = entered a.words.now a.columnstore.now a.rowstore.now a.line a.name.now _ a.panel Column (rw c.in-Column.is at k.few) e;
       others = others-entered a.words.now a.columnstore.now a.rowstore.now a.line a.name.now _ (state_in a.panel Column) Column _ (rw c.in-Column.is at k.few) e;
     })
 
@@ -21,7 +21,7 @@ returns-in-Row c =
     let a = c.args in
     let k = c.requires in
     let e = c.enter_on-own-in-Row.ensures ∙ ap (λ (s : AxisState). entered_on s Row a.words.now a.rowstore.now a.line a.name.now) (rw c.in-Row.is at c.state_in-state.ensures) in
-    rw (c.with_state-panel-in-Row.ensures, c.in-Row.is) (record {
-      rowstore_after = entered a.words.now a.columnstore.now a.rowstore.now a.line a.name.now _ a.panel Row c.no_refusal-refusal.result (rw c.in-Row.is at k.few) c.no_refusal-refusal.ensures e;
+    rw (c.with_state-in-Row.ensures, c.in-Row.is) (record {
+      rowstore_after = entered a.words.now a.columnstore.now a.rowstore.now a.line a.name.now _ a.panel Row (rw c.in-Row.is at k.few) e;
       others = others-entered a.words.now a.columnstore.now a.rowstore.now a.line a.name.now _ (state_in a.panel Row) Row _ (rw c.in-Row.is at k.few) e;
     })

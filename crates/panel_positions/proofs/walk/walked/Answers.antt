@@ -1,8 +1,8 @@
+use Rattle.std.specs.Prelude.{Float, Option}
 use mathlib.Core.Path.{◌≡◌, ap, ap₂, ◌∙◌}
 use mathlib.Core.Bool.{true}
 use Prim.Native.Nat.{ℕ, ◌+◌, ◌*◌}
 use native.Mathlib.Omega.{arith}
-use Rattle.template_rules.specs.declared.InnerSize.{InnerSize}
 use Rattle.track_rules.specs.declared.AxisTracks.{AxisTracks}
 use Rattle.track_rules.specs.Tracks.{gutter_of}
 use Rattle.track_rules.specs.Records.{tracks_in, records_in}
@@ -30,45 +30,6 @@ loop-done-init c =
     (c.begin-begun.ensures ∙ walk-begun a.span c.inner_in-inner.result (records_on a.grid a.words.now a.items.now)) c.position_step-walk.ensures in
     (omega arith, few-count a.grid a.words.now a.items.now _ _ c.track_count-count.ensures c.axis_tracks-tracks.ensures, s.0, s.1)
 
-pub overflow_mul-done : goal.overflow_mul-done
-overflow_mul-done c = omega arith
-
-pub overflow_add-done : goal.overflow_add-done
-overflow_add-done c = omega arith
-
-pub overflow_add-done-in-loop-done : goal.overflow_add-done-in-loop-done
-overflow_add-done-in-loop-done c = omega arith
-
-pub overflow_mul-count-in-loop-done : goal.overflow_mul-count-in-loop-done
-overflow_mul-count-in-loop-done c = omega arith
-
-pub overflow_mul-done-in-loop-done : goal.overflow_mul-done-in-loop-done
-overflow_mul-done-in-loop-done c = omega arith
-
-pub overflow_add-done-in-loop-done-2 : goal.overflow_add-done-in-loop-done-2
-overflow_add-done-in-loop-done-2 c = omega arith
-
-pub overflow_mul-count-in-loop-done-2 : goal.overflow_mul-count-in-loop-done-2
-overflow_mul-count-in-loop-done-2 c = omega arith
-
-pub overflow_mul-done-in-loop-done-2 : goal.overflow_mul-done-in-loop-done-2
-overflow_mul-done-in-loop-done-2 c = omega arith
-
-pub overflow_add-done-in-loop-done-3 : goal.overflow_add-done-in-loop-done-3
-overflow_add-done-in-loop-done-3 c = omega arith
-
-pub overflow_mul-done-in-loop-done-3 : goal.overflow_mul-done-in-loop-done-3
-overflow_mul-done-in-loop-done-3 c = omega arith
-
-pub overflow_add-done-in-loop-done-4 : goal.overflow_add-done-in-loop-done-4
-overflow_add-done-in-loop-done-4 c = omega arith
-
-pub overflow_add-done-in-loop-done-5 : goal.overflow_add-done-in-loop-done-5
-overflow_add-done-in-loop-done-5 c = omega arith
-
-pub loop-done-smaller : goal.loop-done-smaller
-loop-done-smaller c = omega arith
-
 pub loop-done-preserved : goal.loop-done-preserved
 loop-done-preserved c =
     let a = c.args in
@@ -85,4 +46,4 @@ returns c =
     let a = c.args in
     let n : c.track_count-count.result ≡ tracks_in (axis_tracks a.grid) = c.track_count-count.ensures ∙ ap tracks_in c.axis_tracks-tracks.ensures in
     let h : 2 * c.loop-done.done + 1 ≡ records_in (axis_tracks a.grid) = omega (arith, c.loop-done.invariant.0, c.loop-done-test.false) in
-    c.loop-done.invariant.3 ∙ ap₂ (λ (i : InnerSize) (j : ℕ). walked_to a.span i (records_on a.grid a.words.now a.items.now) j) c.inner_in-inner.ensures h
+    c.loop-done.invariant.3 ∙ ap₂ (λ (i : Option Float) (j : ℕ). walked_to a.span i (records_on a.grid a.words.now a.items.now) j) c.inner_in-inner.ensures h

@@ -1,5 +1,5 @@
 use mathlib.Core.Path.{◌≡◌}
-use Prim.Native.Nat.{◌+◌, ◌*◌, ◌-◌, ◌≤◌}
+use Prim.Native.Nat.{◌+◌, ◌*◌, ◌≤◌}
 use Rattle.panel_calls.specs.Carried.{carried_to}
 use Rattle.line_positions.specs.Steps.{walked_to}
 use Rattle.panel_positions.specs.Cursor.{records_on}
@@ -8,6 +8,3 @@ use Rattle.panel_positions.proofs.walk.walked.Given as goal
 abbrev pub invariant-loop-done : goal.invariant-loop-done
 invariant-loop-done l =
     (l.done ≤ l.count) × (l.count ≤ 30000) × (l.at ≡ carried_to l.grid l.words l.items (2 * l.done + 1)) × (l.walk ≡ walked_to l.span l.inner (records_on l.grid l.words l.items) (2 * l.done + 1))
-
-abbrev pub decreases-loop-done : goal.decreases-loop-done
-decreases-loop-done l = l.count - l.done

@@ -1,18 +1,15 @@
-use mathlib.Core.Path.{refl, sym, ◌∙◌}
-use Rattle.panel_resolving.proofs.DrawnAreas.{drawn-next, drawn-end}
+use Rattle.std.proofs.Common.{rules, tests}
+use Rattle.std.proofs.lemmas.Iterator.{YieldsList-from_range}
+use Rattle.std.proofs.lemmas.Iterator.Search.{any_from_yields_List}
+use mathlib.Core.Path.{◌∙◌, sym}
+use lib.ListN.{length}
+use native.Mathlib.Omega.{arith}
+use Rattle.panel_resolving.proofs.DrawnAreas.{is_named_at, drawn-any}
 use Rattle.panel_resolving.proofs.drawn.has_area.Goals as goal
 
-pub loop-i-init : goal.loop-i-init
-loop-i-init c = refl
-
-pub returns-then-is_named : goal.returns-then-is_named
-returns-then-is_named c = let l = c.loop-i in let a = c.args in
-    sym (sym l.invariant ∙ drawn-next a.edges.now a.areas.now a.areastore.now a.name.now l.i c.loop-i-test.true ∙ rw (← c.is_named.ensures, c.if-is_named.true))
-
-pub loop-i-preserved : goal.loop-i-preserved
-loop-i-preserved c = let l = c.loop-i in let a = c.args in
-    sym (drawn-next a.edges.now a.areas.now a.areastore.now a.name.now l.i c.loop-i-test.true ∙ rw (← c.is_named.ensures, c.if-is_named.false)) ∙ l.invariant
-
 pub returns : goal.returns
-returns c = let l = c.loop-i in let a = c.args in
-    sym (sym l.invariant ∙ drawn-end a.edges.now a.areas.now a.areastore.now a.name.now l.i c.loop-i-test.false)
+returns c =
+    let a = c.args.areas in
+    let n = length a.edges.now in
+    any_from_yields_List (is_named_at a.names.now a.store.now c.args.name.now) _ _ c.any.result c.any.ensures.ran (YieldsList-from_range 0 n n (search rules) (omega arith)) (λ x b q k. search (rules, tests))
+    ∙ sym (drawn-any a.names.now a.store.now c.args.name.now a.edges.now)

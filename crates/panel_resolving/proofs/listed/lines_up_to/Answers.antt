@@ -1,29 +1,18 @@
--- The loop's invariant: the lines before low are at most the number, those from high on above it.
-use native.Mathlib.Omega.{arith}
-use Rattle.panel_resolving.proofs.Places.{parted-count, below-through, above_from}
+use Rattle.std.proofs.Common.{arith, rules, tests, leb, leb-true, leb-false}
+use Rattle.std.proofs.lemmas.List.Sorted.{IsPartitionPoint-from_clause, IsPartitionedBy-leb}
+use Rattle.name_entries.specs.Entries.{entry_of}
+use Rattle.panel_resolving.proofs.Places.{parted-count, non_decreasing_lem}
 use Rattle.panel_resolving.proofs.listed.lines_up_to.Goals as goal
-
-pub loop-low-init : goal.loop-low-init
-loop-low-init c = (omega arith, omega arith, λ i a. absurd (omega arith), λ i a b. absurd (omega arith))
-
-pub loop-low-smaller-then-entry-number : goal.loop-low-smaller-then-entry-number
-loop-low-smaller-then-entry-number c = omega arith
-
-pub loop-low-preserved-then-entry-number : goal.loop-low-preserved-then-entry-number
-loop-low-preserved-then-entry-number c =
-    let l = c.loop-low in
-    (omega arith, omega arith, below-through c.args.words.now c.requires.rises c.args.number _ (omega arith) (omega (arith, rw c.entry_of-entry.ensures at c.if-entry-number.true)), l.invariant.3)
-
-pub loop-low-smaller : goal.loop-low-smaller
-loop-low-smaller c = omega arith
-
-pub loop-low-preserved : goal.loop-low-preserved
-loop-low-preserved c =
-    let l = c.loop-low in
-    (omega arith, omega arith, l.invariant.2, above_from c.args.words.now c.requires.rises c.args.number _ (omega (arith, rw c.entry_of-entry.ensures at c.if-entry-number.false)))
 
 pub returns : goal.returns
 returns c =
-    let l = c.loop-low in
-    parted-count c.args.words.now c.args.number l.low
-    record { within = omega (arith, l.invariant.0, l.invariant.1); below = l.invariant.2; above = λ i a b. l.invariant.3 i (omega (arith, c.loop-low-test.false)) b }
+    let ws = c.args.words.now in
+    let n = c.args.number in
+    let parted = IsPartitionedBy-leb (λ w. (entry_of w).line) ws n (non_decreasing_lem ws c.requires.rises) in
+    let point = IsPartitionPoint-from_clause (λ w. leb (entry_of w).line n) ws _ c.partition_point.ensures.partitioned parted (λ a r q k. search (rules, tests)) in
+    parted-count ws n c.partition_point.result
+    record {
+      within = c.partition_point.ensures.bound;
+      below = λ i h. leb-true _ _ (point.0 i 0 (omega arith) h);
+      above = λ i a b. leb-false _ _ (point.1 i 0 a b);
+    }

@@ -5,28 +5,28 @@ use Rattle.panel_resolving.proofs.Sought.{part_listed, has_when, own-sought, own
 use Rattle.panel_resolving.proofs.search.find_line.Goals as goal
 
 pub nth_listed-requires : goal.nth_listed-requires
-nth_listed-requires c = own-ascend c.args.sought.axis c.args.store.now c.words_part-edges.result.now c.words_part-areanames.result.now c.area_bytes-areabytes.result.now c.args.stem.now c.args.sought.edge c.group_part-part.result.now c.named_part-own.result.now c.group_of-group.result.listed c.list_name-named.result (part_listed c.args.around.grouping c.args.index.now c.args.store.now c.args.stem.now c.args.sought.edge c.requires c.group_of-group.result c.group_part-part.result.now c.group_of-group.ensures c.group_part-part.ensures) (has_when _ _ _ c.list_name-named.ensures) c.named_part-own.ensures c.if-listed.true
+nth_listed-requires c = own-ascend c.args.sought.axis c.args.beside.store.now c.part_from.result.now c.part_from-2.result.now c.area_bytes.result.now c.args.stem.now c.args.sought.edge c.group_part-part.result.now c.named_part-own.result.now c.group_of-group.result.listed c.list_name-named.result (part_listed c.args.beside.around.grouping c.args.beside.index.now c.args.beside.store.now c.args.stem.now c.args.sought.edge c.requires c.group_of-group.result c.group_part-part.result.now c.group_of-group.ensures c.group_part-part.ensures) (has_when _ _ _ c.list_name-named.ensures) c.named_part-own.ensures c.if-listed.true
 
 pub returns-then-not-is_drawn : goal.returns-then-not-is_drawn
 unfolding line_sought sought_by
 returns-then-not-is_drawn c = rw (
-  alone-sought c.args.sought.axis c.args.store.now c.words_part-edges.result.now c.words_part-areanames.result.now c.area_bytes-areabytes.result.now c.args.stem.now c.args.sought.edge c.group_part-part.result.now c.named_part-own.result.now c.group_of-group.result.listed c.list_name-named.result (part_listed c.args.around.grouping c.args.index.now c.args.store.now c.args.stem.now c.args.sought.edge c.requires c.group_of-group.result c.group_part-part.result.now c.group_of-group.ensures c.group_part-part.ensures) (has_when _ _ _ c.list_name-named.ensures) c.named_part-own.ensures c.if-listed.true (sym c.is_drawn.ensures ∙ c.if-not-is_drawn.true),
+  alone-sought c.args.sought.axis c.args.beside.store.now c.part_from.result.now c.part_from-2.result.now c.area_bytes.result.now c.args.stem.now c.args.sought.edge c.group_part-part.result.now c.named_part-own.result.now c.group_of-group.result.listed c.list_name-named.result (part_listed c.args.beside.around.grouping c.args.beside.index.now c.args.beside.store.now c.args.stem.now c.args.sought.edge c.requires c.group_of-group.result c.group_part-part.result.now c.group_of-group.ensures c.group_part-part.ensures) (has_when _ _ _ c.list_name-named.ensures) c.named_part-own.ensures c.if-listed.true (sym c.is_drawn.ensures ∙ c.if-not-is_drawn.true),
   c.group_part-part.ensures,
   c.group_of-group.ensures,
-  c.words_part-edges.ensures,
-  c.words_part-areanames.ensures,
+  c.part_from.ensures,
+  c.part_from-2.ensures,
   c.area_words-areas.ensures,
-  c.area_bytes-areabytes.ensures,
+  c.area_bytes.ensures,
 ) at c.nth_listed.ensures
 
 pub returns : goal.returns
 unfolding sought_by
 returns c = rw (
-  own-sought c.args.sought.axis c.args.store.now c.words_part-edges.result.now c.words_part-areanames.result.now c.area_bytes-areabytes.result.now c.args.stem.now c.args.sought.edge c.group_part-part.result.now c.named_part-own.result.now c.group_of-group.result.listed c.list_name-named.result (part_listed c.args.around.grouping c.args.index.now c.args.store.now c.args.stem.now c.args.sought.edge c.requires c.group_of-group.result c.group_part-part.result.now c.group_of-group.ensures c.group_part-part.ensures) (has_when _ _ _ c.list_name-named.ensures) c.named_part-own.ensures,
+  own-sought c.args.sought.axis c.args.beside.store.now c.part_from.result.now c.part_from-2.result.now c.area_bytes.result.now c.args.stem.now c.args.sought.edge c.group_part-part.result.now c.named_part-own.result.now c.group_of-group.result.listed c.list_name-named.result (part_listed c.args.beside.around.grouping c.args.beside.index.now c.args.beside.store.now c.args.stem.now c.args.sought.edge c.requires c.group_of-group.result c.group_part-part.result.now c.group_of-group.ensures c.group_part-part.ensures) (has_when _ _ _ c.list_name-named.ensures) c.named_part-own.ensures,
   c.group_part-part.ensures,
   c.group_of-group.ensures,
-  c.words_part-edges.ensures,
-  c.words_part-areanames.ensures,
+  c.part_from.ensures,
+  c.part_from-2.ensures,
   c.area_words-areas.ensures,
-  c.area_bytes-areabytes.ensures,
+  c.area_bytes.ensures,
 ) at c.nth_line.ensures

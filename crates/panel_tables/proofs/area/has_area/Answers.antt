@@ -1,16 +1,16 @@
-use mathlib.Core.Path.{◌≡◌, sym, ap, ◌∙◌}
-use native.Mathlib.Omega.{arith}
-use Rattle.panel_tables.proofs.Among.{named_here, named-less, named_none}
-use Rattle.panel_tables.specs.Areas.{area_name, named_in}
-use Prim.Native.Nat.{ℕ, ◌-◌}
+use Rattle.std.proofs.Common.{rules, tests}
+use Prim.Native.Nat.{ℕ, min}
+use Rattle.std.proofs.lemmas.Iterator.{YieldsList-from_range}
+use Rattle.std.proofs.lemmas.Iterator.Search.{any_from_yields_List}
 use Rattle.text.specs.Split.{same}
+use Rattle.panel_tables.specs.Areas.{area_name}
+use mathlib.Core.Path.{◌∙◌, sym}
+use native.Mathlib.Omega.{arith}
+use Rattle.panel_tables.proofs.Among.{named_any}
 use Rattle.panel_tables.proofs.area.has_area.Goals as goal
 
-pub returns-then-equal : goal.returns-then-equal
-returns-then-equal c = let l = c.loop-k in let w = c.args.words.now in let s = c.args.bytes.now in let m = c.args.name.now in let e : same (area_name w s (l.k - 1)) m ≡ c.equal.result = rw (← c.area_name.ensures) (sym c.equal.ensures) in sym (l.invariant.1 ∙ named_here w s m l.k (omega arith) (e ∙ c.if-equal.true))
-
-pub loop-k-preserved : goal.loop-k-preserved
-loop-k-preserved c = let l = c.loop-k in let w = c.args.words.now in let s = c.args.bytes.now in let m = c.args.name.now in let e : same (area_name w s (l.k - 1)) m ≡ c.equal.result = rw (← c.area_name.ensures) (sym c.equal.ensures) in (omega arith, l.invariant.1 ∙ named-less w s m l.k (omega arith) (e ∙ c.if-equal.false))
-
 pub returns : goal.returns
-returns c = let a = c.args in let l = c.loop-k in let z : l.k ≡ 0 = omega arith in sym (l.invariant.1 ∙ ap (λ (j : ℕ). named_in a.words.now a.bytes.now a.name.now j) z ∙ named_none a.words.now a.bytes.now a.name.now)
+returns c =
+    let a = c.args in
+    any_from_yields_List (λ (i : ℕ). same (area_name a.words.now a.bytes.now i) a.name.now) _ _ c.any.result c.any.ensures.ran (YieldsList-from_range 0 (min a.areas 64) (min a.areas 64) (search rules) (omega arith)) (λ x b q k. search (rules, tests))
+    ∙ sym (named_any a.words.now a.bytes.now a.name.now (min a.areas 64))

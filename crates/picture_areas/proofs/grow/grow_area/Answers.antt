@@ -2,19 +2,19 @@
 use Rattle.picture_areas.proofs.Runs.{grown-so, grown-not}
 use Rattle.picture_areas.proofs.grow.grow_area.Goals as goal
 
-pub returns-then-run_continues : goal.returns-then-run_continues
-returns-then-run_continues c =
+pub returns-then-continues : goal.returns-then-continues
+returns-then-continues c =
     let a = c.args in
-    grown-so a.words.now a.index a.run c.area_at-place.result
-    c.run_continues.result c.edges_word-word.result _
-    c.area_at-place.ensures
-    c.run_continues.ensures
-    c.if-run_continues.true
-    c.edges_word-word.ensures
-    c.set_word.ensures
+    grown-so a.words.now a.index a.run c.area_at.result
+    c.run_continues-continues.result c.from.result _
+    c.area_at.ensures
+    c.run_continues-continues.ensures
+    c.if-continues.true
+    c.from.ensures
+    c.set_at.ensures
 
-pub returns : goal.returns
-returns c =
+pub returns-else-continues : goal.returns-else-continues
+returns-else-continues c =
     let a = c.args in
-    grown-not a.words.now a.index a.run c.area_at-place.result c.run_continues.result
-    c.area_at-place.ensures c.run_continues.ensures c.if-run_continues.false
+    grown-not a.words.now a.index a.run c.area_at.result c.run_continues-continues.result
+    c.area_at.ensures c.run_continues-continues.ensures c.if-continues.false

@@ -1,24 +1,35 @@
 -- `picture_rows::draw_row` meets its contract. Assumes nothing.
+use Rattle.std.proofs.Common.{rules, ◌≡◌, refl, Err}
 use Rattle.picture_words.specs.Words.{words_of}
-use Rattle.picture_rows.proofs.Counts.{row-wide, row-far, row-drawn}
+use Rattle.picture_rows.proofs.Counts.{row-wide, row-far}
+use Rattle.picture_rows.proofs.Settled.{row_taken, row_refused}
 use Rattle.picture_rows.proofs.row.draw_row.Goals as goal
+use Rattle.picture_rows.proofs.row.draw_row.Goals.{then-width-gt-MOST_WORDS-via-then-width-gt-MOST_WORDS, then-width-gt-MOST_WORDS-via-else-width-gt-MOST_WORDS+then-row-gt-MOST_ROWS}
 
 pub returns-then-width-gt-MOST_WORDS : goal.returns-then-width-gt-MOST_WORDS
 returns-then-width-gt-MOST_WORDS c =
     let a = c.args in
-    row-wide a.panel a.words.now a.bytes.now (words_of a.line.now) a.row c.words_in-width.result c.words_in-width.ensures
-    c.if-width-gt-MOST_WORDS.true _ c.refused_row.ensures
+    let words = c.words_in-width in
+    elim c.then-width-gt-MOST_WORDS.branch [
+      | then-width-gt-MOST_WORDS-via-then-width-gt-MOST_WORDS w ↦
+          row-wide a.panel a.words.now a.bytes.now (words_of a.line.now) a.row words.result words.ensures w.if-width-gt-MOST_WORDS.true _ refl
+      | then-width-gt-MOST_WORDS-via-else-width-gt-MOST_WORDS+then-row-gt-MOST_ROWS w ↦
+          row-far a.panel a.words.now a.bytes.now (words_of a.line.now) a.row words.result words.ensures w.if-width-gt-MOST_WORDS.false w.if-row-gt-MOST_ROWS.true _ refl
+    ]
 
-pub returns-then-row-gt-MOST_ROWS : goal.returns-then-row-gt-MOST_ROWS
-returns-then-row-gt-MOST_ROWS c =
+pub returns-in_err-drawn : goal.returns-in_err-drawn
+returns-in_err-drawn c =
     let a = c.args in
-    row-far a.panel a.words.now a.bytes.now (words_of a.line.now) a.row c.words_in-width.result c.words_in-width.ensures
-    c.if-width-gt-MOST_WORDS.false c.if-row-gt-MOST_ROWS.true _ c.refused_row-then-row-gt-MOST_ROWS.ensures
+    let words = c.words_in-width in
+    let fault : c.from_residual.result ≡ Err c.in_err-drawn.field-0.0 = search rules in
+    row_refused a.panel a.words.now a.bytes.now (words_of a.line.now) a.row words.result words.ensures
+    c.if-width-gt-MOST_WORDS.false c.if-row-gt-MOST_ROWS.false _ _ c.draw_runs.result c.draw_runs.ensures
+    c.in_err-drawn.field-0.0 c.in_err-drawn.was c.from_residual.result fault
 
 pub returns : goal.returns
 returns c =
     let a = c.args in
     let words = c.words_in-width in
-    row-drawn a.panel a.words.now a.bytes.now (words_of a.line.now) a.row words.result words.ensures
-    c.if-width-gt-MOST_WORDS.false c.if-row-gt-MOST_ROWS.false
-    _ c.draw_runs-drawn.ensures _ c.picture_edges.ensures _ c.counted_row.ensures
+    row_taken a.panel a.words.now a.bytes.now (words_of a.line.now) a.row words.result words.ensures
+    c.if-width-gt-MOST_WORDS.false c.if-row-gt-MOST_ROWS.false _ _ c.draw_runs.result c.draw_runs.ensures
+    c.in_ok-drawn.drawn c.in_ok-drawn.was c.picture_edges.result c.picture_edges.ensures c.spanned.result c.spanned.ensures

@@ -1,5 +1,6 @@
 use Prim.Native.Nat.{◌+◌, ◌-◌}
 use native.Mathlib.Omega.{arith}
+use Rattle.sheet_end.specs.End.{answered_end}
 use Rattle.sheet.proofs.Ends.{put_back}
 use Rattle.sheet.proofs.end.end_in.Goals as goal
 
@@ -8,4 +9,4 @@ returns c =
     let a = c.args in
     let f = c.first_word-first in
     let k = c.end_axis in
-    put_back a.axis a.words.now f.result (f.result + 12480 - f.result) f.ensures.value (omega arith) a.state a.reading (record { answer = k.result; words = k.new.words }) k.ensures
+    put_back a.axis a.words.now f.result (f.result + 12480 - f.result) f.ensures.value (omega arith) a.state a.reading (record { answer = answered_end a.state k.result; words = k.new.words }) k.ensures

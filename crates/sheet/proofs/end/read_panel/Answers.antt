@@ -1,25 +1,34 @@
-use Rattle.panel_tables.specs.Written.{PanelHeld, zero_panel, zero_panel_reading, panel_held_of}
-use Rattle.sheet.specs.Runs.{HeldRun, stopped}
-use Rattle.sheet.proofs.Steps.{end_none, end-words, judged-as}
+use Rattle.std.specs.Prelude.{ℕ, Result, Option}
+use mathlib.Core.Path.{◌≡◌, sym, ap, subst, ◌∙◌}
+use lib.Dec.{eqb}
+use Rattle.text.specs.Split.{split}
+use Rattle.panel_tables.specs.Written.{PanelHeld}
+use Rattle.sheet_rules.specs.declared.LineFault.{LineFault}
+use Rattle.sheet_step.specs.Drafts.{held_of}
+use Rattle.sheet.specs.Steps.{line_or_none, IsLine}
+use Rattle.sheet.specs.Runs.{HeldRun, held_run, held_broken}
+use Rattle.sheet.specs.Steps.{fault_in, stop_in}
+use Rattle.sheet.proofs.Steps.{ends-broken, ends-refused, ends-after}
 use Rattle.sheet.proofs.end.read_panel.Goals as goal
 
-pub returns-then-fault-ne0 : goal.returns-then-fault-ne0
-returns-then-fault-ne0 c =
+pub returns-in-Some-clause-run : goal.returns-in-Some-clause-run
+returns-in-Some-clause-run c =
     let a = c.args in
-    let k = c.read_lines-run in
-    let h : PanelHeld = panel_held_of zero_panel zero_panel_reading a.words.now a.bytes.now a.columnbytes.now a.rowbytes.now in
-    let r : HeldRun = record { fault = k.result.fault; line = k.result.line; held = panel_held_of k.result.panel k.result.reading k.new.words k.new.bytes k.new.columnbytes k.new.rowbytes } in
-    rw c.with_broken.ensures (record { rowbytes_after = judged-as a.sheet.now h k.result.broken r k.ensures.picture (end_none a.sheet.now h r k.ensures.rowbytes_after c.if-fault-ne0.true); overlap = k.ensures.overlap })
+    let k = c.read_lines-lines in
+    ends-broken a.sheet.now (held_of a.draft.now) c.in-Some.line (held_of k.new.draft) (subst IsLine c.in-Some.is k.ensures.positive) (ap line_or_none (sym c.in-Some.is) ∙ k.ensures.picture)
 
-pub returns : goal.returns
-returns c =
+pub returns-in-Ok-clause-run : goal.returns-in-Ok-clause-run
+returns-in-Ok-clause-run c =
     let a = c.args in
-    let k = c.read_lines-run in
-    let p = c.end_panel-end in
-    let h : PanelHeld = panel_held_of zero_panel zero_panel_reading a.words.now a.bytes.now a.columnbytes.now a.rowbytes.now in
-    let r : HeldRun = stopped p.result.fault k.result.line (panel_held_of p.result.panel k.result.reading p.new.words k.new.bytes k.new.columnbytes k.new.rowbytes) in
-    rw c.with_broken-2.ensures (record {
-      rowbytes_after = judged-as a.sheet.now h k.result.broken r k.ensures.picture
-          (end-words a.sheet.now h k.result.fault k.result.line p.result.fault k.result.panel p.result.panel k.result.reading k.new.words p.new.words k.new.bytes k.new.columnbytes k.new.rowbytes k.ensures.rowbytes_after c.if-fault-ne0.false p.ensures.words_after p.ensures.others.0 p.ensures.others.1);
-      overlap = k.ensures.overlap;
-    })
+    let k = c.read_lines-lines in
+    rw c.at_line-end.ensures
+    (ends-after a.sheet.now (held_of a.draft.now) (sym k.ensures.picture ∙ ap line_or_none c.in_default.is) c.in-Ok.line (held_of k.new.draft)
+    (ap (λ (r : Result ℕ LineFault). record { fault = fault_in r; line = stop_in r; held = held_of k.new.draft }) (sym c.in-Ok.is) ∙ k.ensures.lines)
+    c.end_panel.result (held_of c.end_panel.new.draft) c.end_panel.ensures)
+
+pub returns-in-Err-clause-run : goal.returns-in-Err-clause-run
+returns-in-Err-clause-run c =
+    let a = c.args in
+    let k = c.read_lines-lines in
+    ends-refused a.sheet.now (held_of a.draft.now) (sym k.ensures.picture ∙ ap line_or_none c.in_default.is) c.in-Err.refused (held_of k.new.draft) (held_of k.new.draft)
+    (ap (λ (r : Result ℕ LineFault). record { fault = fault_in r; line = stop_in r; held = held_of k.new.draft }) (sym c.in-Err.is) ∙ k.ensures.lines)

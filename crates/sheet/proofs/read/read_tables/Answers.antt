@@ -1,44 +1,37 @@
-use mathlib.Core.Path.{sym, ap, ◌∙◌}
+use mathlib.Core.Path.{◌∙◌}
 use native.Mathlib.Omega.{arith}
+use lib.ListN.{replicate}
+use Rattle.std.proofs.lemmas.Result.{err_from_is_err_and}
 use Rattle.panel_tables.specs.Written.{panel_held_of}
-use Rattle.sheet_rules.specs.declared.SheetAnswer.{SheetAnswer}
+use Rattle.sheet_rules.specs.Answers.{noted}
 use Rattle.sheet_rules.specs.Panels.{tables_in}
-use Rattle.sheet.specs.Runs.{HeldRun}
-use Rattle.sheet.proofs.Answers.{read_long, read-refused, read_short, read_done, answer_in_lem}
+use Rattle.sheet_step.specs.Drafts.{held_of}
+use Rattle.sheet.proofs.Answers.{read_long, start-zero, judged-refused, read_short, read_done, answer_in_lem}
 use Rattle.sheet.proofs.read.read_tables.Goals as goal
 
-pub returns-then-sheet-gt-SHEET_BYTES : goal.returns-then-sheet-gt-SHEET_BYTES
-returns-then-sheet-gt-SHEET_BYTES c =
+pub returns-then-sheet-gt-SHEET_BYTES-clause-read : goal.returns-then-sheet-gt-SHEET_BYTES-clause-read
+returns-then-sheet-gt-SHEET_BYTES-clause-read c =
     let a = c.args in
-    rw c.refused_sheet.ensures (read_long a.former a.sheet.now (tables_in a.words.now a.bytes.now a.columnstore.now a.rowstore.now) (omega (arith, c.if-sheet-gt-SHEET_BYTES.true)))
+    rw c.whole_fault.ensures (read_long a.former a.sheet.now (tables_in a.words.now a.bytes.now a.columnstore.now a.rowstore.now) (omega (arith, c.if-sheet-gt-SHEET_BYTES.true)))
 
-pub returns-then-number-ne0 : goal.returns-then-number-ne0
-returns-then-number-ne0 c =
+pub returns-in_err-judged-clause-read : goal.returns-in_err-judged-clause-read
+returns-in_err-judged-clause-read c =
     let a = c.args in
     let k = c.read_panel-run in
-    let j = c.judged-stop in
-    let r : HeldRun = record { fault = k.result.fault; line = k.result.line; held = panel_held_of k.result.panel k.result.reading k.new.words k.new.bytes k.new.columnbytes k.new.rowbytes } in
-    rw j.ensures
-    (read-refused a.former a.sheet.now r k.ensures.rowbytes_after k.result.overlap k.ensures.overlap c.if-sheet-gt-SHEET_BYTES.false (tables_in a.words.now a.bytes.now a.columnstore.now a.rowstore.now)
-    (λ z. c.if-number-ne0.true (ap (λ (x : SheetAnswer). x.refusal.number) j.ensures ∙ z)))
+    let p = err_from_is_err_and c.from_residual.result c.from_residual.ensures.1 in
+    rw (p.1, p.2) (judged-refused a.former a.sheet.now (omega arith) k.result.end (held_of k.new.draft) (panel_held_of c.zero_panel.result c.zero_panel_reading.result (replicate 25600 0) (replicate 78432 0) (replicate 32768 0) (replicate 32768 0)) (start-zero _ _ c.zero_panel.ensures c.zero_panel_reading.ensures) k.ensures.run (noted k.result.overlap) k.ensures.overlap _ c.in_err-judged.ensures (tables_in a.words.now a.bytes.now a.columnstore.now a.rowstore.now))
 
-pub returns-then-columnstore-rowstore : goal.returns-then-columnstore-rowstore
-returns-then-columnstore-rowstore c =
+pub returns-then-shorter-lt-AXIS_BYTES-clause-read : goal.returns-then-shorter-lt-AXIS_BYTES-clause-read
+returns-then-shorter-lt-AXIS_BYTES-clause-read c =
     let a = c.args in
     let k = c.read_panel-run in
-    let j = c.judged-stop in
-    let r : HeldRun = record { fault = k.result.fault; line = k.result.line; held = panel_held_of k.result.panel k.result.reading k.new.words k.new.bytes k.new.columnbytes k.new.rowbytes } in
-    rw c.refused_sheet-then-columnstore-rowstore.ensures
-    (read_short a.former a.sheet.now r k.ensures.rowbytes_after k.result.overlap k.ensures.overlap c.if-sheet-gt-SHEET_BYTES.false a.words.now a.bytes.now a.columnstore.now a.rowstore.now
-    (sym (ap (λ (x : SheetAnswer). x.refusal.number) j.ensures) ∙ c.if-number-ne0.false) c.if-columnstore-rowstore.true)
+    rw c.whole_fault-then-shorter-lt-AXIS_BYTES.ensures
+    (read_short a.former a.sheet.now (omega arith) k.result.end (held_of k.new.draft) (panel_held_of c.zero_panel.result c.zero_panel_reading.result (replicate 25600 0) (replicate 78432 0) (replicate 32768 0) (replicate 32768 0)) (start-zero _ _ c.zero_panel.ensures c.zero_panel_reading.ensures) k.ensures.run (noted k.result.overlap) k.ensures.overlap a.words.now a.bytes.now a.columnstore.now a.rowstore.now c.in_ok-judged.ensures c.min-shorter.result c.min-shorter.ensures c.if-shorter-lt-AXIS_BYTES.true)
 
-pub returns : goal.returns
-returns c =
+pub returns-clause-read : goal.returns-clause-read
+returns-clause-read c =
     let a = c.args in
     let k = c.read_panel-run in
-    let j = c.judged-stop in
-    let r : HeldRun = record { fault = k.result.fault; line = k.result.line; held = panel_held_of k.result.panel k.result.reading k.new.words k.new.bytes k.new.columnbytes k.new.rowbytes } in
-    rw (c.no_refusal.ensures, c.copy_names.ensures, c.copy_names-2.ensures)
-    (answer_in_lem k.result.overlap k.result.panel k.result.reading k.new.words k.new.bytes k.new.columnbytes k.new.rowbytes a.words.now a.bytes.now a.columnstore.now a.rowstore.now
-    ∙ read_done a.former a.sheet.now r k.ensures.rowbytes_after k.result.overlap k.ensures.overlap c.if-sheet-gt-SHEET_BYTES.false a.words.now a.bytes.now a.columnstore.now a.rowstore.now
-    (sym (ap (λ (x : SheetAnswer). x.refusal.number) j.ensures) ∙ c.if-number-ne0.false) c.if-columnstore-rowstore.false)
+    rw (c.copy_names.ensures, c.copy_names-2.ensures)
+    (answer_in_lem (noted k.result.overlap) k.new.draft.panel k.new.draft.reading k.new.draft.words k.new.draft.bytes k.new.draft.column_bytes k.new.draft.row_bytes a.words.now a.bytes.now a.columnstore.now a.rowstore.now
+    ∙ read_done a.former a.sheet.now (omega arith) k.result.end (held_of k.new.draft) (panel_held_of c.zero_panel.result c.zero_panel_reading.result (replicate 25600 0) (replicate 78432 0) (replicate 32768 0) (replicate 32768 0)) (start-zero _ _ c.zero_panel.ensures c.zero_panel_reading.ensures) k.ensures.run (noted k.result.overlap) k.ensures.overlap a.words.now a.bytes.now a.columnstore.now a.rowstore.now c.in_ok-judged.ensures c.min-shorter.result c.min-shorter.ensures c.if-shorter-lt-AXIS_BYTES.false)

@@ -1,10 +1,10 @@
+use Rattle.std.specs.Prelude.{Some, None}
 use mathlib.Core.Bool.{Bool, true, false, cond}
 use lib.Dec.{T, eqb}
 use lib.Ieee.Fits.{and_i}
 use Rattle.sizing.specs.Words.{float_up_to, largest_bits, sizing_of}
 use Rattle.sizing.specs.Ranges.{sizing_in_range}
 use Rattle.sizing.proofs.Words.{length_in_range_lem, sizing_in_range_lem}
-use Rattle.template_rules.specs.declared.InnerSize.TheVariants.{Definite, Indefinite}
 use Rattle.template_rules.specs.Explicit.{inner_in_range, space_in_range}
 use Rattle.template_rules.proofs.Answer.{answer-in-range}
 use Rattle.axis_tables.specs.declared.AxisSpace.{AxisSpace}
@@ -15,7 +15,7 @@ use Rattle.sheet_end.proofs.size.size_in.Goals as goal
 inner-ranged : (s : AxisSpace) → T (inner_in_range (inner_in s))
 inner-ranged s = go (eqb s.definite 0)
   where
-    go : (t : Bool) → T (inner_in_range (cond t Indefinite (Definite (float_up_to largest_bits s.inner))))
+    go : (t : Bool) → T (inner_in_range (cond t None (Some (float_up_to largest_bits s.inner))))
     go true = tt
     go false = length_in_range_lem s.inner
 
@@ -24,5 +24,5 @@ ranged s = and_i (inner_in_range (inner_in s)) (sizing_in_range (sizing_of s.gap
 
 pub returns : goal.returns
 unfolding size_in
-returns c = rw (c.compute_explicit_grid_size_in_axis.ensures, c.sizing_of.ensures, c.strategy_in.ensures, c.inner_in.ensures, c.words_part-3.ensures, c.words_part-2.ensures, c.words_part.ensures)
+returns c = rw (c.compute_explicit_grid_size_in_axis.ensures, c.sizing_of.ensures, c.strategy_in.ensures, c.inner_in.ensures, c.part_from-3.ensures, c.part_from-2.ensures, c.part_from.ensures)
     (answer-in-range _ _ _ _ _ (ranged c.args.state.grid.space))

@@ -1,3 +1,5 @@
+use Rattle.std.specs.Prelude.{Ok}
+use Rattle.template_rules.specs.Explicit.{answered_size}
 use mathlib.Core.List.{map}
 use Rattle.name_template.specs.Writing.{entry_word}
 use Rattle.sheet_end.proofs.Puts.{some-entries, table-part}
@@ -11,9 +13,9 @@ returns c =
     let a = c.args in
     let p = c.requires in
     let o = c.if-count-eq0.false in
-    let e = some-entries a.state a.words.now a.size a.count p.0 o in
+    let e = some-entries a.state a.words.now (answered_size (Ok a.size)) a.count p.0 o in
     c.copy_words.ensures
     ∙ ap (sets a.words.now 8384)
-    (c.words_part.ensures
+    (c.part_from.ensures
     ∙ table-part _ _ _ _ _ _ c.write_entries.ensures a.count (p.0 ∙ ap length e) p.1 p.1
     ∙ sym (ap (map entry_word) e))

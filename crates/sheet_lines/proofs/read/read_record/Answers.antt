@@ -1,11 +1,18 @@
+use Rattle.std.proofs.Common.{arith}
+use Rattle.text.proofs.Places.{length_fields}
+use Rattle.sheet_forms.specs.Answers.{said_of}
+use Rattle.sheet_lines.specs.Fields.{kind_number}
 use Rattle.sheet_lines.proofs.Cuts.{read-there}
 use Rattle.sheet_lines.proofs.read.read_record.Goals as goal
 
+pub field-requires : goal.field-requires
+field-requires c =
+    let f = c.cut-fields.result in
+    omega (arith, length_fields f.starts f.line.now 0 f.count, c.cut-fields.ensures.some)
+
 pub returns : goal.returns
 returns c =
-    let cut = c.cut_parts-fields.ensures in
-    read-there c.args.line.now _ _ _ _ _ _ _ _ _
-    cut.0 cut.1
-    c.field.ensures c.kind-k.ensures c.by_kind-said.ensures
-    c.first_name_field.ensures c.field_place.ensures
-    c.second_name_field.ensures c.field_place-2.ensures
+    let names = c.name_fields-first.ensures in
+    read-there c.args.line.now c.cut-fields.result c.cut-fields.ensures c.field.result.now (kind_number c.kind.result) _ _ (said_of c.by_kind-said.result) _ _
+    c.field.ensures c.kind.ensures c.by_kind-said.ensures
+    names.0 c.field_place.ensures names.1 c.field_place-2.ensures

@@ -1,5 +1,10 @@
 use Prim.Native.Nat.{◌+◌, ◌-◌}
+use mathlib.Core.Path.{refl}
 use native.Mathlib.Omega.{arith}
+use Rattle.axis_tables.specs.Store.{answered_axis}
+use Rattle.panel_tables.specs.Axes.{state_in, reading_in}
+use Rattle.sheet_forms.specs.Answers.{said_of}
+use Rattle.std.specs.Prelude.{Ok}
 use Rattle.sheet_step.proofs.Back.{axis_put}
 use Rattle.sheet_step.proofs.panel.on_axis.Goals as goal
 
@@ -9,7 +14,7 @@ returns c =
     let f = c.first_word-first in
     let g = c.first_mark-mark in
     let k = c.axis_record in
-    axis_put a.axis a.panel a.reading a.words.now a.bytes.now a.store.now a.name.now a.said
-    f.result g.result (f.result + 12480 - f.result) (g.result + 30000 - g.result) _ _
-    (record { answer = k.result; words = k.new.words; marks = k.new.marks; bytes = k.new.bytes })
-    f.ensures.value g.ensures.value (omega arith) (omega arith) c.state_in-state.ensures c.reading_in-then.ensures k.ensures
+    axis_put a.axis a.panel a.reading a.words.now a.bytes.now a.store.now a.name.now (said_of (Ok a.said))
+    f.result g.result (f.result + 12480 - f.result) (g.result + 30000 - g.result) (state_in a.panel a.axis) (reading_in a.reading a.axis)
+    (record { answer = answered_axis (state_in a.panel a.axis) (reading_in a.reading a.axis) k.result; words = k.new.words; marks = k.new.marks; bytes = k.new.bytes })
+    f.ensures.value g.ensures.value (omega arith) (omega arith) refl refl (rw (c.state_in-state.ensures, c.reading_in-then.ensures) at k.ensures)

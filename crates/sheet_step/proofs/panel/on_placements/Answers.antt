@@ -2,6 +2,8 @@ use Prim.Native.Nat.{ℕ, ◌+◌, ◌-◌}
 use mathlib.Core.Path.{refl}
 use mathlib.Core.List.{List}
 use native.Mathlib.Omega.{arith}
+use Rattle.sheet_forms.specs.Answers.{place_end}
+use Rattle.panel_tables.specs.Areas.{answered_panel}
 use Rattle.panel_tables.specs.Regions.{placement_words_in, placement_bytes_in}
 use Rattle.sheet_faults.specs.Parts.{place_in}
 use Rattle.sheet_step.specs.Regions.{on_placements}
@@ -15,7 +17,7 @@ returns c =
     let g = c.placement_names_start-name in
     let k = c.put_placement in
     parts-put 25088 512 62048 16384 g.result 512 (g.result + 16384 - g.result) a.words.now a.bytes.now
-    (λ (w : List ℕ) (b : List ℕ). place_in a.panel w b a.axis a.start a.first.now a.end a.second.now)
-    (record { answer = k.result; words = k.new.words; bytes = k.new.bytes })
+    (λ (w : List ℕ) (b : List ℕ). place_in a.panel w b a.axis (place_end a.start) a.first.now (place_end a.end) a.second.now)
+    (record { answer = answered_panel a.panel k.result; words = k.new.words; bytes = k.new.bytes })
     g.ensures refl (omega arith)
-    (simp (← c.placed.ensures, ← c.used_name.ensures, ← c.placed-2.ensures, ← c.used_name-2.ensures) k.ensures)
+    (rw (c.used_name.ensures, c.used_name-2.ensures, c.placed-from.ensures, c.placed-to.ensures) at k.ensures)

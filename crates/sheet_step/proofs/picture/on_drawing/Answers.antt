@@ -2,6 +2,7 @@ use Prim.Native.Nat.{ℕ, ◌+◌, ◌-◌}
 use mathlib.Core.Path.{refl}
 use mathlib.Core.List.{List}
 use native.Mathlib.Omega.{arith}
+use Rattle.picture_areas.specs.Runs.{answered_drawn}
 use Rattle.picture_words.specs.Words.{words_of}
 use Rattle.picture_rows.specs.Steps.{row_in}
 use Rattle.panel_tables.specs.Regions.{area_words_in, area_bytes_in}
@@ -17,5 +18,5 @@ returns c =
     let k = c.draw_row in
     drawing-put g.result 128 (g.result + 2048 - g.result) a.words.now a.bytes.now
     (λ (w : List ℕ) (b : List ℕ). row_in a.panel w b (words_of a.line.now) a.row)
-    (record { answer = k.result; words = k.new.words; bytes = k.new.bytes })
+    (record { answer = answered_drawn a.panel k.result; words = k.new.words; bytes = k.new.bytes })
     g.ensures refl (omega arith) k.ensures

@@ -6,8 +6,9 @@ use native.Mathlib.Omega.{arith}
 use borrow.Author.Tests.{le-leb}
 use lib.ListN.{length, get_or, drop, drop_of_length-le}
 use lib.Seq.{drop-cons}
+use Rattle.std.proofs.Common.{rules}
 use lib.Ieee.{Float}
-use Rattle.template_rules.specs.Template.{component_of, tracks_from, with_tracks, template_of}
+use Rattle.template_rules.specs.Template.{component_of, tracks_from, with_tracks, template_of, components_of}
 use Rattle.template_rules.specs.Summary.{steps_inside, first_part}
 use Rattle.template_rules.specs.Steps.{summary_step, summary_of, totals_of, cut_after}
 use Rattle.template_rules.specs.Bounds.{OfWord, Gathered}
@@ -57,43 +58,39 @@ module _ (minimums maximums : List ℕ) (inner : Float) where
       rw (e, length-tracks minimums maximums k.first k.length)
       (step-gathered n s k.count k.length (totals_of inner k.count (tracks_from minimums maximums k.first k.length)) g w.counted w.length)
 
-pub loop-i-init : goal.loop-i-init
+pub loop-word-init : goal.loop-word-init
 unfolding summary_of
-loop-i-init c = (omega arith, none-gathered, refl)
+loop-word-init c = (none-gathered, refl)
 
 pub returns-then-left-eq0 : goal.returns-then-left-eq0
 returns-then-left-eq0 c =
-    let a = c.args in
-    let h : length a.components.now ≤ 64 = omega arith in (
-      rw (le-leb (length a.components.now) 64 h)
-          (stopped a.minimums.now a.maximums.now a.inner a.components.now c.loop-i.i c.loop-i.left c.loop-i.summary _ c.if-left-eq0.true c.loop-i.invariant.2
-          ∙ gathered_first_part a.inner a.steps (template_of a.components.now a.minimums.now a.maximums.now)),
-      more-gathered _ 64 _ c.loop-i.invariant.1 (omega arith),
+    let t = c.args.template in (
+      rw (le-leb (length t.components.now) 64 c.if-template-gt64.false)
+          (stopped t.minimums.now t.maximums.now c.args.inner t.components.now c.loop-word.word-index c.loop-word.left c.loop-word.summary _ c.if-left-eq0.true c.loop-word.invariant.1
+          ∙ gathered_first_part c.args.inner c.args.steps (components_of t)),
+      more-gathered _ 64 _ c.loop-word.invariant.0 (omega arith),
     )
 
 pub add_component-summary-requires : goal.add_component-summary-requires
 add_component-summary-requires c =
-    let a = c.args in
-    let h : get_or a.components.now c.loop-i.i 0 < 2 ^ 64 = omega (arith, c.type_inv.components c.loop-i.i) in
-    (more-gathered _ 64 _ c.loop-i.invariant.1 (omega arith), taken-of-word _ (c.loop-i.left - 1) _ h (taken _ _ _ _ _ c.component_of.ensures c.first_tracks-component.ensures refl))
+    let h : get_or c.args.template.components.now c.loop-word.word-index 0 < 2 ^ 64 = search rules in
+    (more-gathered _ 64 _ c.loop-word.invariant.0 (omega arith), taken-of-word _ (c.loop-word.left - 1) _ h (taken _ _ _ _ _ c.component_of.ensures c.first_tracks-component.ensures refl))
 
-pub loop-i-preserved : goal.loop-i-preserved
-loop-i-preserved c =
-    let a = c.args in
-    let h : get_or a.components.now c.loop-i.i 0 < 2 ^ 64 = omega (arith, c.type_inv.components c.loop-i.i) in
-    let d = taken (get_or a.components.now c.loop-i.i 0) (c.loop-i.left - 1) _ _ _ c.component_of.ensures c.first_tracks-component.ensures refl in (
-      omega arith,
-      next-gathered _ _ _ _ _ _ _ (taken-of-word _ _ _ h d) c.loop-i.invariant.1 c.add_component-summary.ensures,
-      turn a.minimums.now a.maximums.now a.inner a.components.now c.loop-i.i c.loop-i.left c.steps_inside.result c.first_tracks-component.result c.loop-i.summary c.add_component-summary.result _
-          c.loop-i-test.true c.if-left-eq0.false d c.steps_inside.ensures c.add_component-summary.ensures c.loop-i.invariant.2,
+pub loop-word-preserved : goal.loop-word-preserved
+loop-word-preserved c =
+    let t = c.args.template in
+    let h : get_or t.components.now c.loop-word.word-index 0 < 2 ^ 64 = search rules in
+    let d = taken (get_or t.components.now c.loop-word.word-index 0) (c.loop-word.left - 1) _ _ _ c.component_of.ensures c.first_tracks-component.ensures refl in (
+      next-gathered _ _ _ _ _ _ _ (taken-of-word _ _ _ h d) c.loop-word.invariant.0 c.add_component-summary.ensures,
+      turn t.minimums.now t.maximums.now c.args.inner t.components.now c.loop-word.word-index c.loop-word.left c.steps_inside.result c.first_tracks-component.result c.loop-word.summary
+          c.add_component-summary.result _ c.loop-word-test.true c.if-left-eq0.false d c.steps_inside.ensures c.add_component-summary.ensures c.loop-word.invariant.1,
     )
 
 pub returns : goal.returns
 returns c =
-    let a = c.args in
-    let h : length a.components.now ≤ 64 = omega arith in (
-      rw (le-leb (length a.components.now) 64 h)
-          (done a.minimums.now a.maximums.now a.inner a.components.now c.loop-i.i c.loop-i.left c.loop-i.summary _ c.loop-i-test.false c.loop-i.invariant.2
-          ∙ gathered_first_part a.inner a.steps (template_of a.components.now a.minimums.now a.maximums.now)),
-      more-gathered _ 64 _ c.loop-i.invariant.1 (omega arith),
+    let t = c.args.template in (
+      rw (le-leb (length t.components.now) 64 c.if-template-gt64.false)
+          (done t.minimums.now t.maximums.now c.args.inner t.components.now c.loop-word.word-index c.loop-word.left c.loop-word.summary _ c.loop-word-test.false c.loop-word.invariant.1
+          ∙ gathered_first_part c.args.inner c.args.steps (components_of t)),
+      more-gathered _ 64 _ c.loop-word.invariant.0 (omega arith),
     )

@@ -22,5 +22,6 @@ single minimums maximums inner k first n low high t e h p q r =
 
 pub returns : goal.returns
 returns c =
-    single c.args.minimums.now c.args.maximums.now c.args.inner c.args.component.count c.args.component.first c.args.component.length
-    c.word_at.result c.word_at-2.result _ c.in-Single.is c.requires.counted c.word_at.ensures c.word_at-2.ensures c.track_totals.ensures
+    let k = c.args.component in
+    single c.args.template.minimums.now c.args.template.maximums.now c.args.inner k.count k.first k.length
+    c.word_at-minimum.result c.word_at.result _ c.in-Single.is c.requires.counted c.word_at-minimum.ensures c.word_at.ensures c.track_totals.ensures

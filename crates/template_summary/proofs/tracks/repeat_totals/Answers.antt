@@ -1,4 +1,4 @@
-use Rattle.std.proofs.Common.{◌≡◌, ℕ, suc, ◌+◌, ◌-◌, ◌<◌, ◌≤◌, List, get_or, refl, add-one, arith}
+use Rattle.std.proofs.Common.{◌≡◌, ℕ, suc, ◌+◌, ◌-◌, ◌<◌, ◌≤◌, List, get_or, add-one, arith}
 use mathlib.Core.List.{foldl}
 use lib.Ieee.{Float}
 use Rattle.sizing.specs.Words.{min_max_of}
@@ -24,20 +24,14 @@ module _ (minimums maximums : List ℕ) (count : RepetitionCount) (inner : Float
   unfolding tracks_from
   done place end s all h g = let none : end - place ≡ 0 = omega arith in rw none at g
 
-pub loop-place-init : goal.loop-place-init
-loop-place-init c = (omega arith, refl)
-
 pub loop-place-preserved : goal.loop-place-preserved
 loop-place-preserved c =
-    let a = c.args in (
-      omega arith,
-      turn a.minimums.now a.maximums.now a.component.count a.inner c.loop-place.place _ c.loop-place.totals c.add_track-totals.result c.track_totals-track.result
-          c.word_at.result c.word_at-in-loop-place.result _ c.loop-place-test.true c.word_at.ensures c.word_at-in-loop-place.ensures c.track_totals-track.ensures
-          c.add_track-totals.ensures c.loop-place.invariant.1,
-    )
+    let t = c.args.template in
+    turn t.minimums.now t.maximums.now c.args.component.count c.args.inner c.loop-place.place _ c.loop-place.totals c.add_track-totals.result c.track_totals-track.result
+    c.word_at-minimum.result c.word_at.result _ c.loop-place-test.true c.word_at-minimum.ensures c.word_at.ensures c.track_totals-track.ensures
+    c.add_track-totals.ensures c.loop-place.invariant
 
 pub returns : goal.returns
 returns c =
-    let a = c.args in
-    let all : a.component.first + a.component.length - a.component.first ≡ a.component.length = omega arith in
-    rw all at (done a.minimums.now a.maximums.now a.component.count a.inner c.loop-place.place _ c.loop-place.totals _ c.loop-place-test.false c.loop-place.invariant.1)
+    let t = c.args.template in
+    done t.minimums.now t.maximums.now c.args.component.count c.args.inner c.loop-place.place _ c.loop-place.totals _ c.loop-place-test.false c.loop-place.invariant

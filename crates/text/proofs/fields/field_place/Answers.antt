@@ -10,4 +10,4 @@ returns-then-k-ge-FIELDS c = simp (le-ltb c.args.k 14 c.if-k-ge-FIELDS.true)
 
 pub returns : goal.returns
 unfolding place_by
-returns c = simp (lt-ltb c.args.k 14 c.if-k-ge-FIELDS.false, c.reach.ensures, add-one)
+returns c = simp (lt-ltb c.args.k 14 c.if-k-ge-FIELDS.false, c.saturating_sub-2.ensures, c.saturating_sub.ensures, add-one)

@@ -1,35 +1,16 @@
--- `text::find_part` meets its contract: the place of f is the parts passed and its place among the parts from `at` on. Assumes nothing.
-use mathlib.Core.Path.{sym, ◌∙◌}
-use native.Mathlib.Omega.{arith}
-use borrow.Author.Rules.{rules}
-use Rattle.text.proofs.Laws.{find-le, index-whole, index-past, index-here, index-next}
+use Rattle.std.proofs.Common.{rules, tests, ◌≡◌, ◌∙◌, ap, eqb}
+use Rattle.std.specs.Prelude.{nat_eq, position}
+use Rattle.std.specs.List.{slice_split}
+use Rattle.std.specs.Cmp.Lexicographic.{pointwise}
+use Rattle.std.proofs.lemmas.Iterator.Search.{position_from_yields_List}
+use Rattle.std.proofs.lemmas.Iterator.Splits.{YieldsList-from_slice_split}
+use Rattle.text.specs.Split.{place_among}
+use Rattle.text.proofs.Library.{split_parts, part_place}
 use Rattle.text.proofs.words.find_part.Goals as goal
-
-pub loop-at-init : goal.loop-at-init
-loop-at-init c = (search rules, search rules, omega (arith, index-whole c.args.b c.args.words.now c.args.f.now))
-
-pub slice_bounds-equal-end : goal.slice_bounds-equal-end
-slice_bounds-equal-end c =
-    let a = c.args in
-    let l = c.loop-at in
-    find-le a.b a.words.now l.at c.find-e.result (omega arith) c.find-e.ensures
-
-pub returns-then-equal : goal.returns-then-equal
-returns-then-equal c =
-    let a = c.args in
-    let l = c.loop-at in
-    let f = c.find-e in
-    omega (arith, index-here a.b a.words.now l.at f.result (omega arith) f.ensures a.f.now (sym c.equal.ensures ∙ c.if-equal.true))
-
-pub loop-at-preserved : goal.loop-at-preserved
-loop-at-preserved c =
-    let a = c.args in
-    let l = c.loop-at in
-    let f = c.find-e in
-    let n = index-next a.b a.words.now l.at f.result (omega arith) f.ensures a.f.now (sym c.equal.ensures ∙ c.if-equal.false) in
-    omega (arith, find-le a.b a.words.now l.at f.result (omega arith) f.ensures, f.ensures)
 
 pub returns : goal.returns
 returns c =
     let a = c.args in
-    omega (arith, index-past a.b a.words.now a.f.now c.loop-at.at (omega arith))
+    let found : c.position.result ≡ position (λ p. pointwise nat_eq p a.f.now) (slice_split (λ x. eqb x a.b) a.words.now) =
+    position_from_yields_List (λ p. pointwise nat_eq p a.f.now) _ _ c.position.result c.position.ensures.ran (YieldsList-from_slice_split _ (λ x. eqb x a.b) a.words.now c.split.ensures.rest c.split.ensures.done c.split.ensures.closure (λ x r q k. search (rules, tests))) (λ x b q k. search (rules, tests)) in
+    found ∙ part_place a.f.now _ ∙ ap (place_among a.f.now) (split_parts a.b a.words.now)

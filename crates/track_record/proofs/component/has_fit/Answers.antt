@@ -4,21 +4,21 @@ use Rattle.track_record.specs.declared.Repeated.{Repeated}
 use Rattle.track_record.proofs.Fits.{fit_past, fit_found, fit_further}
 use Rattle.track_record.proofs.component.has_fit.Goals as goal
 
-pub returns-then-part : goal.returns-then-part
-returns-then-part c =
-    let l = c.loop-component in
+pub returns-then-repeated_of : goal.returns-then-repeated_of
+returns-then-repeated_of c =
+    let l = c.loop-word in
     let ws = c.args.components.now in
-    fit_found ws l.component c.repeated_of-part.result.fit c.loop-component-test.true (ap (λ (x : Repeated). x.fit) c.repeated_of-part.ensures) c.if-part.true ∙ l.invariant
+    fit_found ws l.word-index c.repeated_of.result.fit c.loop-word-test.true (ap (λ (x : Repeated). x.fit) c.repeated_of.ensures) c.if-repeated_of.true ∙ l.invariant
 
-pub loop-component-preserved : goal.loop-component-preserved
-loop-component-preserved c =
-    let l = c.loop-component in
+pub loop-word-preserved : goal.loop-word-preserved
+loop-word-preserved c =
+    let l = c.loop-word in
     let ws = c.args.components.now in
-    rw (add-one l.component)
-    (fit_further ws l.component c.repeated_of-part.result.fit c.loop-component-test.true (ap (λ (x : Repeated). x.fit) c.repeated_of-part.ensures) c.if-part.false ∙ l.invariant)
+    rw (add-one l.word-index)
+    (fit_further ws l.word-index c.repeated_of.result.fit c.loop-word-test.true (ap (λ (x : Repeated). x.fit) c.repeated_of.ensures) c.if-repeated_of.false ∙ l.invariant)
 
 pub returns : goal.returns
 returns c =
-    let l = c.loop-component in
+    let l = c.loop-word in
     let ws = c.args.components.now in
-    sym (fit_past ws l.component c.loop-component-test.false) ∙ l.invariant
+    sym (fit_past ws l.word-index c.loop-word-test.false) ∙ l.invariant

@@ -7,13 +7,13 @@ use Rattle.track_record.proofs.rule.record_with.Goals as goal
 pub returns-then-index-eq0-2 : goal.returns-then-index-eq0-2
 returns-then-index-eq0-2 c =
     let a = c.args in
-    gutter-record a.at.axis a.at.plan (template_of a.components.now a.minimums.now a.maximums.now) (spares_of a.spare_minimums.now a.spare_maximums.now) (item_at a.items.now) a.at.cursor a.index c.if-index-eq0.false
+    gutter-record a.at.axis a.at.plan (template_of a.template.components.now a.template.minimums.now a.template.maximums.now) (spares_of a.spares.minimums.now a.spares.maximums.now) (item_at a.items.now) a.at.cursor a.index c.if-index-eq0.false
     c.track_with-track.result c.track_collapses-collapsed.result c.track_with-track.ensures c.track_collapses-collapsed.ensures
     c.gutter-then-index-eq0-2.result c.gutter_collapses-shut.result c.if-index-eq0-2.true c.gutter_collapses-shut.ensures c.gutter-then-index-eq0-2.ensures
 
 pub returns : goal.returns
 returns c =
     let a = c.args in
-    track-record a.at.axis a.at.plan (template_of a.components.now a.minimums.now a.maximums.now) (spares_of a.spare_minimums.now a.spare_maximums.now) (item_at a.items.now) a.at.cursor a.index c.if-index-eq0.false
+    track-record a.at.axis a.at.plan (template_of a.template.components.now a.template.minimums.now a.template.maximums.now) (spares_of a.spares.minimums.now a.spares.maximums.now) (item_at a.items.now) a.at.cursor a.index c.if-index-eq0.false
     c.track_with-track.result c.track_collapses-collapsed.result c.track_with-track.ensures c.track_collapses-collapsed.ensures
     c.track.result c.if-index-eq0-2.false c.track.ensures

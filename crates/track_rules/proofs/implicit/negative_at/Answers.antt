@@ -1,6 +1,4 @@
 use Prim.Native.Nat.{ℕ, ◌+◌, ◌-◌, ◌%◌}
-use native.Mathlib.Omega.{arith}
-use native.Mathlib.Nat.{mod-lt}
 use mathlib.Core.Path.{sym, ap, ◌∙◌}
 use lib.ListN.{length}
 use Rattle.track_rules.specs.declared.TrackSource.TheVariants.{Negative}
@@ -12,16 +10,13 @@ use Rattle.track_rules.proofs.implicit.negative_at.Goals as goal
 pub returns-then-length-eq0 : goal.returns-then-length-eq0
 returns-then-length-eq0 c =
     let a = c.args in
-    let mi = c.args.spare_minimums.now in
-    let sp = spares_of mi a.spare_maximums.now in
-    ap (implicit Negative) (c.auto_size-size.ensures ∙ sym (spares_none mi a.spare_maximums.now (length sp - a.count % length sp + a.index) c.if-length-eq0.true))
-
-pub overflow_sub-skipped : goal.overflow_sub-skipped
-overflow_sub-skipped c = let a = c.args in omega (arith, mod-lt a.count {m = length a.spare_minimums.now} (omega arith))
+    let mi = c.args.spares.minimums.now in
+    let sp = spares_of mi a.spares.maximums.now in
+    c.implicit.ensures ∙ ap (implicit Negative) (c.auto_size.ensures ∙ sym (spares_none mi a.spares.maximums.now (length sp - a.count % length sp + a.index) c.if-length-eq0.true))
 
 pub returns : goal.returns
 returns c =
     let a = c.args in
-    let mi = c.args.spare_minimums.now in
-    let sp = spares_of mi a.spare_maximums.now in
-    ap (implicit Negative) (c.spare_at-size.ensures ∙ ap (λ (n : ℕ). spare_at sp (n - a.count % n + a.index)) (sym (spares_length mi a.spare_maximums.now)))
+    let mi = c.args.spares.minimums.now in
+    let sp = spares_of mi a.spares.maximums.now in
+    c.implicit-2.ensures ∙ ap (implicit Negative) (c.spare_at-size.ensures ∙ ap (λ (n : ℕ). spare_at sp (n - a.count % n + a.index)) (sym (spares_length mi a.spares.maximums.now)))

@@ -11,6 +11,6 @@ use Rattle.track_run.proofs.state.begin_at.Goals as goal
 pub returns : goal.returns
 returns c =
     let a = c.args in
-    let ns = totals_words a.axis.repetitions a.components.now a.minimums.now a.maximums.now in
-    state-of a.axis (template_of a.components.now a.minimums.now a.maximums.now) (item_at a.items.now) a.index c.make_plan-plan.result c.cursor_at-cursor.result
+    let ns = totals_words a.axis.repetitions a.template.components.now a.template.minimums.now a.template.maximums.now in
+    state-of a.axis (template_of a.template.components.now a.template.minimums.now a.template.maximums.now) (item_at a.items.now) a.index c.make_plan-plan.result c.cursor_at-cursor.result
     c.make_plan-plan.ensures (c.cursor_at-cursor.ensures ∙ ap (λ (l : List ℕ). cursor_at a.axis l ((a.index - 1) / 2)) (sym ns))

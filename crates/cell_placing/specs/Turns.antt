@@ -1,0 +1,19 @@
+-- The turn of a cell, of which the contracts speak.
+use Rattle.std.specs.Prelude.{Option}
+use Rattle.free_cells.specs.declared.Rectangle.{Rectangle}
+use Rattle.cell_placing.specs.declared.Item.{Item}
+use Rattle.cell_placing.specs.declared.Turn.{Turn}
+use Rattle.cell_placing.specs.Items.{item_in}
+use Rattle.cell_placing.specs.Steps.{Ready, Landing}
+
+-- all before it have landed, and no other
+abbrev pub IsReady : Turn → Type 0
+IsReady t = Ready t.cells.packing t.cells.last t.cells.count t.cells.items.now t.placed.now t.index
+
+-- the cell by its sides
+abbrev pub turning : Turn → Item
+turning t = item_in t.cells.items.now t.index
+
+-- where it lands; nowhere where it is stuck
+abbrev pub Lands : Turn → Option Rectangle → Type 0
+Lands t land = Landing t.cells.packing t.cells.last t.cells.count t.cells.items.now t.placed.now t.index land

@@ -1,7 +1,0 @@
-use Rattle.cell_sides.proofs.cell.from_auto.Goals as goal
-
-pub returns-in-Line : goal.returns-in-Line
-returns-in-Line c = rw c.in-Line.is c.side_back.ensures
-
-pub returns-in-Span : goal.returns-in-Span
-returns-in-Span c = rw c.in-Span.is

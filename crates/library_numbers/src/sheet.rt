@@ -1,0 +1,90 @@
+// What reading a sheet answers, as numbers.
+ghost use Rattle.std.specs.Prelude.{◌≡◌, Ok};
+ghost use Rattle.sheet_rules.specs.Answers.{answered_display, answered_sheet, refused_with};
+ghost use Rattle.library_numbers.specs.Answers.{display_answer, sheet_answer};
+
+use crate::{DisplayAnswer, SheetAnswer};
+use coordinates::Fault;
+use panel_tables::Panel;
+use panel_tables::state::zero_panel;
+use sheet_rules::{Display, SheetFault};
+
+impl From<SheetFault> for SheetAnswer {
+    ghost from_gives = { λ fault answer. answer ≡ sheet_answer (refused_with fault) };
+
+    // A refusal: its number and its line, and zeros but for the pair of an overlap.
+    fn from(fault: SheetFault) -> SheetAnswer {
+        match fault {
+            SheetFault::Overlap(pair) => SheetAnswer {
+                number: u32::from(Fault::Overlap),
+                line: pair.line,
+                earlier: pair.earlier,
+                later: pair.later,
+                panel: zero_panel(),
+            },
+            SheetFault::Line(at) => SheetAnswer {
+                number: u32::from(at.fault),
+                line: at.line,
+                earlier: 0,
+                later: 0,
+                panel: zero_panel(),
+            },
+        }
+    }
+}
+
+impl From<Result<Panel, SheetFault>> for SheetAnswer {
+    ghost from_gives = { λ read answer. answer ≡ sheet_answer (answered_sheet read) };
+
+    // The answer as numbers, for programs in C.
+    fn from(read: Result<Panel, SheetFault>) -> SheetAnswer {
+        match read {
+            Ok(panel) => SheetAnswer {
+                number: 0,
+                line: 0,
+                earlier: 0,
+                later: 0,
+                panel,
+            },
+            Err(fault) => SheetAnswer::from(fault),
+        }
+    }
+}
+
+// What answers are read from of a sheet, as numbers.
+fn display_numbers(display: Display) -> DisplayAnswer
+    ensures { result ≡ display_answer (answered_display (Ok display)) }
+{
+    let (earlier, later) = match display.overlap {
+        Some(pair) => (pair.earlier, pair.later),
+        None => (0, 0),
+    };
+    DisplayAnswer {
+        number: 0,
+        line: 0,
+        earlier,
+        later,
+        grid: display.grid,
+    }
+}
+
+impl From<Result<Display, SheetFault>> for DisplayAnswer {
+    ghost from_gives = { λ read answer. answer ≡ display_answer (answered_display read) };
+
+    // The answer as numbers, for programs in C.
+    fn from(read: Result<Display, SheetFault>) -> DisplayAnswer {
+        match read {
+            Ok(display) => display_numbers(display),
+            Err(fault) => {
+                let refused = SheetAnswer::from(fault);
+                DisplayAnswer {
+                    number: refused.number,
+                    line: refused.line,
+                    earlier: refused.earlier,
+                    later: refused.later,
+                    grid: refused.panel.grid,
+                }
+            }
+        }
+    }
+}

@@ -1,0 +1,2 @@
+-- Laws of the parts of a line.
+pub mod Placements

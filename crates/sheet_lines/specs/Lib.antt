@@ -1,0 +1,2 @@
+-- What the contracts on the fields of a line cite.
+pub mod Fields

@@ -1,0 +1,50 @@
+// The fields of a line, which is cut once.
+ghost use Rattle.std.specs.Prelude.{◌≡◌, ◌<◌, eqb, length};
+ghost use Rattle.sheet_forms.specs.Words.{at};
+ghost use Rattle.sheet_lines.specs.Fields.{fields_of, CutAs};
+
+use text::cut_parts;
+use text::fields::STARTS;
+
+// What parts the fields of a line.
+const TAB: u8 = b'\t';
+
+// A line with the starts of its fields, and their number.
+#[derive(Clone, Copy)]
+pub struct Fields<'a> {
+    pub line: &'a [u8],
+    pub starts: [usize; STARTS],
+    pub count: usize,
+}
+
+impl<'a> Fields<'a> {
+    // A line, cut at its tabs.
+    pub fn cut(line: &'a [u8]) -> Fields<'a>
+        ensures { CutAs line.now result }
+    {
+        let mut starts = [0; STARTS];
+        let count = cut_parts(line, TAB, &mut starts);
+        Fields {
+            line,
+            starts,
+            count,
+        }
+    }
+
+    // Field k.
+    #[tactic(auto, using(crate::proofs::Cuts::field_at))]
+    pub(crate) fn field(&self, k: usize) -> &'a [u8]
+        requires { k < length (fields_of self.now) }
+        ensures { result.now ≡ at (fields_of self.now) k }
+    {
+        text::field(self.line, &self.starts, k)
+    }
+
+    // Whether a line has so many fields.
+    #[tactic(auto, using(text::proofs::Places::length_fields))]
+    pub fn are(&self, count: usize) -> bool
+        ensures { result ≡ eqb (length (fields_of self.now)) count }
+    {
+        self.count == count
+    }
+}

@@ -1,0 +1,6 @@
+-- What a sheet is read into, as a panel's state and tables.
+use Rattle.panel_tables.specs.Written.{PanelHeld, panel_held_of}
+use Rattle.sheet_step.specs.declared.Draft.{Draft}
+
+abbrev pub held_of : Draft → PanelHeld
+held_of d = panel_held_of d.panel d.reading d.words d.bytes d.column_bytes d.row_bytes

@@ -1,0 +1,66 @@
+-- The library's words for what a text holds: the first place, the parts, equality. Assumes nothing.
+use Rattle.std.proofs.Common.{ℕ, suc, ◌≡◌, ◌+◌, List, [], ◌∷◌, Bool, true, false, cond, eqb, refl, sym, ◌&&◌, ◌≤◌, nat_lt, one-add, ◌∙◌, length, Bor, Option, Some, None, arith}
+use Rattle.std.specs.List.{position, position_or_len, slice_split, onto_first}
+use Rattle.std.specs.Prelude.{unwrap_or, nat_eq}
+use Rattle.std.specs.Option.{option_map}
+use Rattle.std.specs.Cmp.Lexicographic.{pointwise}
+use Rattle.std.proofs.lemmas.List.Recursion.{is_position_or_len}
+use borrow.Author.Tests.{ltb-false}
+use Rattle.text.specs.Split.{before, onto, split, same, index, place_among}
+use Rattle.text.proofs.Laws.{before_le}
+
+-- ---- the first place
+
+before_first : (b : ℕ) (s : List ℕ) → before b s ≡ position_or_len (λ x. eqb x b) s
+unfolding before
+before_first b s = is_position_or_len (before b) (λ x. eqb x b) refl (λ x xs. rw one-add refl) s
+
+-- where the first b stands, or the length
+place_or_length : (n m : ℕ) (t : Bool) → nat_lt n m ≡ t → n ≤ m → unwrap_or (cond t (Some n) None) m ≡ n
+place_or_length n m true e h = refl
+place_or_length n m false e h = let k = ltb-false n m e in omega arith
+
+pub first_place : (b : ℕ) (s : List ℕ) → unwrap_or (position (λ x. eqb x b) s) (length s) ≡ before b s
+first_place b s =
+    place_or_length (position_or_len (λ x. eqb x b) s) (length s) _ refl (rw (← before_first b s) (before_le b s)) ∙ sym (before_first b s)
+
+-- ---- the parts
+
+onto_same : (x : ℕ) (ps : List (List ℕ)) → onto x ps ≡ onto_first x ps
+unfolding onto
+onto_same x [] = refl
+onto_same x (p ∷ ps) = refl
+
+pub split_parts : (b : ℕ) (s : List ℕ) → slice_split (λ x. eqb x b) s ≡ split b s
+unfolding split
+split_parts b [] = refl
+split_parts b (x ∷ xs) = rw (split_parts b xs, onto_same x (split b xs))
+
+-- the text behind a reference, or another
+pub text_or : (o : Option (Bor (List ℕ))) (d : Bor (List ℕ)) → (unwrap_or o d).now ≡ unwrap_or (option_map (λ (x : Bor (List ℕ)). x.now) o) d.now
+text_or None d = refl
+text_or (Some x) d = refl
+
+-- ---- equality
+
+both : (t u : Bool) → t && u ≡ cond t u false
+both true u = refl
+both false u = refl
+
+pub same_pointwise : (a b : List ℕ) → pointwise nat_eq a b ≡ same a b
+unfolding same
+same_pointwise [] [] = refl
+same_pointwise [] (y ∷ ys) = refl
+same_pointwise (x ∷ xs) [] = refl
+same_pointwise (x ∷ xs) (y ∷ ys) = rw (same_pointwise xs ys) (both (eqb x y) (same xs ys))
+
+index_step : (f x : List ℕ) (n : ℕ) → cond (same x f) 0 (suc n) ≡ cond (pointwise nat_eq x f) 0 (1 + n)
+index_step f x n = rw (same_pointwise x f, one-add) refl
+
+-- the place of a text among the parts
+index_place : (f : List ℕ) (ps : List (List ℕ)) → index f ps ≡ position_or_len (λ p. pointwise nat_eq p f) ps
+unfolding index
+index_place f ps = is_position_or_len (index f) (λ p. pointwise nat_eq p f) refl (λ x xs. index_step f x (index f xs)) ps
+
+pub part_place : (f : List ℕ) (ps : List (List ℕ)) → position (λ p. pointwise nat_eq p f) ps ≡ place_among f ps
+part_place f ps = rw (index_place f ps) refl

@@ -1,5 +1,0 @@
-use Rattle.std.proofs.Common.{sym, arith, length-take-le}
-use Rattle.vectors.proofs.expected.seen_refusal.Goals as goal
-
-pub slice_bounds-seen_part-end : goal.slice_bounds-seen_part-end
-slice_bounds-seen_part-end c = sym (length-take-le _ _ (omega (arith, c.refused_line-count.ensures.fits, c.refused_line-count.auto.out)))

@@ -1,0 +1,151 @@
+// The tables that a sheet is read into, and what is lent of them.
+ghost use Rattle.std.specs.Prelude.{◌≤◌, length};
+
+use coordinates::{Axis, Fault};
+use panel_names::entering::enter_name;
+use panel_tables::region::{PANEL_BYTES, PANEL_WORDS, marks};
+use panel_tables::{Grid, Panel};
+use sheet_rules::{Display, SheetFault};
+
+// The most bytes of a store that are lent.
+pub const STORE: usize = 32800;
+
+// How many bytes of both stores are lent.
+#[derive(Clone, Copy, Debug, PartialEq, Eq)]
+pub struct StoreLengths {
+    pub columns: u32,
+    pub rows: u32,
+}
+
+// A line and a name that are entered in an axis.
+#[derive(Clone, Copy)]
+pub struct Entry<'a> {
+    pub axis: Axis,
+    pub line: u32,
+    pub name: &'a [u8],
+}
+
+// The tables of a panel, and the stores of its names.
+#[derive(Drop)]
+pub struct Tables {
+    pub words: [u64; PANEL_WORDS],
+    pub bytes: [u8; PANEL_BYTES],
+    pub columnstore: [u8; STORE],
+    pub rowstore: [u8; STORE],
+}
+
+// A panel that answers, and what is lent with it.
+#[derive(Clone, Copy)]
+pub struct Shown<'a> {
+    pub grid: Grid,
+    pub words: &'a [u64; PANEL_WORDS],
+    pub bytes: &'a [u8; PANEL_BYTES],
+    pub columnstore: &'a [u8],
+    pub rowstore: &'a [u8],
+}
+
+// How many of the bytes that there are a number lends.
+fn at_most(count: u32, bytes: usize) -> usize
+    ensures { result ≤ bytes }
+{
+    bytes.min(count as usize)
+}
+
+// How many bytes of both stores are lent: all where no lengths are given.
+fn lent(lengths: Option<StoreLengths>) -> (usize, usize)
+    ensures { (result.0 ≤ 32800) × (result.1 ≤ 32800) }
+{
+    match lengths {
+        Some(given) => (at_most(given.columns, STORE), at_most(given.rows, STORE)),
+        None => (STORE, STORE),
+    }
+}
+
+impl Tables {
+    // Reads a sheet.
+    pub fn read(
+        &mut self,
+        sheet: &[u8],
+        lengths: Option<StoreLengths>,
+    ) -> Result<Panel, SheetFault> {
+        let (columns, rows) = lent(lengths);
+        let columnstore = &mut self.columnstore[..];
+        let rowstore = &mut self.rowstore[..];
+        sheet::read_sheet(
+            sheet,
+            &mut self.words,
+            &mut self.bytes,
+            &mut columnstore[..columns],
+            &mut rowstore[..rows],
+        )
+    }
+
+    // Reads a sheet for display.
+    pub fn display(
+        &mut self,
+        sheet: &[u8],
+        lengths: Option<StoreLengths>,
+    ) -> Result<Display, SheetFault> {
+        let (columns, rows) = lent(lengths);
+        let columnstore = &mut self.columnstore[..];
+        let rowstore = &mut self.rowstore[..];
+        sheet::display_sheet(
+            sheet,
+            &mut self.words,
+            &mut self.bytes,
+            &mut columnstore[..columns],
+            &mut rowstore[..rows],
+        )
+    }
+
+    // Enters a line and a name in an axis of a panel.
+    pub fn enter(
+        &mut self,
+        panel: Panel,
+        lengths: Option<StoreLengths>,
+        entry: Entry,
+    ) -> Result<Panel, Fault> {
+        let (columns, rows) = lent(lengths);
+        let columnstore = &mut self.columnstore[..];
+        let rowstore = &mut self.rowstore[..];
+        enter_name(
+            panel,
+            &mut self.words,
+            &mut columnstore[..columns],
+            &mut rowstore[..rows],
+            entry.axis,
+            entry.line,
+            entry.name,
+        )
+    }
+
+    // A panel with these tables.
+    pub fn shown(&self, grid: Grid) -> Shown<'_> {
+        Shown {
+            grid,
+            words: &self.words,
+            bytes: &self.bytes,
+            columnstore: &self.columnstore,
+            rowstore: &self.rowstore,
+        }
+    }
+}
+
+impl<'a> Shown<'a> {
+    // The same with so many bytes of both stores.
+    pub fn with_stores(self, lengths: StoreLengths) -> Shown<'a> {
+        let columns = at_most(lengths.columns, self.columnstore.len());
+        let rows = at_most(lengths.rows, self.rowstore.len());
+        Shown {
+            columnstore: &self.columnstore[..columns],
+            rowstore: &self.rowstore[..rows],
+            ..self
+        }
+    }
+
+    // So many of the item bytes of an axis.
+    pub fn items(self, axis: Axis, count: u32) -> &'a [u8] {
+        let items = marks(self.bytes, axis);
+        &items[..at_most(count, items.len())]
+    }
+}
