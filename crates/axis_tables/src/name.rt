@@ -1,5 +1,5 @@
 // What `name` does to an axis.
-ghost use Rattle.std.specs.Prelude.{◌≡◌, ◌+◌, ◌%◌, ◌≤◌, length};
+ghost use Rattle.std.specs.Prelude.{◌≡◌, ◌+◌, ◌%◌, ◌≤◌, cond, ltb, length};
 ghost use Rattle.std.proofs.lemmas.List.Edits.{sets};
 ghost use Rattle.coordinates.specs.Refusals.{number_of};
 ghost use Rattle.axis_tables.specs.Store.{InNames, place_in, answered_axis, put_name};
@@ -51,15 +51,18 @@ pub fn no_room(most: u32, room: u32, names: u32, used: u32, length: usize) -> bo
     LONGEST_NAME < length || most <= names || (room as usize) < used as usize + length
 }
 
+// What is told beside a name of that length, faults being told by values of any type: `name` of more than 32 bytes, else the other.
+pub fn beside_name<F: Copy>(length: usize, name: F, other: F) -> F
+    ensures { result ≡ cond (ltb 32 length) name other }
+{
+    if LONGEST_NAME < length { name } else { other }
+}
+
 // A fault beside a name of that length: a name of more than 32 bytes is the fault with the lower number.
 pub fn named_fault(length: usize, fault: Fault) -> Fault
     ensures { number_of result ≡ named_fault length (number_of fault) }
 {
-    if LONGEST_NAME < length {
-        Fault::Name
-    } else {
-        fault
-    }
+    beside_name(length, Fault::Name, fault)
 }
 
 // Where a name stands, as a byte: 0 outside a repeat, one more than the tracks before it in the open repeat.

@@ -10,7 +10,7 @@ use lib.ListN.{get_or}
 use borrow.Author.Tests.{eqb-true, eqb-false, ltb-true, ltb-false}
 use Rattle.free_cells.specs.declared.Place.{Place}
 use Rattle.free_cells.specs.Words.{rectangle_in}
-use Rattle.free_cells.specs.Free.{AtOrAfter, no_place_of}
+use Rattle.free_cells.specs.Free.{AtOrAfter}
 use Rattle.free_cells.proofs.Places.{order, same_row, row_from, rows_on, row_past}
 use Rattle.free_cells.proofs.Words.{rectangle_small}
 use Rattle.cell_placing.specs.declared.Packing.{Packing}
@@ -22,9 +22,6 @@ use Rattle.cell_placing.specs.Steps.{later_column, RowCursor, RestCursor, after,
 -- ---- in a row
 
 module _ (items placed : List ℕ) (row : ℕ) where
-  pub row-begins : RowCursor items placed 0 row 0
-  row-begins = record { most = λ j w g e. absurd (omega arith); reached = inl refl }
-
   -- one more, which does not count
   row_kept : (j column : ℕ) → RowCursor items placed j row column → (group_of (item_in items j) ≡ 1 → (rectangle_in placed j).rows.start ≡ row → (rectangle_in placed j).columns.start ≤ column)
       → RowCursor items placed (j + 1) row column
@@ -65,12 +62,6 @@ module _ (items placed : List ℕ) (count : ℕ) where
 
   pub rest-found : (j : ℕ) (place : Place) → j < count → NoneFrom (j + 1) → group_of (item_in items j) ≡ 2 → place ≡ start_of (rectangle_in placed j) → RestCursor items placed count place
   rest-found j place h out g e = after j h g (λ k w f. ⊎_elim (λ (l : j < k). absurd (out k (omega arith) w f)) (λ l. l) (order j k)) e
-
-  pub rest-passed : (j : ℕ) → NoneFrom (j + 1) → (group_of (item_in items j) ≡ 2 → ⊥) → NoneFrom j
-  rest-passed j out not k h w g = ⊎_elim (λ (l : j < k). out k (omega arith) w g) (λ l. let z : k ≡ j = omega arith in not (rw z at g)) (order j k)
-
-  pub rest-none : NoneFrom 0 → RestCursor items placed count no_place_of
-  rest-none out = begins (λ k w g. out k (omega arith) w g) refl
 
   -- its row has 16 bits
   pub rest-small : (place : Place) → RestCursor items placed count place → place.row < 65536

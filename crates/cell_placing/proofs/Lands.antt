@@ -11,7 +11,7 @@ use borrow.Author.Tests.{leb-true, ltb-true, le-leb, lt-ltb}
 use Rattle.coordinates.specs.declared.axis.Axis.{Axis}
 use Rattle.coordinates.specs.declared.axis.Axis.TheVariants.{Column, Row}
 use Rattle.cell_sides.specs.declared.Side.TheVariants.{Free, Fixed}
-use Rattle.free_cells.specs.declared.Lines.{Lines}
+use Rattle.coordinates.specs.declared.line.LinePair.{LinePair}
 use Rattle.free_cells.specs.declared.Rectangle.{Rectangle}
 use Rattle.free_cells.specs.declared.Size.{Size}
 use Rattle.free_cells.specs.declared.Place.{Place}
@@ -19,7 +19,7 @@ use Rattle.free_cells.specs.Free.{tracks_from, along, area_at, FreeLine, FirstOr
 use Rattle.free_cells.proofs.Places.{order, row_from, row_past}
 use Rattle.free_cells.proofs.Words.{Small}
 use Rattle.cell_placing.specs.declared.Item.{Item}
-use Rattle.cell_placing.specs.Css.{On, Fits, start_of}
+use Rattle.cell_placing.specs.Css.{On, start_of}
 use Rattle.cell_placing.specs.Steps.{is_on, last_on, last_across, item_along, start_along, Here, FirstLand}
 
 -- ---- two lines on an axis
@@ -30,54 +30,42 @@ three true true false e = absurd (false≢true e)
 three true false c e = absurd (false≢true e)
 three false b c e = absurd (false≢true e)
 
-pub on_to : (last : ℕ) (l : Lines) → is_on last l ≡ true → On last l
+pub on_to : (last : ℕ) (l : LinePair) → is_on last l ≡ true → On last l
 on_to last l e =
     let t = three (leb 1 l.start) (ltb l.start l.end) (leb l.end last) e in
     record { first = leb-true _ _ t.0; order = ltb-true _ _ t.1; final = leb-true _ _ t.2 }
 
-on_from : (last : ℕ) (l : Lines) → On last l → is_on last l ≡ true
+on_from : (last : ℕ) (l : LinePair) → On last l → is_on last l ≡ true
 on_from last l o = rw (le-leb 1 l.start o.first, lt-ltb l.start l.end o.order, le-leb l.end last o.final)
 
-pub on_off : (last : ℕ) (l : Lines) → is_on last l ≡ false → On last l → ⊥
+pub on_off : (last : ℕ) (l : LinePair) → is_on last l ≡ false → On last l → ⊥
 on_off last l e o = false≢true (sym e ∙ on_from last l o)
 
 -- the same lines
-on_same : (last : ℕ) (l m : Lines) → l.start ≡ m.start → l.end ≡ m.end → On last l → On last m
+on_same : (last : ℕ) (l m : LinePair) → l.start ≡ m.start → l.end ≡ m.end → On last l → On last m
 on_same last l m e f o = record { first = omega (arith, o.first); order = omega (arith, o.order); final = omega (arith, o.final) }
 
-pub on_small : (last : ℕ) (l : Lines) → last < 65536 → On last l → Small l
+pub on_small : (last : ℕ) (l : LinePair) → last < 65536 → On last l → Small l
 on_small last l h o = record { start = omega (arith, o.order, o.final); end = omega (arith, o.final) }
 
 -- ---- rectangles
 
-pub same_lines : (l m : Lines) → l.start ≡ m.start → l.end ≡ m.end → l ≡ m
-same_lines l m e f = ap {B = Lines} (λ (k : ℕ). record { start = k; end = l.end }) e ∙ ap {B = Lines} (λ (k : ℕ). record { start = m.start; end = k }) f
+pub same_lines : (l m : LinePair) → l.start ≡ m.start → l.end ≡ m.end → l ≡ m
+same_lines l m e f = ap {B = LinePair} (λ (k : ℕ). record { start = k; end = l.end }) e ∙ ap {B = LinePair} (λ (k : ℕ). record { start = m.start; end = k }) f
 
 pub same_rectangle : (q r : Rectangle) → q.columns ≡ r.columns → q.rows ≡ r.rows → q ≡ r
 same_rectangle q r e f =
-    ap {B = Rectangle} (λ (l : Lines). record { columns = l; rows = q.rows }) e ∙ ap {B = Rectangle} (λ (l : Lines). record { columns = r.columns; rows = l }) f
+    ap {B = Rectangle} (λ (l : LinePair). record { columns = l; rows = q.rows }) e ∙ ap {B = Rectangle} (λ (l : LinePair). record { columns = r.columns; rows = l }) f
 
 -- ---- lines in both axes
 
-module _ (last : ℕ) (columns rows : Lines) where
+module _ (last : ℕ) (columns rows : LinePair) where
   abbrev fixed : Item
   fixed = record { column = Fixed columns.start columns.end; row = Fixed rows.start rows.end }
 
-  pub fixed-columns-off : is_on last columns ≡ false → FirstLand (Fits last fixed) None
-  fixed-columns-off e = λ q f. on_off last columns e (on_same last q.columns columns f.columns.0 f.columns.1 f.across)
-
-  pub fixed-rows-off : is_on last_row_line rows ≡ false → FirstLand (Fits last fixed) None
-  fixed-rows-off e = λ q f. on_off last_row_line rows e (on_same last_row_line q.rows rows f.rows.0 f.rows.1 f.down)
-
-  pub fixed-found : is_on last columns ≡ true → is_on last_row_line rows ≡ true → FirstLand (Fits last fixed) (Some (record { columns = columns; rows = rows }))
-  fixed-found c d = (
-    record { columns = (refl, refl); rows = (refl, refl); across = on_to last columns c; down = on_to last_row_line rows d },
-    λ q f. row_from (start_of (record { columns = columns; rows = rows })) (start_of q) (sym f.rows.0) (omega (arith, f.columns.0)),
-  )
-
 -- ---- lines across an axis
 
-module _ (words : List ℕ) (count last from tracks : ℕ) (across : Lines) where
+module _ (words : List ℕ) (count last from tracks : ℕ) (across : LinePair) where
   abbrev There : Axis → Rectangle → Type 0
   There axis = Here words count last (item_along axis tracks across) (λ q. from ≤ start_along axis q)
 
@@ -186,12 +174,6 @@ module _ (words : List ℕ) (count last : ℕ) (size : Size) (from : Place) wher
   pub area-nowhere : (p : Place) → FirstPlace (FreePlace words count last size from) p → p.row ≡ 0 → FirstLand Anywhere None
   area-nowhere p (no_place e f) z = λ q u. f (start_of q) (to-place q u)
   area-nowhere p (earliest g f) z = absurd (omega (arith, g.row))
-
-  pub area-no-columns : size.columns ≡ 0 → FirstLand Anywhere None
-  area-no-columns e = λ q u. omega (arith, u.fits.across.order, u.fits.columns)
-
-  pub area-no-rows : size.rows ≡ 0 → FirstLand Anywhere None
-  area-no-rows e = λ q u. omega (arith, u.fits.down.order, u.fits.rows)
 
   pub area-room : (p : Place) → FirstPlace (FreePlace words count last size from) p → (p.row ≡ 0 → ⊥) → (p.column + size.columns ≤ last) × (p.row + size.rows ≤ last_row_line)
   area-room p (no_place e f) out = absurd (out (ap (λ (x : Place). x.row) e))

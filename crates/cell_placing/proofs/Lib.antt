@@ -7,3 +7,4 @@ pub mod Theorems
 pub mod Cases
 pub mod Plain
 pub mod Items
+pub mod Cut

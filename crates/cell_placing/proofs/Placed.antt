@@ -1,6 +1,6 @@
 -- From turn to turn: what was placed stays where CSS puts it. Assumes nothing.
 use mathlib.Core.Path.{◌≡◌, refl, sym, ap, ◌∙◌}
-use mathlib.Core.Bool.{Bool, true, false, cond, false≢true}
+use mathlib.Core.Bool.{Bool, true, false, cond}
 use mathlib.Core.List.{List}
 use mathlib.Core.Logic.{⊎_elim}
 use Prim.Native.Nat.{ℕ, zero, suc, ◌+◌, ◌*◌, ◌≤◌, ◌<◌}
@@ -20,7 +20,7 @@ use Rattle.cell_placing.specs.Items.{is_lined, item_in, group_of}
 use Rattle.cell_placing.specs.Css.{turn, Earlier, Fits, start_of, Unoccupied, PastInRow, LastOfRest, PastCursor, Past, Candidate, First, Stuck, AllLand, FirstStuck, Answers}
 use Rattle.cell_placing.proofs.Lands.{on_small}
 use Rattle.cell_placing.specs.Css as Css
-use Rattle.cell_placing.specs.Steps.{Going, Ready, Turned, goes, stops}
+use Rattle.cell_placing.specs.Steps.{Going, Ready}
 
 -- ---- only what was placed before a cell counts for it
 
@@ -149,22 +149,6 @@ module _ (packing : Packing) (last count : ℕ) (items placed : List ℕ) where
               rw (z, here)
               (first-same packing last count (item_in items) (rectangle_in placed) (rectangle_in (set placed i w)) i (λ k e. kept k e.order) land f)
 
-  -- the end of a pass
-  pub pass-ends : (group i : ℕ) → count ≤ i → i ≤ count → Going packing last count items placed (group * 256 + i) → Going packing last count items placed (group * 256 + 256)
-  pass-ends group i h k g =
-      record {
-        few = g.few;
-        whole = g.whole;
-        landed = λ j w l.
-            let f = g.few in
-            g.landed j w
-            (⊎_elim
-            (λ (u : group < group_of (item_in items j)). absurd (omega arith))
-            (λ u. omega arith)
-            (order group (group_of (item_in items j))));
-        later = λ j w l. let f = g.few in g.later j w (omega arith);
-      }
-
   -- the end of all
   pub all-land : Going packing last count items placed (3 * 256) → AllLand packing last count (item_in items) (rectangle_in placed)
   all-land g i h = let m = group_most (item_in items i) in let f = g.few in g.landed i h (omega arith)
@@ -173,19 +157,4 @@ module _ (packing : Packing) (last count : ℕ) (items placed : List ℕ) where
       → Answers packing last count (item_in items) lent (sets lent 0 placed) (Ok tt)
   answer-placed lent g = Css.placed placed g.whole (all-land g) refl refl
 
--- where the count is held
-pub answer_by : (packing : Packing) (last count held : ℕ) (items placed lent : List ℕ) → held ≡ count → Going packing last held items placed (3 * 256)
-    → Answers packing last count (item_in items) lent (sets lent 0 placed) (Ok tt)
-answer_by packing last count held items placed lent e g = rw (← e) (answer-placed packing last held items placed lent g)
-
 -- ---- what a turn and a pass came to
-
-pub turned_on : {packing : Packing} {last count : ℕ} {items placed : List ℕ} {i time : ℕ} (r : Bool) → Turned packing last count items placed i time r → r ≡ true
-    → Going packing last count items placed (time + 1)
-turned_on r (goes e g) t = g
-turned_on r (stops e s) t = absurd (false≢true (sym e ∙ t))
-
-pub turned_off : {packing : Packing} {last count : ℕ} {items placed : List ℕ} {i time : ℕ} (r : Bool) → Turned packing last count items placed i time r → r ≡ false
-    → FirstStuck packing last count (item_in items) i
-turned_off r (goes e g) t = absurd (false≢true (sym t ∙ e))
-turned_off r (stops e s) t = s

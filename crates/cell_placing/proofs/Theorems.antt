@@ -6,7 +6,7 @@ use Prim.Native.Nat.{ℕ, zero, suc, ◌+◌, ◌≤◌, ◌<◌}
 use native.Mathlib.Omega.{arith}
 use Rattle.cell_sides.specs.declared.Side.{Side}
 use Rattle.cell_sides.specs.declared.Side.TheVariants.{Outside, Free, Fixed}
-use Rattle.free_cells.specs.declared.Lines.{Lines}
+use Rattle.coordinates.specs.declared.line.LinePair.{LinePair}
 use Rattle.free_cells.specs.declared.Rectangle.{Rectangle}
 use Rattle.free_cells.specs.declared.Place.{Place}
 use Rattle.free_cells.specs.Words.{rectangle_in}
@@ -23,7 +23,7 @@ use Rattle.cell_placing.proofs.Placed.{first-same, stuck-same, one-turn}
 
 -- ---- a cell has one land
 
-same_side : (s : Side) (l m : Lines) → Keeps s l → Keeps s m → l.start ≡ m.start → l ≡ m
+same_side : (s : Side) (l m : LinePair) → Keeps s l → Keeps s m → l.start ≡ m.start → l ≡ m
 same_side Outside l m f g e = absurd f
 same_side (Free k) l m f g e = same_lines l m e (f ∙ ap (λ (n : ℕ). n + k) e ∙ sym g)
 same_side (Fixed a b) l m f g e = same_lines l m e (f.1 ∙ sym g.1)

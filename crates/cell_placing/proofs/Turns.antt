@@ -8,8 +8,8 @@ use native.Mathlib.Omega.{arith}
 use Rattle.std.specs.Prelude.{Option, Some, None}
 use Rattle.coordinates.specs.declared.axis.Axis.TheVariants.{Column, Row}
 use Rattle.cell_sides.specs.declared.Side.{Side}
-use Rattle.cell_sides.specs.declared.Side.TheVariants.{Outside, Free, Fixed}
-use Rattle.free_cells.specs.declared.Lines.{Lines}
+use Rattle.cell_sides.specs.declared.Side.TheVariants.{Free, Fixed}
+use Rattle.coordinates.specs.declared.line.LinePair.{LinePair}
 use Rattle.free_cells.specs.declared.Rectangle.{Rectangle}
 use Rattle.free_cells.specs.declared.Size.{Size}
 use Rattle.free_cells.specs.declared.Place.{Place}
@@ -137,13 +137,7 @@ module _ (packing : Packing) (last count : ℕ) (items placed : List ℕ) (i : �
   landing These (Some r) f to back = record { one = to r f.0; first = λ q c. f.1 q (back q c) }
   landing These None f to back = λ q c. f q (back q c)
 
-  pub outside-column : (row : Side) → item_in items i ≡ record { column = Outside; row = row } → Landing packing last count items placed i None
-  outside-column row e = λ q c. (rw e at c.fits).columns
-
-  pub outside-row : (column : Side) → item_in items i ≡ record { column = column; row = Outside } → Landing packing last count items placed i None
-  outside-row column e = λ q c. (rw e at c.fits).rows
-
-  pub both-land : (columns rows : Lines) (land : Option Rectangle) → item_in items i ≡ record { column = Fixed columns.start columns.end; row = Fixed rows.start rows.end }
+  pub both-land : (columns rows : LinePair) (land : Option Rectangle) → item_in items i ≡ record { column = Fixed columns.start columns.end; row = Fixed rows.start rows.end }
       → FirstLand (Fits last (record { column = Fixed columns.start columns.end; row = Fixed rows.start rows.end })) land → Landing packing last count items placed i land
   both-land columns rows land e f =
       let g : group_of (item_in items i) ≡ 0 = ap group_of e ∙ group_both columns.start columns.end rows.start rows.end in
@@ -151,7 +145,7 @@ module _ (packing : Packing) (last count : ℕ) (items placed : List ℕ) (i : �
       (λ r h. record { fits = rw e h; free = λ out. absurd (out g); past = past-both packing (group_of (item_in items i)) count (item_in items) (rectangle_in placed) i r g })
       (λ r c. rw e at c.fits)
 
-  pub row-lands : (tracks from : ℕ) (rows : Lines) (land : Option Rectangle) → item_in items i ≡ record { column = Free tracks; row = Fixed rows.start rows.end }
+  pub row-lands : (tracks from : ℕ) (rows : LinePair) (land : Option Rectangle) → item_in items i ≡ record { column = Free tracks; row = Fixed rows.start rows.end }
       → CursorColumn packing items placed i rows.start from
       → FirstLand (Here placed (length placed) last (item_along Column tracks rows) (λ q. from ≤ start_along Column q)) land → Landing packing last count items placed i land
   row-lands tracks from rows land e c f =
@@ -171,7 +165,7 @@ module _ (packing : Packing) (last count : ℕ) (items placed : List ℕ) (i : �
         past = past_row (group_of (item_in items i)) rows.start from r g g c k.rows.0 d.past;
       })
 
-  pub column-lands : (columns : Lines) (tracks from : ℕ) (cursor : Place) (land : Option Rectangle) → item_in items i ≡ record { column = Fixed columns.start columns.end; row = Free tracks }
+  pub column-lands : (columns : LinePair) (tracks from : ℕ) (cursor : Place) (land : Option Rectangle) → item_in items i ≡ record { column = Fixed columns.start columns.end; row = Free tracks }
       → CursorPlace packing items placed i cursor → from ≡ start_row cursor columns.start
       → FirstLand (Here placed (length placed) last (item_along Row tracks columns) (λ q. from ≤ start_along Row q)) land → Landing packing last count items placed i land
   column-lands columns tracks from cursor land e c s f =
@@ -210,7 +204,3 @@ module _ (packing : Packing) (last count : ℕ) (items placed : List ℕ) (i : �
         clear = free-clear r (d.free (λ z. omega (arith, g, z)));
         past = past-rest (group_of (item_in items i)) cursor r g g c d.past;
       })
-
--- a cell whose row is known
-pub item_row : (r : Item) (s : Side) → r.row ≡ s → r ≡ record { column = r.column; row = s }
-item_row r s e = ap {B = Item} (λ (t : Side). record { column = r.column; row = t }) e

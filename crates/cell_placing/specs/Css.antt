@@ -5,7 +5,7 @@ use Rattle.std.specs.Prelude.{ℕ, zero, suc, ◌+◌, ◌*◌, ◌≤◌, ◌<�
 use Rattle.std.proofs.lemmas.List.Edits.{sets}
 use Rattle.cell_sides.specs.declared.Side.{Side}
 use Rattle.cell_sides.specs.declared.Side.TheVariants.{Outside, Free, Fixed}
-use Rattle.free_cells.specs.declared.Lines.{Lines}
+use Rattle.coordinates.specs.declared.line.LinePair.{LinePair}
 use Rattle.free_cells.specs.declared.Rectangle.{Rectangle}
 use Rattle.free_cells.specs.declared.Place.{Place}
 use Rattle.free_cells.specs.Words.{rectangle_in}
@@ -29,13 +29,13 @@ pub record Earlier (count : ℕ) (items : ℕ → Item) (j i : ℕ) : Type 0 whe
 -- ---- the rectangles that a cell may take
 
 -- a side's lines are kept: its two lines, or so many tracks
-abbrev pub Keeps : Side → Lines → Type 0
+abbrev pub Keeps : Side → LinePair → Type 0
 Keeps Outside l = ⊥
 Keeps (Free tracks) l = l.end ≡ l.start + tracks
 Keeps (Fixed start end) l = (l.start ≡ start) × (l.end ≡ end)
 
 -- two lines, a track or more apart, among those of the axis
-pub record On (last : ℕ) (l : Lines) : Type 0 where
+pub record On (last : ℕ) (l : LinePair) : Type 0 where
   pub first : 1 ≤ l.start
   pub order : l.start < l.end
   pub final : l.end ≤ last

@@ -2,20 +2,20 @@
 use Rattle.std.specs.Prelude.{ℕ, ◌/◌, Bool, true, false, cond, List, eqb, get_or}
 use Rattle.cell_sides.specs.declared.Side.{Side}
 use Rattle.cell_sides.specs.declared.Side.TheVariants.{Outside, Free, Fixed}
-use Rattle.free_cells.specs.declared.Lines.{Lines}
+use Rattle.coordinates.specs.declared.line.LinePair.{LinePair}
 use Rattle.free_cells.specs.Words.{lines_of, rectangle_word}
 use Rattle.cell_placing.specs.declared.Group.{Group}
 use Rattle.cell_placing.specs.declared.Group.TheVariants.{FixedInBoth, FixedInRow, Rest}
 use Rattle.cell_placing.specs.declared.Item.{Item}
 
 -- a side as two lines: start 0 is free over `end` tracks, start 65,535 is outside
-abbrev pub side_of : Lines → Side
+abbrev pub side_of : LinePair → Side
 side_of l = cond (eqb l.start 0) (Free l.end) (cond (eqb l.start 65535) Outside (Fixed l.start l.end))
 
 unfoldable pub item_of : ℕ → Item
 item_of w = record { column = side_of (lines_of w); row = side_of (lines_of (w / 4294967296)) }
 
-abbrev pub side_lines : Side → Lines
+abbrev pub side_lines : Side → LinePair
 side_lines Outside = record { start = 65535; end = 0 }
 side_lines (Free k) = record { start = 0; end = k }
 side_lines (Fixed a b) = record { start = a; end = b }

@@ -3,7 +3,7 @@
 use Rattle.std.specs.Prelude.{ℕ, zero, suc, ◌+◌, ◌-◌, ◌%◌, Bool, true, false, cond, not, ◌&&◌, ◌||◌, eqb, leb, ltb}
 use Rattle.cell_sides.specs.declared.Side.{Side}
 use Rattle.cell_sides.specs.declared.Side.TheVariants.{Outside, Free, Fixed}
-use Rattle.free_cells.specs.declared.Lines.{Lines}
+use Rattle.coordinates.specs.declared.line.LinePair.{LinePair}
 use Rattle.free_cells.specs.declared.Rectangle.{Rectangle}
 use Rattle.free_cells.specs.declared.Place.{Place}
 use Rattle.free_cells.specs.Free.{tracks_from, last_row_line}
@@ -26,7 +26,7 @@ all_below (suc n) t = let rest = all_below n t in cond (t n) rest false
 abbrev pub implies : Bool → Bool → Bool
 implies a b = cond a b true
 
-abbrev pub keeps : Side → Lines → Bool
+abbrev pub keeps : Side → LinePair → Bool
 keeps Outside l = false
 keeps (Free k) l = eqb l.end (l.start + k)
 keeps (Fixed a b) l = eqb l.start a && eqb l.end b

@@ -3,7 +3,7 @@ use Rattle.std.specs.Prelude.{ℕ, ◌+◌, ◌≤◌, ◌<◌, ◌≡◌, Bool,
 use Rattle.coordinates.specs.declared.axis.Axis.{Axis}
 use Rattle.coordinates.specs.declared.axis.Axis.TheVariants.{Column, Row}
 use Rattle.cell_sides.specs.declared.Side.TheVariants.{Free, Fixed}
-use Rattle.free_cells.specs.declared.Lines.{Lines}
+use Rattle.coordinates.specs.declared.line.LinePair.{LinePair}
 use Rattle.free_cells.specs.declared.Rectangle.{Rectangle}
 use Rattle.free_cells.specs.declared.Place.{Place}
 use Rattle.free_cells.specs.Words.{rectangle_of, rectangle_in}
@@ -17,7 +17,7 @@ use Rattle.cell_placing.specs.Css.{turn, Fits, start_of, First, Stuck, FirstStuc
 -- ---- a rectangle that is looked for
 
 -- two lines are on an axis
-abbrev pub is_on : ℕ → Lines → Bool
+abbrev pub is_on : ℕ → LinePair → Bool
 is_on last l = (leb 1 l.start && ltb l.start l.end) && leb l.end last
 
 -- the last line of an axis, and of the other
@@ -30,7 +30,7 @@ last_across Column last = last_row_line
 last_across Row last = last
 
 -- a cell with lines across an axis and so many tracks along it
-abbrev pub item_along : Axis → ℕ → Lines → Item
+abbrev pub item_along : Axis → ℕ → LinePair → Item
 item_along Column tracks across = record { column = Free tracks; row = Fixed across.start across.end }
 item_along Row tracks across = record { column = Fixed across.start across.end; row = Free tracks }
 

@@ -1,5 +1,5 @@
 -- The turn of a cell, of which the contracts speak.
-use Rattle.std.specs.Prelude.{Option}
+use Rattle.std.specs.Prelude.{Option, length}
 use Rattle.free_cells.specs.declared.Rectangle.{Rectangle}
 use Rattle.cell_placing.specs.declared.Item.{Item}
 use Rattle.cell_placing.specs.declared.Turn.{Turn}
@@ -8,12 +8,12 @@ use Rattle.cell_placing.specs.Steps.{Ready, Landing}
 
 -- all before it have landed, and no other
 abbrev pub IsReady : Turn → Type 0
-IsReady t = Ready t.cells.packing t.cells.last t.cells.count t.cells.items.now t.placed.now t.index
+IsReady t = Ready t.cells.packing t.cells.last (length t.cells.items.now) t.cells.items.now t.placed.now t.index
 
 -- the cell by its sides
-abbrev pub turning : Turn → Item
-turning t = item_in t.cells.items.now t.index
+abbrev pub item_at : Turn → Item
+item_at t = item_in t.cells.items.now t.index
 
 -- where it lands; nowhere where it is stuck
 abbrev pub Lands : Turn → Option Rectangle → Type 0
-Lands t land = Landing t.cells.packing t.cells.last t.cells.count t.cells.items.now t.placed.now t.index land
+Lands t land = Landing t.cells.packing t.cells.last (length t.cells.items.now) t.cells.items.now t.placed.now t.index land

@@ -4,17 +4,17 @@ ghost use Rattle.cell_sides.specs.declared.Side.TheVariants.{Free, Fixed};
 ghost use Rattle.free_cells.specs.Free.{AtOrAfter};
 ghost use Rattle.cell_placing.specs.Css.{Fits, start_of};
 ghost use Rattle.cell_placing.specs.Steps.{is_on, last_on, last_across, item_along, start_along, FirstLand, Here, CursorColumn, CursorPlace};
-ghost use Rattle.cell_placing.specs.Turns.{IsReady, Lands, turning};
+ghost use Rattle.cell_placing.specs.Turns.{IsReady, Lands, item_at};
 
 use crate::cursor::{rest_cursor, row_cursor, start_row};
 use crate::{Item, Packing, Turn};
 use cell_sides::Side;
-use coordinates::Axis;
+use coordinates::{Axis, LinePair};
 use free_cells::search::{LAST_ROW_LINE, along, free_line, free_place};
-use free_cells::{Lines, Place, Rectangle, Size};
+use free_cells::{Place, Rectangle, Size};
 
 // Whether two lines, a track or more apart, are on an axis.
-fn is_on(last: u32, lines: Lines) -> bool
+fn is_on(last: u32, lines: LinePair) -> bool
     ensures { result ≡ is_on last lines }
 {
     ((1 <= lines.start) & (lines.start < lines.end)) & (lines.end <= last)
@@ -41,7 +41,7 @@ fn last_across(axis: Axis, last: u16) -> u32
 }
 
 // The rectangle of a cell with lines in both axes.
-fn fixed_land(last: u16, columns: Lines, rows: Lines) -> Option<Rectangle>
+fn fixed_land(last: u16, columns: LinePair, rows: LinePair) -> Option<Rectangle>
     ensures { FirstLand (Fits last (record { column = Fixed columns.start columns.end; row = Fixed rows.start rows.end })) result }
 {
     if !is_on(last as u32, columns) || !is_on(LAST_ROW_LINE, rows) {
@@ -57,7 +57,7 @@ fn along_land(
     last: u16,
     from: u32,
     tracks: u32,
-    across: Lines,
+    across: LinePair,
 ) -> Option<Rectangle>
     ensures { FirstLand (Here placed.now (length placed.now) last (item_along axis tracks across) (λ q. from ≤ start_along axis q)) result }
 {
@@ -65,7 +65,7 @@ fn along_land(
         return None;
     }
     let line = free_line(placed, axis, last_on(axis, last), from, tracks, across)?;
-    let lines = Lines {
+    let lines = LinePair {
         start: line,
         end: line + tracks,
     };
@@ -80,11 +80,11 @@ fn free_area(placed: &[u64], last: u16, size: Size, from: Place) -> Option<Recta
         return None;
     }
     let place = free_place(placed, last as u32, size, from)?;
-    let columns = Lines {
+    let columns = LinePair {
         start: place.column,
         end: place.column + size.columns,
     };
-    let rows = Lines {
+    let rows = LinePair {
         start: place.row,
         end: place.row + size.rows,
     };
@@ -114,8 +114,8 @@ fn cursor_place(turn: Turn) -> Place
 }
 
 // A cell that is fixed in its row.
-fn row_land(turn: Turn, tracks: u32, rows: Lines) -> Option<Rectangle>
-    requires { IsReady turn × (turning turn ≡ record { column = Free tracks; row = Fixed rows.start rows.end }) }
+fn row_land(turn: Turn, tracks: u32, rows: LinePair) -> Option<Rectangle>
+    requires { IsReady turn × (item_at turn ≡ record { column = Free tracks; row = Fixed rows.start rows.end }) }
     ensures { Lands turn.entry result }
 {
     let from = cursor_column(turn, rows.start);
@@ -130,8 +130,8 @@ fn row_land(turn: Turn, tracks: u32, rows: Lines) -> Option<Rectangle>
 }
 
 // A cell that is fixed in its column.
-fn column_land(turn: Turn, columns: Lines, tracks: u32) -> Option<Rectangle>
-    requires { IsReady turn × (turning turn ≡ record { column = Fixed columns.start columns.end; row = Free tracks }) }
+fn column_land(turn: Turn, columns: LinePair, tracks: u32) -> Option<Rectangle>
+    requires { IsReady turn × (item_at turn ≡ record { column = Fixed columns.start columns.end; row = Free tracks }) }
     ensures { Lands turn.entry result }
 {
     let cursor = cursor_place(turn);
@@ -148,7 +148,7 @@ fn column_land(turn: Turn, columns: Lines, tracks: u32) -> Option<Rectangle>
 
 // A cell that is free in both axes.
 fn free_land(turn: Turn, size: Size) -> Option<Rectangle>
-    requires { IsReady turn × (turning turn ≡ record { column = Free size.columns; row = Free size.rows }) }
+    requires { IsReady turn × (item_at turn ≡ record { column = Free size.columns; row = Free size.rows }) }
     ensures { Lands turn.entry result }
 {
     let cursor = cursor_place(turn);
@@ -156,15 +156,15 @@ fn free_land(turn: Turn, size: Size) -> Option<Rectangle>
 }
 
 // A cell whose row is fixed.
-fn fixed_row(turn: Turn, column: Side, rows: Lines) -> Option<Rectangle>
-    requires { IsReady turn × (turning turn ≡ record { column = column; row = Fixed rows.start rows.end }) }
+fn fixed_row(turn: Turn, column: Side, rows: LinePair) -> Option<Rectangle>
+    requires { IsReady turn × (item_at turn ≡ record { column = column; row = Fixed rows.start rows.end }) }
     ensures { Lands turn.entry result }
 {
     match column {
         Side::Outside => None,
         Side::Free(tracks) => row_land(turn, tracks, rows),
         Side::Fixed(start, end) => {
-            let columns = Lines { start, end };
+            let columns = LinePair { start, end };
             fixed_land(turn.cells.last, columns, rows)
         }
     }
@@ -172,7 +172,7 @@ fn fixed_row(turn: Turn, column: Side, rows: Lines) -> Option<Rectangle>
 
 // A cell whose row is free.
 fn free_row(turn: Turn, column: Side, tracks: u32) -> Option<Rectangle>
-    requires { IsReady turn × (turning turn ≡ record { column = column; row = Free tracks }) }
+    requires { IsReady turn × (item_at turn ≡ record { column = column; row = Free tracks }) }
     ensures { Lands turn.entry result }
 {
     match column {
@@ -185,7 +185,7 @@ fn free_row(turn: Turn, column: Side, tracks: u32) -> Option<Rectangle>
             free_land(turn, size)
         }
         Side::Fixed(start, end) => {
-            let columns = Lines { start, end };
+            let columns = LinePair { start, end };
             column_land(turn, columns, tracks)
         }
     }
@@ -202,7 +202,7 @@ pub(crate) fn land_of(turn: Turn) -> Option<Rectangle>
         Side::Outside => None,
         Side::Free(tracks) => free_row(turn, column, tracks),
         Side::Fixed(start, end) => {
-            let rows = Lines { start, end };
+            let rows = LinePair { start, end };
             fixed_row(turn, column, rows)
         }
     }

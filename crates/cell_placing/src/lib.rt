@@ -34,12 +34,11 @@ pub struct Item {
     pub row: Side,
 }
 
-// The cells of a call: the last column line, the words of their sides, how many there are, and how they are packed.
+// The cells of a call: the last column line, the words of their sides, and how they are packed.
 #[derive(Clone, Copy)]
 pub(crate) struct Cells<'a> {
     pub last: u16,
-    pub items: &'a [u64; MOST_PLACED],
-    pub count: u32,
+    pub items: &'a [u64],
     pub packing: Packing,
 }
 

@@ -11,8 +11,8 @@ use crate::{Cells, Group, MOST_PLACED, Packing, Turn};
 
 // Places cell i in the pass of a group, where it is one of that; whether it isn't stuck.
 fn place_one(cells: Cells, group: Group, i: u32, placed: &mut [u64]) -> bool
-    requires { (i < cells.count) × Going cells.packing cells.last cells.count cells.items.now placed.old (group_number group * 256 + i) }
-    ensures { Turned cells.entry.packing cells.entry.last cells.entry.count cells.entry.items.now placed.new i (group_number group * 256 + i) result }
+    requires { (i < length cells.items.now) × Going cells.packing cells.last (length cells.items.now) cells.items.now placed.old (group_number group * 256 + i) }
+    ensures { Turned cells.entry.packing cells.entry.last (length cells.entry.items.now) cells.entry.items.now placed.new i (group_number group * 256 + i) result }
 {
     if group_of(cells.items[i as usize]) != group {
         return true;
@@ -31,10 +31,10 @@ fn place_one(cells: Cells, group: Group, i: u32, placed: &mut [u64]) -> bool
 
 // The pass of a group, refused by the first cell that is stuck.
 fn place_group(cells: Cells, group: Group, placed: &mut [u64]) -> Result<(), u32>
-    requires { Going cells.packing cells.last cells.count cells.items.now placed.old (group_number group * 256) }
-    ensures { Passed cells.entry.packing cells.entry.last cells.entry.count cells.entry.items.now placed.new (group_number group * 256 + 256) result }
+    requires { Going cells.packing cells.last (length cells.items.now) cells.items.now placed.old (group_number group * 256) }
+    ensures { Passed cells.entry.packing cells.entry.last (length cells.entry.items.now) cells.entry.items.now placed.new (group_number group * 256 + 256) result }
 {
-    for i in 0..cells.count {
+    for i in 0..cells.items.len() as u32 {
         if !place_one(cells, group, i, placed) {
             return Err(i);
         }
@@ -50,25 +50,24 @@ fn write_lands(placed: &[u64], lands: &mut [u64; MOST_PLACED])
     lands[..placed.len()].copy_from_slice(placed);
 }
 
-// Places the cells, beside the last column line. The lent words take where each lands, in sheet order; where one is stuck they stay, and
-// the first of these in placing order is answered.
+// Places the cells, 256 of them at most, beside the last column line. The lent words take where each lands, in sheet order; where one is
+// stuck they stay, and the first of these in placing order is answered.
 pub fn place_items(
     last: u16,
-    items: &[u64; MOST_PLACED],
-    count: u32,
+    items: &[u64],
     packing: Packing,
     lands: &mut [u64; MOST_PLACED],
 ) -> Result<(), u32>
-    ensures { Answers packing last (min count 256) (item_in items.now) lands.old lands.new result }
+    ensures { Answers packing last (min (length items.now) 256) (item_in items.now) lands.old lands.new result }
 {
+    let held = &items[..items.len().min(MOST_PLACED)];
     let cells = Cells {
         last,
-        items,
-        count: count.min(MOST_PLACED as u32),
+        items: held,
         packing,
     };
     let mut room: [u64; MOST_PLACED] = [0; MOST_PLACED];
-    let placed = &mut room[..cells.count as usize];
+    let placed = &mut room[..held.len()];
     place_group(cells, Group::FixedInBoth, placed)?;
     place_group(cells, Group::FixedInRow, placed)?;
     place_group(cells, Group::Rest, placed)?;

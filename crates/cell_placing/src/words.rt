@@ -4,14 +4,15 @@ ghost use Rattle.cell_placing.specs.Items.{side_of, item_of, side_lines, item_wo
 
 use crate::{Group, Item};
 use cell_sides::Side;
+use coordinates::LinePair;
+use free_cells::Rectangle;
 use free_cells::word::lines_of;
-use free_cells::{Lines, Rectangle};
 
 // The start that says "outside".
 const OUTSIDE: u32 = 65535;
 
 // A side from two lines. Any two give one.
-fn side_of(lines: Lines) -> Side
+fn side_of(lines: LinePair) -> Side
     ensures { result ≡ side_of lines }
 {
     match lines.start {
@@ -36,19 +37,19 @@ impl From<u64> for Item {
 }
 
 // The two lines that say a side.
-fn side_lines(side: Side) -> Lines
+fn side_lines(side: Side) -> LinePair
     ensures { result ≡ side_lines side }
 {
     match side {
-        Side::Outside => Lines {
+        Side::Outside => LinePair {
             start: OUTSIDE,
             end: 0,
         },
-        Side::Free(tracks) => Lines {
+        Side::Free(tracks) => LinePair {
             start: 0,
             end: tracks,
         },
-        Side::Fixed(start, end) => Lines { start, end },
+        Side::Fixed(start, end) => LinePair { start, end },
     }
 }
 

@@ -2,3 +2,4 @@
 pub mod Integers
 pub mod Lines
 pub mod Conversions
+pub mod Faults

@@ -1,11 +1,10 @@
 -- What the calls of layer 1 answer: a refusal with zeros beside it, or the line or count.
 use Rattle.std.specs.Prelude.{ℕ, zero, suc, ◌+◌, ◌-◌, Bool, true, false, cond, ltb, ℤ, pos, negsuc, Result, Ok, Err}
-use Rattle.coordinates.specs.Refusals.{no_refusal, refusal_of, number_of, count, zero_line}
+use Rattle.coordinates.specs.Refusals.{Refusal, no_refusal, refusal_of, number_of, count, zero_line}
 use Rattle.coordinates.specs.Lines.{held, outside, uncut, to_grid_line}
 use Rattle.coordinates.specs.declared.line.OriginZeroLine.{OriginZeroLine}
 use Rattle.coordinates.specs.declared.line.GridLine.{GridLine}
 use Rattle.coordinates.specs.declared.line.MarkedLine.{MarkedLine}
-use Rattle.coordinates.specs.declared.refusal.Refusal.{Refusal}
 use Rattle.coordinates.specs.declared.refusal.Fault.{Fault}
 
 -- ---- answers in this paper's numbers and values: a refusal, and beside it zeros

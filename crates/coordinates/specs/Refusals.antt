@@ -1,8 +1,12 @@
 -- Document 01, the table of refusals: a fault is answered by its number and place.
 use Rattle.std.specs.Prelude.{ℕ, Option, Some, None, Result, Ok, Err}
-use Rattle.coordinates.specs.declared.refusal.Refusal.{Refusal}
 use Rattle.coordinates.specs.declared.refusal.Fault.{Fault}
 use Rattle.coordinates.specs.declared.refusal.Fault.TheVariants.{Unread, Name, Value, Count, Area, Twice, Late, Crowded, ZeroLine, Short, Indefinite, Overlap, Unequal, Broken, Unplaced}
+
+-- a refusal: its number, 0 where nothing is refused, and its place, the sheet's line
+pub record Refusal : Type 0 where
+  pub number : ℕ
+  pub line : ℕ
 
 -- nothing is refused: both numbers are zero
 abbrev pub no_refusal : Refusal

@@ -9,5 +9,5 @@ pub mod refusal;
 pub mod signed;
 
 pub use axis::Axis;
-pub use line::{GridLine, MarkedLine, OriginZeroLine};
-pub use refusal::{Fault, Refusal};
+pub use line::{GridLine, LinePair, MarkedLine, OriginZeroLine};
+pub use refusal::Fault;

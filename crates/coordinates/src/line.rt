@@ -19,6 +19,13 @@ pub struct GridLine(pub i16);
 #[derive(Clone, Copy, Debug, PartialEq, Eq)]
 pub struct OriginZeroLine(pub i16);
 
+// Two lines of an axis: the tracks between them.
+#[derive(Clone, Copy, Debug, PartialEq, Eq)]
+pub struct LinePair {
+    pub start: u32,
+    pub end: u32,
+}
+
 // An origin-zero line, and its mark: whether it was held at an end.
 #[derive(Clone, Copy, Debug, PartialEq, Eq)]
 pub struct MarkedLine {

@@ -1,6 +1,6 @@
 // The refusals of document 01's table, and those that document 02 adds, by number.
 ghost use Rattle.std.specs.Prelude.{◌≡◌};
-ghost use Rattle.coordinates.specs.Refusals.{no_refusal, refusal_of, number_of};
+ghost use Rattle.coordinates.specs.Refusals.{number_of};
 
 // unread: a sheet too long, or a line of no form
 pub const UNREAD: u32 = 1;
@@ -76,25 +76,4 @@ impl From<Fault> for u32 {
             Fault::Unplaced => UNPLACED,
         }
     }
-}
-
-// A refusal: its number, 0 where nothing is refused, and its place, the sheet's line, 0 for a call without a sheet.
-#[derive(Clone, Copy)]
-pub struct Refusal {
-    pub number: u32,
-    pub line: u32,
-}
-
-// Nothing is refused.
-pub fn no_refusal() -> Refusal
-    ensures { result ≡ no_refusal }
-{
-    Refusal { number: 0, line: 0 }
-}
-
-// The refusal of a call without a sheet.
-pub fn refusal_of(number: u32) -> Refusal
-    ensures { result ≡ refusal_of number }
-{
-    Refusal { number, line: 0 }
 }

@@ -3,14 +3,14 @@ ghost use Rattle.std.specs.Prelude.{◌≡◌, ◌<◌, pos, ◌+ℤ◌, ◌-ℤ
 ghost use Rattle.coordinates.specs.Signed.{HeldAs, integer_of, sixteen_bits, Split};
 
 // `NonNegative(n)` is n, and `Negative(k)` is -(k + 1).
-#[derive(Clone, Copy)]
+#[derive(Clone, Copy, Debug, PartialEq, Eq)]
 pub enum Signed {
     NonNegative(u32),
     Negative(u32),
 }
 
 // A line that is held within -10,000..10,000, and its mark: whether it lay outside.
-#[derive(Clone, Copy)]
+#[derive(Clone, Copy, Debug, PartialEq, Eq)]
 pub struct HeldLine {
     pub line: Signed,
     pub held: bool,

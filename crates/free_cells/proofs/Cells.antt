@@ -2,7 +2,7 @@
 use mathlib.Core.Path.{◌≡◌, refl, sym, ◌∙◌}
 use mathlib.Core.Bool.{Bool, true, false, cond, ◌&&◌, false≢true}
 use mathlib.Core.List.{List}
-use Prim.Native.Nat.{ℕ, ◌+◌, ◌≤◌, ◌<◌, max}
+use Prim.Native.Nat.{ℕ, ◌+◌, ◌≤◌, ◌<◌}
 use native.Mathlib.Omega.{arith}
 use native.Mathlib.Nat.{mod-lt}
 use Rattle.std.specs.Prelude.{Option, Some, None, length}
@@ -10,15 +10,15 @@ use Rattle.std.specs.List.{position, position_or_len}
 use Rattle.std.proofs.lemmas.List.Quantifiers.{position-Some}
 use Rattle.std.proofs.lemmas.List.Sums.{fails_before_first}
 use Rattle.std.proofs.lemmas.Option.{none-some}
-use lib.Dec.{leb, ltb}
-use borrow.Author.Tests.{ltb-true, ltb-false, lt-ltb, leb-true, leb-false}
+use lib.Dec.{ltb}
+use borrow.Author.Tests.{ltb-true, ltb-false, lt-ltb}
 use Rattle.coordinates.specs.declared.axis.Axis.{Axis}
 use Rattle.coordinates.specs.declared.axis.Axis.TheVariants.{Column, Row}
-use Rattle.free_cells.specs.declared.Lines.{Lines}
+use Rattle.coordinates.specs.declared.line.LinePair.{LinePair}
 use Rattle.free_cells.specs.declared.Rectangle.{Rectangle}
 use Rattle.free_cells.specs.Words.{lines_of, lines_word, rectangle_of, rectangle_in}
-use Rattle.free_cells.specs.Free.{Overlap, tracks_from, along, Clear, FirstInWay, InWay, FreeLine, FirstOr0, first, nowhere}
-use Rattle.free_cells.specs.Steps.{overlaps, end_along, NextEnd, nearer_end}
+use Rattle.free_cells.specs.Free.{Overlap, tracks_from, along, Clear, FirstInWay, InWay, FreeLine, FirstOr0, nowhere}
+use Rattle.free_cells.specs.Steps.{overlaps, end_along}
 
 -- ---- the test
 
@@ -80,41 +80,15 @@ pub record Nearest (words : List ℕ) (row i nearest : ℕ) : Type 0 where
   pub past : row < nearest
   pub least : (j : ℕ) → j < i → row < (rectangle_in words j).rows.end → nearest ≤ (rectangle_in words j).rows.end
 
-pub nearest_begins : (words : List ℕ) (row : ℕ) → row < 65536 → Nearest words row 0 65536
-nearest_begins words row h = record { past = h; least = λ j w e. omega arith }
-
-nearest_by_lem : (words : List ℕ) (row i nearest next end : ℕ) → (rectangle_in words i).rows.end ≡ end → Nearest words row i nearest → next ≡ nearer_end row end nearest
-    → Nearest words row (i + 1) next
-nearest_by_lem words row i nearest next end is n q = go (leb end row) (ltb end nearest) refl refl q
-  where
-    all : (m : ℕ) → m ≤ nearest → (row < end → m ≤ end) → (j : ℕ) → j < i + 1 → row < (rectangle_in words j).rows.end → m ≤ (rectangle_in words j).rows.end
-    all m h g j w e = pick (ltb j i) refl
-      where
-        pick : (t : Bool) → ltb j i ≡ t → m ≤ (rectangle_in words j).rows.end
-        pick true p = omega (arith, n.least j (ltb-true j i p) e)
-        pick false p = let z : j ≡ i = omega (arith, ltb-false j i p) in rw (z, is) (g (rw (z, is) at e))
-
-    go : (t u : Bool) → leb end row ≡ t → ltb end nearest ≡ u → next ≡ cond t nearest (cond u end nearest) → Nearest words row (i + 1) next
-    go true u p r e = rw e (record { past = n.past; least = all nearest (omega arith) (λ h. absurd (omega (arith, leb-true end row p))) })
-    go false true p r e = rw e (record { past = leb-false end row p; least = all end (omega (arith, ltb-true end nearest r)) (λ h. omega arith) })
-    go false false p r e = rw e (record { past = n.past; least = all nearest (omega arith) (λ h. ltb-false end nearest r) })
-
-pub nearest_more : (words : List ℕ) (row i nearest next : ℕ) → Nearest words row i nearest → next ≡ nearer_end row (rectangle_in words i).rows.end nearest
-    → Nearest words row (i + 1) next
-nearest_more words row i nearest next n q = nearest_by_lem words row i nearest next (rectangle_in words i).rows.end refl n q
-
-pub nearest_done : (words : List ℕ) (count row i nearest : ℕ) → Nearest words row i nearest → count ≤ i → NextEnd words count row nearest
-nearest_done words count row i nearest n h = record { past = n.past; least = λ j w e. n.least j (omega arith) e }
-
 -- two lines take 32 bits
-pub lines-small : (l : Lines) (w : ℕ) → w ≡ lines_word l → w < 4294967296
+pub lines-small : (l : LinePair) (w : ℕ) → w ≡ lines_word l → w < 4294967296
 unfolding lines_word
 lines-small l w e = omega (arith, mod-lt l.start {m = 65536} (omega arith), mod-lt l.end {m = 65536} (omega arith))
 
 -- ---- along an axis
 
 -- what is in the way at a line is in the way up to its end
-pub way_on : (axis : Axis) (p : Rectangle) (a b tracks : ℕ) (across : Lines) → Overlap p (along axis (tracks_from a tracks) across) → a ≤ b → b < end_along axis p
+pub way_on : (axis : Axis) (p : Rectangle) (a b tracks : ℕ) (across : LinePair) → Overlap p (along axis (tracks_from a tracks) across) → a ≤ b → b < end_along axis p
     → Overlap p (along axis (tracks_from b tracks) across)
 way_on Column p a b tracks across o h w =
     record { columns = record { before = omega (arith, o.columns.before); after = w }; rows = o.rows }
@@ -122,19 +96,16 @@ way_on Row p a b tracks across o h w =
     record { columns = o.columns; rows = record { before = omega (arith, o.rows.before); after = w } }
 
 -- and its end lies past the line
-pub way-past : (axis : Axis) (p : Rectangle) (a tracks : ℕ) (across : Lines) → Overlap p (along axis (tracks_from a tracks) across) → a < end_along axis p
+pub way-past : (axis : Axis) (p : Rectangle) (a tracks : ℕ) (across : LinePair) → Overlap p (along axis (tracks_from a tracks) across) → a < end_along axis p
 way-past Column p a tracks across o = o.columns.after
 way-past Row p a tracks across o = o.rows.after
 
-module _ (words : List ℕ) (count : ℕ) (axis : Axis) (last from tracks : ℕ) (across : Lines) where
+module _ (words : List ℕ) (count : ℕ) (axis : Axis) (last from tracks : ℕ) (across : LinePair) where
   abbrev pub Here : ℕ → Type 0
   Here = FreeLine words count axis last from tracks across
 
   abbrev pub NoneBefore : ℕ → Type 0
   NoneBefore at = (m : ℕ) → m < at → Here m → ⊥
-
-  pub line-begins : (at : ℕ) → at ≡ max from 1 → NoneBefore at
-  line-begins at e m w h = omega (arith, h.reached, h.first)
 
   -- the jump to the end of what is in the way
   pub line-jumps : (at i : ℕ) → NoneBefore at → FirstInWay words count (along axis (tracks_from at tracks) across) i
@@ -147,9 +118,6 @@ module _ (words : List ℕ) (count : ℕ) (axis : Axis) (last from tracks : ℕ)
 
   pub line-grows : (at i : ℕ) → FirstInWay words count (along axis (tracks_from at tracks) across) i → at < end_along axis (rectangle_in words i)
   line-grows at i f = way-past axis (rectangle_in words i) at tracks across f.here
-
-  pub line-found : (at : ℕ) → NoneBefore at → 1 ≤ at → from ≤ at → at + tracks ≤ last → Clear words count (along axis (tracks_from at tracks) across) → FirstOr0 Here at
-  line-found at none f g l clear = first (record { first = f; reached = g; inside = l; clear = clear }) none
 
   pub line-nowhere : (at : ℕ) → NoneBefore at → last < at + tracks → FirstOr0 Here 0
   line-nowhere at none h = nowhere refl (λ m free. go m free (ltb m at) refl)

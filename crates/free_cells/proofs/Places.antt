@@ -65,18 +65,11 @@ module _ (words : List ℕ) (count last : ℕ) (size : Size) where
   row_first from (Some c) h w f = (f.0, in_row from c h w f.1)
   row_first from None h w f = in_row from 0 h w f
 
-  -- a row outside has no place
-  pub outside-row : (from : Place) → ((c : ℕ) → InRow words count last size from c → ⊥) → FirstOr0 (InRow words count last size from) 0
-  outside-row from none = nowhere refl none
-
   -- ---- past a row
 
   -- none in rows before this one, of those past a row
   abbrev pub NoneAbove : ℕ → ℕ → Type 0
   NoneAbove row at = (q : Place) → Below words count last size row q → q.row < at → ⊥
-
-  pub above-begins : (row : ℕ) → NoneAbove row (row + 1)
-  above-begins row q f h = omega (arith, rows_on (record { row = row + 1; column = 0 }) q f.reached)
 
   -- a column found in the row
   pub below-found : (row at c : ℕ) → row + 1 ≤ at → NoneAbove row at → FirstOr0 (InRow words count last size (record { row = at; column = 1 })) c → (c ≡ 0 → ⊥)

@@ -3,12 +3,12 @@ use mathlib.Core.Path.{◌≡◌}
 use Prim.Native.Nat.{ℕ, ◌+◌, ◌*◌, ◌/◌, ◌%◌, ◌<◌}
 use native.Mathlib.Omega.{arith}
 use native.Mathlib.Nat.{mod-lt}
-use Rattle.free_cells.specs.declared.Lines.{Lines}
+use Rattle.coordinates.specs.declared.line.LinePair.{LinePair}
 use Rattle.free_cells.specs.declared.Rectangle.{Rectangle}
 use Rattle.free_cells.specs.Words.{lines_of, lines_word, rectangle_of, rectangle_word}
 
 -- lines of 16 bits
-pub record Small (l : Lines) : Type 0 where
+pub record Small (l : LinePair) : Type 0 where
   pub start : l.start < 65536
   pub end : l.end < 65536
 

@@ -3,7 +3,7 @@
 use Rattle.std.specs.Prelude.{ℕ, ◌+◌, ◌≤◌, ◌<◌, ◌≡◌, List, ◌⊎◌, Option, Some, None}
 use Rattle.coordinates.specs.declared.axis.Axis.{Axis}
 use Rattle.coordinates.specs.declared.axis.Axis.TheVariants.{Column, Row}
-use Rattle.free_cells.specs.declared.Lines.{Lines}
+use Rattle.coordinates.specs.declared.line.LinePair.{LinePair}
 use Rattle.free_cells.specs.declared.Rectangle.{Rectangle}
 use Rattle.free_cells.specs.declared.Size.{Size}
 use Rattle.free_cells.specs.declared.Place.{Place}
@@ -12,7 +12,7 @@ use Rattle.free_cells.specs.Words.{rectangle_in}
 -- ---- cells
 
 -- two pairs of lines have a track in common: each starts before the other ends
-pub record Meet (a b : Lines) : Type 0 where
+pub record Meet (a b : LinePair) : Type 0 where
   pub before : a.start < b.end
   pub after : b.start < a.end
 
@@ -29,11 +29,11 @@ pub record Covers (r : Rectangle) (column row : ℕ) : Type 0 where
   pub bottom : row < r.rows.end
 
 -- so many tracks from a line on
-abbrev pub tracks_from : ℕ → ℕ → Lines
+abbrev pub tracks_from : ℕ → ℕ → LinePair
 tracks_from line tracks = record { start = line; end = line + tracks }
 
 -- a rectangle by its lines along an axis and across it
-abbrev pub along : Axis → Lines → Lines → Rectangle
+abbrev pub along : Axis → LinePair → LinePair → Rectangle
 along Column l a = record { columns = l; rows = a }
 along Row l a = record { columns = a; rows = l }
 
@@ -59,7 +59,7 @@ InWay words count r None = Clear words count r
 -- ---- the first line along an axis at which so many tracks are free
 
 -- tracks across, from a line on: it is at or after a line, and the last line is not passed
-pub record FreeLine (words : List ℕ) (count : ℕ) (axis : Axis) (last from tracks : ℕ) (across : Lines) (line : ℕ) : Type 0 where
+pub record FreeLine (words : List ℕ) (count : ℕ) (axis : Axis) (last from tracks : ℕ) (across : LinePair) (line : ℕ) : Type 0 where
   pub first : 1 ≤ line
   pub reached : from ≤ line
   pub inside : line + tracks ≤ last

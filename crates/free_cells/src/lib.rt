@@ -7,18 +7,13 @@ pub mod search;
 pub mod way;
 pub mod word;
 
-// Two lines of an axis, from 1: the tracks between them.
-#[derive(Clone, Copy, Debug, PartialEq, Eq)]
-pub struct Lines {
-    pub start: u32,
-    pub end: u32,
-}
+use coordinates::LinePair;
 
-// A rectangle of cells.
+// A rectangle of cells, by its lines from 1.
 #[derive(Clone, Copy, Debug, PartialEq, Eq)]
 pub struct Rectangle {
-    pub columns: Lines,
-    pub rows: Lines,
+    pub columns: LinePair,
+    pub rows: LinePair,
 }
 
 // A size in tracks.

@@ -1,17 +1,17 @@
 // The first place that is free.
-ghost use Rattle.std.specs.Prelude.{◌≡◌, length};
-ghost use Rattle.free_cells.specs.Free.{along, First, FreeLine, Earliest, FreePlace};
+ghost use Rattle.std.specs.Prelude.{◌≡◌, ◌+◌, ◌<◌, length};
+ghost use Rattle.free_cells.specs.Free.{along, tracks_from, First, FreeLine, Earliest, FreePlace};
 ghost use Rattle.free_cells.specs.Steps.{end_along, InRow, Below};
 
 use crate::way::{in_way, next_end};
-use crate::{Lines, Place, Rectangle, Size};
-use coordinates::Axis;
+use crate::{Place, Rectangle, Size};
+use coordinates::{Axis, LinePair};
 
 // Rows are lines 1 to this.
 pub const LAST_ROW_LINE: u32 = 10001;
 
 // A rectangle by its lines along an axis and across it.
-pub fn along(axis: Axis, lines: Lines, across: Lines) -> Rectangle
+pub fn along(axis: Axis, lines: LinePair, across: LinePair) -> Rectangle
     ensures { result ≡ along axis lines across }
 {
     match axis {
@@ -23,6 +23,17 @@ pub fn along(axis: Axis, lines: Lines, across: Lines) -> Rectangle
             columns: across,
             rows: lines,
         },
+    }
+}
+
+// So many tracks from a line on.
+fn tracks_from(line: u32, tracks: u32) -> LinePair
+    requires { line + tracks < 4294967296 }
+    ensures { result ≡ tracks_from line tracks }
+{
+    LinePair {
+        start: line,
+        end: line + tracks,
     }
 }
 
@@ -44,7 +55,7 @@ pub fn free_line(
     last: u32,
     from: u32,
     tracks: u32,
-    across: Lines,
+    across: LinePair,
 ) -> Option<u32>
     ensures { First (FreeLine words.now (length words.now) axis last from tracks across) result }
 {
@@ -54,10 +65,7 @@ pub fn free_line(
     let most = last - tracks;
     let mut at = from.max(1);
     while at <= most {
-        let lines = Lines {
-            start: at,
-            end: at + tracks,
-        };
+        let lines = tracks_from(at, tracks);
         let Some(placed) = in_way(words, along(axis, lines, across)) else {
             return Some(at);
         };
@@ -74,10 +82,7 @@ fn column_in_row(words: &[u64], last: u32, size: Size, from: Place) -> Option<u3
     if row == 0 || LAST_ROW_LINE < row || LAST_ROW_LINE - row < size.rows {
         return None;
     }
-    let across = Lines {
-        start: row,
-        end: row + size.rows,
-    };
+    let across = tracks_from(row, size.rows);
     free_line(words, Axis::Column, last, from.column, size.columns, across)
 }
 

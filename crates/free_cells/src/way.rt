@@ -4,13 +4,14 @@ ghost use Rattle.free_cells.specs.Words.{rectangle_of};
 ghost use Rattle.free_cells.specs.Free.{InWay};
 ghost use Rattle.free_cells.specs.Steps.{overlaps, nearer_end, NextEnd};
 
-use crate::{Lines, Rectangle};
+use crate::Rectangle;
+use coordinates::LinePair;
 
 // More than any line of a rectangle.
 const NO_END: u32 = 65536;
 
 // Whether two pairs of lines have a track in common: each starts before the other ends.
-fn meet(a: Lines, b: Lines) -> bool
+fn meet(a: LinePair, b: LinePair) -> bool
     ensures { result ≡ (ltb a.start b.end && ltb b.start a.end) }
 {
     (a.start < b.end) & (b.start < a.end)

@@ -2,14 +2,15 @@
 ghost use Rattle.std.specs.Prelude.{◌≡◌, ◌/◌, ◌%◌};
 ghost use Rattle.free_cells.specs.Words.{lines_of, rectangle_of, lines_word, rectangle_word};
 
-use crate::{Lines, Rectangle};
+use crate::Rectangle;
+use coordinates::LinePair;
 
 // Two lines from the lower 32 bits of a word. Any word gives some.
 #[tactic(auto, unfolding(crate::specs::Words::lines_of))]
-pub fn lines_of(word: u64) -> Lines
+pub fn lines_of(word: u64) -> LinePair
     ensures { result ≡ lines_of word }
 {
-    Lines {
+    LinePair {
         start: (word % 0x1_0000) as u32,
         end: (word / 0x1_0000 % 0x1_0000) as u32,
     }
@@ -30,7 +31,7 @@ impl From<u64> for Rectangle {
 
 // Two lines in 32 bits.
 #[tactic(auto, unfolding(crate::specs::Words::lines_word))]
-pub fn lines_word(lines: Lines) -> u64
+pub fn lines_word(lines: LinePair) -> u64
     ensures { result ≡ lines_word lines }
 {
     lines.start as u64 % 0x1_0000 + lines.end as u64 % 0x1_0000 * 0x1_0000

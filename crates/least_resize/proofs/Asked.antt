@@ -10,6 +10,7 @@ use borrow.Author.Tests.{le-leb, leb-true, eq-eqb, eqb-true, eqb-false, ne_eqb}
 use lib.Dec.{eqb, leb}
 use lib.ListN.{length}
 use lib.Ieee.{Float}
+use Rattle.sizing.specs.Definite.{length_alone}
 use Rattle.sizing.specs.Words.{zero32, float_up_to, largest_bits}
 use Rattle.sizing.specs.declared.Sizing.{Sizing}
 use Rattle.sizing.specs.declared.Sizing.TheVariants as Size
@@ -28,7 +29,7 @@ use Rattle.template_rules.proofs.Tests.{and_parts}
 use Rattle.explicit_size.specs.Repeat.{gathered_of, asks_of, repeats_automatically, repetitions_in}
 use Rattle.least_resize.specs.Search.{repetitions_at, least_resize}
 use Rattle.least_resize.specs.Whole.{IsPixels, whole_size_of}
-use Rattle.least_resize.specs.Answer.{size_now, length_of, refused_resize, resize_by, resize_answer, definite_number, bits_of_inner, inner_by}
+use Rattle.least_resize.specs.Answer.{size_now, refused_resize, resize_by, resize_answer, definite_number, bits_of_inner, inner_by}
 use Rattle.least_resize.specs.Asked.{Asked, ResizeAnswered, resize_found, resize_refused}
 use Rattle.least_resize.proofs.Least.{search-least}
 use Rattle.least_resize.proofs.Pixels.{whole_exactly}
@@ -59,7 +60,7 @@ asks_repeat cs e = go (leb (length cs) 64) refl e
     go false h f = absurd (true≢false (sym f))
 
 -- ---- the gap
-length-only : (gap : Sizing) (v : Float) → length_of gap ≡ Some v → gap ≡ Size.Length v
+length-only : (gap : Sizing) (v : Float) → length_alone gap ≡ Some v → gap ≡ Size.Length v
 length-only (Size.Length w) v e = cc
 length-only (Size.Percent p) v e = cc
 length-only (Size.Fraction w) v e = cc
@@ -87,7 +88,7 @@ size-some definite inner n h p = rw (ne_eqb definite 0 h) ((whole_exactly inner 
 pub inner-by : (definite inner : ℕ) (strategy : AutoRepeatStrategy) (gap : Sizing) (cs : List Component) (r : Option ℕ) → r ≡ inner_by definite inner
     → resize_answer (definite_number r) (bits_of_inner r) strategy gap cs ≡ resize_answer definite inner strategy gap cs
 unfolding resize_answer
-inner-by definite inner strategy gap cs r e = ap (λ (s : Option ℕ). cond (repeats_automatically cs) (resize_by strategy (length_of gap) s cs) refused_resize) (go (eqb definite 0) refl)
+inner-by definite inner strategy gap cs r e = ap (λ (s : Option ℕ). cond (repeats_automatically cs) (resize_by strategy (length_alone gap) s cs) refused_resize) (go (eqb definite 0) refl)
   where
     go : (t : Bool) → eqb definite 0 ≡ t → size_now (definite_number r) (bits_of_inner r) ≡ size_now definite inner
     go true h = rw (e, h)
@@ -98,10 +99,10 @@ module _ (definite inner : ℕ) (strategy : AutoRepeatStrategy) (gap : Sizing) (
   asked-repeats : (size : ℕ) (between : Float) → Asked definite inner gap cs size between → repeats_automatically cs ≡ true
   asked-repeats size between a = let c = a.repeat in repeat_asks cs a.valid a.few (in_count cs c.0 c.1 c.2)
 
-  answered-by : (b : Bool) → repeats_automatically cs ≡ b → (l : Option Float) → length_of gap ≡ l → (s : Option ℕ) → size_now definite inner ≡ s
+  answered-by : (b : Bool) → repeats_automatically cs ≡ b → (l : Option Float) → length_alone gap ≡ l → (s : Option ℕ) → size_now definite inner ≡ s
       → ResizeAnswered definite inner strategy gap cs (cond b (resize_by strategy l s cs) refused_resize)
   answered-by false e l f s g = resize_refused (λ size between a. true≢false (sym (asked-repeats size between a) ∙ e))
-  answered-by true e None f s g = resize_refused (λ size between a. other (sym (ap length_of a.apart) ∙ f))
+  answered-by true e None f s g = resize_refused (λ size between a. other (sym (ap length_alone a.apart) ∙ f))
     where
       other : {v : Float} → Some v ≡ None → ⊥
       other e = let z : ◌≡◌ {A = ℕ} 0 1 = cc in omega arith
@@ -121,7 +122,7 @@ module _ (definite inner : ℕ) (strategy : AutoRepeatStrategy) (gap : Sizing) (
 
   pub resize-answered : ResizeAnswered definite inner strategy gap cs (resize_answer definite inner strategy gap cs)
   unfolding resize_answer
-  resize-answered = answered-by (repeats_automatically cs) refl (length_of gap) refl (size_now definite inner) refl
+  resize-answered = answered-by (repeats_automatically cs) refl (length_alone gap) refl (size_now definite inner) refl
 
   -- the count is CSS's at every size
   module _ (size : ℕ) (between : Float) (a : Asked definite inner gap cs size between) (s : ℕ) where

@@ -3,9 +3,9 @@
 use Rattle.std.specs.Prelude.{ℕ, cond, List, eqb, Float, Option, Some, None, Result, Ok, Err}
 use Rattle.coordinates.specs.Refusals.{value, number_of}
 use Rattle.coordinates.specs.declared.refusal.Fault.{Fault}
+use Rattle.sizing.specs.Definite.{length_alone}
 use Rattle.sizing.specs.Words.{float_up_to, largest_bits}
 use Rattle.sizing.specs.declared.Sizing.{Sizing}
-use Rattle.sizing.specs.declared.Sizing.TheVariants as Size
 use Rattle.template_rules.specs.Template.{Component}
 use Rattle.template_rules.specs.declared.AutoRepeatStrategy.{AutoRepeatStrategy}
 use Rattle.explicit_size.specs.Repeat.{repeats_automatically}
@@ -16,17 +16,6 @@ use Rattle.least_resize.specs.Whole.{whole_size_of}
 -- the size now: `definite` is 0 where the axis has no inner size, `inner` its bits
 abbrev pub size_now : ℕ → ℕ → Option ℕ
 size_now definite inner = cond (eqb definite 0) None (whole_size_of (float_up_to largest_bits inner))
-
--- a gap that is a length
-abbrev pub length_of : Sizing → Option Float
-length_of (Size.Length v) = Some v
-length_of (Size.Percent p) = None
-length_of (Size.Fraction v) = None
-length_of Size.Auto = None
-length_of Size.MinContent = None
-length_of Size.MaxContent = None
-length_of (Size.FitContentLength v) = None
-length_of (Size.FitContentPercent p) = None
 
 -- the answer is the size, not the change
 abbrev pub found_resize : Option ℕ → ResizeAnswer
@@ -41,8 +30,9 @@ resize_by strategy (Some gap) (Some size) cs = found_resize (least_resize (repet
 resize_by strategy (Some gap) None cs = refused_resize
 resize_by strategy None size cs = refused_resize
 
+-- the gap has to be a length
 unfoldable pub resize_answer : ℕ → ℕ → AutoRepeatStrategy → Sizing → List Component → ResizeAnswer
-resize_answer definite inner strategy gap cs = cond (repeats_automatically cs) (resize_by strategy (length_of gap) (size_now definite inner) cs) refused_resize
+resize_answer definite inner strategy gap cs = cond (repeats_automatically cs) (resize_by strategy (length_alone gap) (size_now definite inner) cs) refused_resize
 
 -- ---- what a call takes and answers, in these numbers
 

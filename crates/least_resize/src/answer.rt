@@ -1,6 +1,6 @@
 // The answer for an axis: its least resize, or the refusal of an axis that has none to ask for.
 ghost use Rattle.std.specs.Prelude.{◌≡◌};
-ghost use Rattle.least_resize.specs.Answer.{size_now, length_of, resize_answer, definite_number, bits_of_inner, answered_resize};
+ghost use Rattle.least_resize.specs.Answer.{size_now, resize_answer, definite_number, bits_of_inner, answered_resize};
 ghost use Rattle.template_rules.specs.Template.{components_of};
 
 use crate::ResizeAnswer;
@@ -9,6 +9,7 @@ use crate::whole::whole_size;
 use coordinates::Fault;
 use explicit_size::repeat::repeats_automatically;
 use sizing::Sizing;
+use sizing::definite::length_alone;
 use template_rules::{AutoRepeatStrategy, Template};
 
 // The size now, where the axis has an inner size and it is whole.
@@ -16,16 +17,6 @@ fn size_now(inner: Option<u32>) -> Option<u16>
     ensures { result ≡ size_now (definite_number inner) (bits_of_inner inner) }
 {
     whole_size(inner?)
-}
-
-// The length of a gap, where it is one.
-fn length_of_gap(gap: Sizing) -> Option<f32>
-    ensures { result ≡ length_of gap }
-{
-    match gap {
-        Sizing::Length(length) => Some(length),
-        _ => None,
-    }
 }
 
 impl From<Result<Option<u32>, Fault>> for ResizeAnswer {
@@ -67,7 +58,7 @@ pub fn resize_answer(
     if !repeats_automatically(template) {
         return Err(Fault::Value);
     }
-    let Some(length) = length_of_gap(gap) else {
+    let Some(length) = length_alone(gap) else {
         return Err(Fault::Value);
     };
     let Some(size) = size_now(inner) else {

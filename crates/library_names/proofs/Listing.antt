@@ -1,5 +1,5 @@
 -- All line names of an axis in one run: what a run that is not refused needs, and what each leaves. Assumes nothing.
-use Prim.Native.Nat.{ℕ, ◌≤◌, ◌<◌}
+use Prim.Native.Nat.{ℕ, ◌≤◌}
 use mathlib.Core.Path.{◌≡◌, refl, subst}
 use mathlib.Core.Bool.{Bool, true, false, cond}
 use mathlib.Core.List.{List}
@@ -10,14 +10,14 @@ use lib.ListN.{length, drop, length-take, length-drop}
 use Rattle.std.specs.Prelude.{Result, Ok, Err}
 use Rattle.coordinates.specs.Refusals.{number_of, count, short}
 use Rattle.coordinates.specs.declared.refusal.Fault.{Fault}
-use Rattle.track_rules.proofs.Answers.{fault_some}
+use Rattle.coordinates.proofs.Faults.{fault_some}
 use Rattle.name_lists.specs.Lists.{lists, Written}
 use Rattle.name_lists.proofs.Counting.{few-lists}
 use Rattle.coordinates.specs.declared.axis.Axis.{Axis}
 use Rattle.axis_tables.specs.declared.AxisGrid.{AxisGrid}
 use Rattle.panel_tables.specs.Regions.{axis_words_in, first_word}
 use Rattle.panel_rules.specs.Calls.{entry_words_in}
-use Rattle.library_numbers.specs.Answers.{answered_count}
+use Rattle.library_numbers.specs.Answers.{answered_count_numbers}
 use Rattle.library_names.specs.Lists.{lists_refusal, written_lists}
 
 module _ (explicit bytes : ℕ) where
@@ -59,14 +59,14 @@ module _ (s : AxisGrid) (words store : List ℕ) (bytes : ℕ) (lent entries : L
       (u.0, (k, u.1))
 
   -- a refusal is its number, and nothing is written
-  pub lists-refused : (fault : Fault) → number_of fault ≡ lists_refusal s.size.explicit bytes → record { answer = answered_count (Err fault); words = lent } ≡ written_lists s words store bytes lent
+  pub lists-refused : (fault : Fault) → number_of fault ≡ lists_refusal s.size.explicit bytes → record { answer = answered_count_numbers (Err fault); words = lent } ≡ written_lists s words store bytes lent
   unfolding written_lists
   lists-refused fault e = rw (← e, ne_eqb (number_of fault) 0 (fault_some fault))
 
   -- else the answer is how many names are written
   pub lists-written : (r : Result ℕ Fault) (after : List ℕ) → lists_refusal s.size.explicit bytes ≡ 0
       → ((n : ℕ) × (r ≡ Ok n) × Written lent 0 (lists s.size.explicit entries store) after n)
-      → record { answer = answered_count r; words = after } ≡ written_lists s words store bytes lent
+      → record { answer = answered_count_numbers r; words = after } ≡ written_lists s words store bytes lent
   unfolding written_lists
   lists-written r after z (n, e, w) =
       let v : Written lent 0 (lists s.size.explicit (entry_words_in s words) store) after n =

@@ -5,9 +5,10 @@
 ghost use Rattle.std.specs.Prelude.{◌≡◌, ◌≤◌, length};
 ghost use Rattle.panel_tables.specs.Axes.{grid_in};
 ghost use Rattle.panel_tables.specs.Regions.{axis_words_in};
-ghost use Rattle.panel_rules.specs.Calls.{NameTables, name_tables_in, shorter_store, store_in, words_in};
+ghost use Rattle.panel_rules.specs.Calls.{NameTables, shorter_store, store_in, words_in};
+ghost use Rattle.panel_names.specs.Lent.{lent_tables};
 ghost use Rattle.coordinates.specs.Refusals.{refused_by};
-ghost use Rattle.library_numbers.specs.Answers.{answered_count};
+ghost use Rattle.library_numbers.specs.Answers.{answered_count_numbers};
 ghost use Rattle.library_numbers.specs.Records.{WrittenRun};
 ghost use Rattle.library_names.specs.Lists.{lists_refusal, written_lists};
 
@@ -15,6 +16,7 @@ use axis_tables::AxisGrid;
 use axis_tables::layout::AXIS_BYTES;
 use coordinates::{Axis, Fault};
 use name_entries::Names;
+use panel_names::LentNames;
 use panel_names::store::entries_of;
 use panel_tables::Grid;
 use panel_tables::region::{PANEL_WORDS, axis_words};
@@ -49,7 +51,7 @@ fn write_on(
     out: &mut [u64; LINE_NAME_RUN],
 ) -> Result<u64, Fault>
     requires { bytes ≤ length store.now }
-    ensures { record { answer = answered_count result; words = out.new } ≡ written_lists grid (axis_words_in axis words.now) store.now bytes out.old }
+    ensures { record { answer = answered_count_numbers result; words = out.new } ≡ written_lists grid (axis_words_in axis words.now) store.now bytes out.old }
 {
     check_lists(grid.size.explicit, bytes)?;
     let names = Names {
@@ -62,17 +64,22 @@ fn write_on(
 // Writes the lists of an axis of a panel. 4: an explicit count above 10,000; 10: a store below 32,768 bytes.
 pub fn write_lists(
     grid: Grid,
-    words: &[u64; PANEL_WORDS],
-    columnstore: &[u8],
-    rowstore: &[u8],
+    lent: LentNames,
     axis: Axis,
     out: &mut [u64; LINE_NAME_RUN],
 ) -> Result<u64, Fault>
-    ensures { record { answer = answered_count result; words = out.new } ≡ written_lists (grid_in grid axis) (words_in (name_tables_in words.now columnstore.now rowstore.now) axis) (store_in (name_tables_in words.now columnstore.now rowstore.now) axis) (shorter_store (name_tables_in words.now columnstore.now rowstore.now)) out.old }
+    ensures { record { answer = answered_count_numbers result; words = out.new } ≡ written_lists (grid_in grid axis) (words_in (lent_tables lent.entry) axis) (store_in (lent_tables lent.entry) axis) (shorter_store (lent_tables lent.entry)) out.old }
 {
-    let bytes = columnstore.len().min(rowstore.len());
+    let bytes = lent.columnstore.len().min(lent.rowstore.len());
     match axis {
-        Axis::Column => write_on(grid.columns, words, Axis::Column, columnstore, bytes, out),
-        Axis::Row => write_on(grid.rows, words, Axis::Row, rowstore, bytes, out),
+        Axis::Column => write_on(
+            grid.columns,
+            lent.words,
+            Axis::Column,
+            lent.columnstore,
+            bytes,
+            out,
+        ),
+        Axis::Row => write_on(grid.rows, lent.words, Axis::Row, lent.rowstore, bytes, out),
     }
 }

@@ -77,6 +77,11 @@ name_entered p t axis line nm =
 abbrev pub size_answer : AxisSize → SizeAnswer
 size_answer s = record { number = 0; repetitions = s.repetitions; explicit = s.explicit }
 
+-- the numbers of an axis's size, or of a refusal
+abbrev pub answered_size : Result AxisSize Fault → SizeAnswer
+answered_size (Ok s) = size_answer s
+answered_size (Err fault) = record { number = number_of fault; repetitions = 0; explicit = 0 }
+
 unfoldable pub size_of : Grid → ℕ → SizeAnswer
 size_of g axis = cond (is_axis axis) (size_answer (explicit_size g (axis_of axis))) (record { number = count; repetitions = 0; explicit = 0 })
 
@@ -88,9 +93,9 @@ abbrev pub uncounted : ℕ → CountAnswer
 uncounted n = record { number = n; count = 0 }
 
 -- the numbers and values of what a call that counts answers
-abbrev pub answered_count : Result ℕ Fault → CountAnswer
-answered_count (Ok n) = counted n
-answered_count (Err fault) = uncounted (number_of fault)
+abbrev pub answered_count_numbers : Result ℕ Fault → CountAnswer
+answered_count_numbers (Ok n) = counted n
+answered_count_numbers (Err fault) = uncounted (number_of fault)
 
 unfoldable pub line_count_of : Grid → ℕ → CountAnswer
 line_count_of g axis = cond (is_axis axis) (counted (line_count_in g (axis_of axis))) (uncounted count)
@@ -124,3 +129,8 @@ placement_numbers a =
 -- where the name of an entry lies in a store of so many bytes: cut where the store ends
 abbrev pub name_part : ℕ → NameEntry → NameAnswer
 name_part bytes e = record { number = 0; offset = min e.offset bytes; length = min e.length (bytes - e.offset) }
+
+-- where a name lies, or a refusal and zeros
+abbrev pub answered_name : Result NameAnswer Fault → NameAnswer
+answered_name (Ok part) = part
+answered_name (Err fault) = record { number = number_of fault; offset = 0; length = 0 }

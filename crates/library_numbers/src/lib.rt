@@ -12,7 +12,7 @@ use panel_tables::{Grid, Panel};
 // The panel of a sheet, or a refusal and zeros: its number, 0 where there is none, and its line; with 12 the first two areas that share a
 // cell, numbered from 1, else zeros.
 #[repr(C)]
-#[derive(Clone, Copy)]
+#[derive(Clone, Copy, Debug, PartialEq, Eq, Default)]
 pub struct SheetAnswer {
     pub number: u32,
     pub line: u32,
@@ -23,7 +23,7 @@ pub struct SheetAnswer {
 
 // What answers are read from of a sheet for display, with the first two of its areas that share a cell, or a refusal and zeros.
 #[repr(C)]
-#[derive(Clone, Copy)]
+#[derive(Clone, Copy, Debug, PartialEq, Eq, Default)]
 pub struct DisplayAnswer {
     pub number: u32,
     pub line: u32,
@@ -34,7 +34,7 @@ pub struct DisplayAnswer {
 
 // A panel, or a refusal: its number, 0 where there is none, and its line. On a refusal it comes back as it came.
 #[repr(C)]
-#[derive(Clone, Copy)]
+#[derive(Clone, Copy, Debug, PartialEq, Eq, Default)]
 pub struct PanelAnswer {
     pub number: u32,
     pub line: u32,
@@ -43,7 +43,7 @@ pub struct PanelAnswer {
 
 // The explicit size of an axis, or a refusal and zeros.
 #[repr(C)]
-#[derive(Clone, Copy)]
+#[derive(Clone, Copy, Debug, PartialEq, Eq, Default)]
 pub struct SizeAnswer {
     pub number: u32,
     pub repetitions: u32,
@@ -52,7 +52,7 @@ pub struct SizeAnswer {
 
 // A count, or a refusal and 0.
 #[repr(C)]
-#[derive(Clone, Copy)]
+#[derive(Clone, Copy, Debug, PartialEq, Eq, Default)]
 pub struct CountAnswer {
     pub number: u32,
     pub count: u64,
@@ -60,7 +60,7 @@ pub struct CountAnswer {
 
 // Where a name lies in the store of its axis, or a refusal and zeros. Length 0: there is no such name.
 #[repr(C)]
-#[derive(Clone, Copy)]
+#[derive(Clone, Copy, Debug, PartialEq, Eq, Default)]
 pub struct NameAnswer {
     pub number: u32,
     pub offset: u32,
@@ -70,7 +70,7 @@ pub struct NameAnswer {
 // A resolved placement, or a refusal and zeros: its axis, for each end its kind (0 `auto`, 1 `line`, 3 `span`) and number, and then for each end its mark: 1 where a step on the way
 // to its line held it.
 #[repr(C)]
-#[derive(Clone, Copy)]
+#[derive(Clone, Copy, Debug, PartialEq, Eq, Default)]
 pub struct PlacementNumbers {
     pub number: u32,
     pub axis: u32,

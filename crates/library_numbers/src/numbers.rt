@@ -2,17 +2,18 @@
 ghost use Rattle.std.specs.Prelude.{◌≡◌, Ok};
 ghost use Rattle.name_resolver.specs.Placements.{resolved_kind_of, resolved_number_of};
 ghost use Rattle.panel_rules.specs.Placing.{answered_placement};
-ghost use Rattle.library_numbers.specs.Answers.{answered_count, placement_numbers};
+ghost use Rattle.library_numbers.specs.Answers.{answered_count_numbers, answered_name, answered_size, placement_numbers};
 ghost use Rattle.library_numbers.specs.Records.{size_word};
 
-use crate::{CountAnswer, PlacementNumbers};
+use crate::{CountAnswer, NameAnswer, PlacementNumbers, SizeAnswer};
+use axis_tables::AxisSize;
 use coordinates::Fault;
 use name_resolver::NonNamedGridPlacement;
 use panel_rules::PlacedLine;
 use sizing::Sizing;
 
 impl From<Result<u64, Fault>> for CountAnswer {
-    ghost from_gives = { λ counted answer. answer ≡ answered_count counted };
+    ghost from_gives = { λ counted answer. answer ≡ answered_count_numbers counted };
 
     // The answer as numbers, for programs in C.
     fn from(counted: Result<u64, Fault>) -> CountAnswer {
@@ -21,6 +22,40 @@ impl From<Result<u64, Fault>> for CountAnswer {
             Err(fault) => CountAnswer {
                 number: u32::from(fault),
                 count: 0,
+            },
+        }
+    }
+}
+
+impl From<Result<AxisSize, Fault>> for SizeAnswer {
+    ghost from_gives = { λ size answer. answer ≡ answered_size size };
+
+    // The size, or the number of the fault and zeros.
+    fn from(size: Result<AxisSize, Fault>) -> SizeAnswer {
+        match size {
+            Ok(size) => SizeAnswer {
+                number: 0,
+                repetitions: size.repetitions,
+                explicit: size.explicit,
+            },
+            Err(fault) => SizeAnswer {
+                number: u32::from(fault),
+                ..SizeAnswer::default()
+            },
+        }
+    }
+}
+
+impl From<Result<NameAnswer, Fault>> for NameAnswer {
+    ghost from_gives = { λ found answer. answer ≡ answered_name found };
+
+    // Where the name lies, or the number of the fault and zeros.
+    fn from(found: Result<NameAnswer, Fault>) -> NameAnswer {
+        match found {
+            Ok(part) => part,
+            Err(fault) => NameAnswer {
+                number: u32::from(fault),
+                ..NameAnswer::default()
             },
         }
     }
@@ -67,23 +102,19 @@ fn placed_numbers(placed: PlacedLine) -> PlacementNumbers
     }
 }
 
-// A placement that is resolved or refused.
-#[tactic(auto, unfolding(crate::specs::Answers::placement_numbers))]
-pub fn placement_numbers(answer: Result<PlacedLine, Fault>) -> PlacementNumbers
-    ensures { result ≡ placement_numbers (answered_placement answer) }
-{
-    match answer {
-        Ok(placed) => placed_numbers(placed),
-        Err(fault) => PlacementNumbers {
-            number: u32::from(fault),
-            axis: 0,
-            startkind: 0,
-            startnumber: 0,
-            endkind: 0,
-            endnumber: 0,
-            startheld: 0,
-            endheld: 0,
-        },
+impl From<Result<PlacedLine, Fault>> for PlacementNumbers {
+    ghost from_gives = { λ answer numbers. numbers ≡ placement_numbers (answered_placement answer) };
+
+    // The placement, or the number of the fault and zeros.
+    #[tactic(auto, unfolding(crate::specs::Answers::placement_numbers))]
+    fn from(answer: Result<PlacedLine, Fault>) -> PlacementNumbers {
+        match answer {
+            Ok(placed) => placed_numbers(placed),
+            Err(fault) => PlacementNumbers {
+                number: u32::from(fault),
+                ..PlacementNumbers::default()
+            },
+        }
     }
 }
 

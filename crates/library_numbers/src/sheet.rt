@@ -6,7 +6,6 @@ ghost use Rattle.library_numbers.specs.Answers.{display_answer, sheet_answer};
 use crate::{DisplayAnswer, SheetAnswer};
 use coordinates::Fault;
 use panel_tables::Panel;
-use panel_tables::state::zero_panel;
 use sheet_rules::{Display, SheetFault};
 
 impl From<SheetFault> for SheetAnswer {
@@ -20,14 +19,12 @@ impl From<SheetFault> for SheetAnswer {
                 line: pair.line,
                 earlier: pair.earlier,
                 later: pair.later,
-                panel: zero_panel(),
+                ..SheetAnswer::default()
             },
             SheetFault::Line(at) => SheetAnswer {
                 number: u32::from(at.fault),
                 line: at.line,
-                earlier: 0,
-                later: 0,
-                panel: zero_panel(),
+                ..SheetAnswer::default()
             },
         }
     }
@@ -40,11 +37,8 @@ impl From<Result<Panel, SheetFault>> for SheetAnswer {
     fn from(read: Result<Panel, SheetFault>) -> SheetAnswer {
         match read {
             Ok(panel) => SheetAnswer {
-                number: 0,
-                line: 0,
-                earlier: 0,
-                later: 0,
                 panel,
+                ..SheetAnswer::default()
             },
             Err(fault) => SheetAnswer::from(fault),
         }
@@ -60,11 +54,10 @@ fn display_numbers(display: Display) -> DisplayAnswer
         None => (0, 0),
     };
     DisplayAnswer {
-        number: 0,
-        line: 0,
         earlier,
         later,
         grid: display.grid,
+        ..DisplayAnswer::default()
     }
 }
 

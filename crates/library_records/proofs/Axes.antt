@@ -88,19 +88,6 @@ template-room negative w track count before written middle explicit sum a b f e 
     within-room negative w (track + before) written (count - before) middle explicit sum a f e
     (taken-past before negative track count 0 b (some_left written before count 0 (taken-fits written (negative + w) (track + before) (count - before) f) k)) k
 
--- so many words are there
-pub place-room : (place room count before written : ℕ) → before ≤ count → written ≤ count - before → place + 6 * count ≤ room → place + 6 * before + 6 * written ≤ room
-place-room place room count before written h k l = omega arith
-
-pub rest-room : (place room count before written : ℕ) → before ≤ count → written ≤ count - before → place + 6 * count ≤ room → place + 6 * (before + written) + 6 * (count - before - written) ≤ room
-rest-room place room count before written h k l = omega arith
-
-pub track-room : (track count before written : ℕ) → before ≤ count → written ≤ count - before → track + count < 4294967296 → track + before + written < 4294967296
-track-room track count before written h k l = omega arith
-
-pub rest-tracks : (track count before written : ℕ) → before ≤ count → written ≤ count - before → track + count < 4294967296 → track + before + written + (count - before - written) < 4294967296
-rest-tracks track count before written h k l = omega arith
-
 -- the three runs of an axis
 module _ (a : AxisTracks) (p : Plan) (ws mi ma smi sma items : List ℕ) where
   pub axis-runs : (g : Gutters) (before written middle last track count place : ℕ) (lent once twice thrice : List ℕ) →

@@ -2,20 +2,21 @@
 use Prim.Native.Nat.{ℕ, zero, suc, ◌+◌, ◌*◌, ◌-◌, ◌%◌, ◌≤◌, ◌<◌}
 use native.Mathlib.Omega.{arith}
 use native.Mathlib.Nat.{add-zero, sub-zero, mul-zero, mul-suc, mul-add}
-use native.Mathlib.Numerals.{add-one, add-two}
+use native.Mathlib.Numerals.{add-one}
 use mathlib.Core.Path.{◌≡◌, refl, sym, ap, ap₂, ◌∙◌}
-use mathlib.Core.Bool.{Bool, cond, not, ◌&&◌, ◌||◌}
+use mathlib.Core.Bool.{Bool, not, ◌&&◌, ◌||◌}
 use lib.Dec.{leb}
 use mathlib.Core.List.{List, [], ◌∷◌, ◌++◌, append_assoc, append-nil}
-use lib.ListN.{length, get_or, set, length-append, length-set}
+use lib.ListN.{length, get_or, set, length-append}
 use lib.Seq.{sets}
 use Rattle.sizing.specs.Words.{min_max_of}
 use Rattle.track_rules.specs.declared.WrittenTrack.{WrittenTrack}
 use Rattle.track_rules.specs.Records.{item_at}
 use Rattle.track_rules.specs.Numbers.{source_number}
+use Rattle.library_numbers.specs.Records.{size_word}
 use Rattle.library_records.specs.declared.Gutters.{Gutters}
 use Rattle.track_record.specs.declared.Repeated.{Repeated}
-use Rattle.library_records.specs.Pairs.{word_of, record_numbers, pair_words, joined, part_pair}
+use Rattle.library_records.specs.Pairs.{record_numbers, pair_words, joined, part_pair}
 
 -- one run after another
 pub sets_on : (l : List ℕ) (place : ℕ) (a b : List ℕ) → sets l place (a ++ b) ≡ sets (sets l place a) (place + length a) b
@@ -30,7 +31,7 @@ put_two l once twice place a b three e f =
     f ∙ ap₂ (λ (x : List ℕ) (n : ℕ). sets x (place + n) b) e (sym three) ∙ sym (sets_on l place a b)
 
 pub put_pair : (g : Gutters) (item : ℕ → Bool) (t : ℕ) (w : WrittenTrack) (l once twice : List ℕ) (place : ℕ) (closed shut : Bool) (source low high : ℕ) →
-    source ≡ source_number w.source → closed ≡ (w.fit && not (item t)) → shut ≡ (closed || leb g.opened (t + 1)) → low ≡ word_of w.size.min → high ≡ word_of w.size.max →
+    source ≡ source_number w.source → closed ≡ (w.fit && not (item t)) → shut ≡ (closed || leb g.opened (t + 1)) → low ≡ size_word w.size.min → high ≡ size_word w.size.max →
     once ≡ sets l place (record_numbers 0 source closed low high) → twice ≡ sets once (place + 3) (record_numbers 1 5 shut g.gap g.gap) →
     twice ≡ sets l place (pair_words g item t w)
 put_pair g item t w l once twice place closed shut source low high s e f m n x y =

@@ -1,6 +1,6 @@
 -- The records one after the other: how many there are, and the words that the loop leaves. Assumes nothing.
 use Prim.Native.Nat.{ℕ, zero, suc, ◌+◌, ◌*◌, ◌-◌, ◌/◌, ◌%◌, ◌≤◌, ◌<◌, min}
-use mathlib.Core.Path.{◌≡◌, refl, sym, ap, ap₂, subst, ◌∙◌}
+use mathlib.Core.Path.{◌≡◌, refl, sym, ap, ap₂, ◌∙◌}
 use mathlib.Core.Logic.{⊎_elim}
 use mathlib.Core.Bool.{Bool, true, false, ◌||◌}
 use mathlib.Core.List.{List, [], ◌∷◌, ◌++◌, append_assoc}
@@ -60,9 +60,6 @@ pairs_fit count head pairs e = omega arith
 
 left_both : (count head n : ℕ) → count - (head + n) ≡ count - head - n
 left_both count head n = omega arith
-
-pub half_room : (first count head : ℕ) → head ≤ count → first + count < 4294967296 → (first + head) / 2 + (count - head) / 2 < 4294967296
-half_room first count head h k = omega arith
 
 pub pairs_room : (room count head : ℕ) → head ≤ count → 3 * count ≤ room → 3 * head + 6 * ((count - head) / 2) ≤ room
 pairs_room room count head h k = omega arith

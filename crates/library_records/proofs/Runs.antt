@@ -10,7 +10,7 @@ use lib.ListN.{length}
 use lib.Seq.{sets}
 use Rattle.coordinates.specs.Refusals.{number_of, count, short}
 use Rattle.track_rules.specs.Records.{tracks_in, records_in}
-use Rattle.track_rules.proofs.Answers.{fault_some}
+use Rattle.coordinates.proofs.Faults.{fault_some}
 use Rattle.axis_tables.specs.declared.AxisGrid.{AxisGrid}
 use Rattle.panel_rules.specs.Calls.{axis_tracks}
 use Rattle.coordinates.specs.declared.refusal.Fault.{Fault}

@@ -1,87 +1,35 @@
 -- Single tracks in a row. Assumes nothing.
 use Prim.Native.Nat.{ℕ, zero, suc, ◌+◌, ◌-◌, ◌/◌, ◌%◌, ◌≤◌, ◌<◌, min}
 use native.Mathlib.Omega.{arith}
-use native.Mathlib.Nat.{add-zero, zero-add, sub-zero}
-use mathlib.Core.Path.{◌≡◌, refl, sym, ap, ap₂, subst, ◌∙◌}
-use mathlib.Core.Logic.{◌⊎◌, inl, inr, ⊎_elim}
+use native.Mathlib.Nat.{add-zero, sub-zero}
+use mathlib.Core.Path.{◌≡◌, refl, sym, ap, subst, ◌∙◌}
 use mathlib.Core.Bool.{Bool, true, false, cond, ◌&&◌}
 use mathlib.Core.List.{List, [], ◌∷◌}
 use lib.Dec.{eqb}
-use lib.ListN.{length, get_or, take, drop, length-take, length-drop, drop_of_length-le}
-use lib.Seq.{drop-cons}
-use Rattle.std.proofs.lemmas.List.{get_or-take, get_or-drop}
+use lib.ListN.{length, get_or, drop, length-drop}
+use Rattle.std.specs.List.{prefix_len, zip, range_with_len}
+use Rattle.std.proofs.lemmas.List.{get_or-drop}
 use borrow.Author.Tests.{eqb-true}
 use Rattle.template_rules.specs.declared.RepetitionCount.TheVariants.{Single, Count, AutoFill, AutoFit}
 use Rattle.template_rules.specs.declared.GridTemplateComponent.{GridTemplateComponent}
 use Rattle.template_rules.specs.Template.{component_of}
 use Rattle.track_rules.specs.declared.TrackSource.TheVariants.{Template}
 use Rattle.track_rules.specs.Steps.{word_total, sum_of, cursor}
-use Rattle.track_rules.proofs.Lists.{lt_or_ge}
 use Rattle.track_record.specs.Repeats.{repeated_of}
 use Rattle.track_record.proofs.Components.{totals, total_at, Runs, runs_on, sum-on}
 use Rattle.library_records.specs.Parts.{is_single, single_at, singles_of, singles_at}
 
 -- ---- counting them
 
-pub singles-none : (first : ℕ) (ws : List ℕ) → singles_of first ws 0 ≡ 0
+-- those at the front of the words beside the places
+pub singles_beside : (first : ℕ) (ws : List ℕ) (n : ℕ) → prefix_len (λ p. single_at p.1 p.0) (zip ws (range_with_len first n)) ≡ singles_of first ws n
 unfolding singles_of
-singles-none first [] = refl
-singles-none first (w ∷ ws) = refl
-
-pub singles_empty : (first n : ℕ) → singles_of first [] n ≡ 0
-unfolding singles_of
-singles_empty first n = refl
-
-singles_cons : (first w : ℕ) (ws : List ℕ) (n : ℕ) → singles_of first (w ∷ ws) (suc n) ≡ cond (single_at first w) (suc (singles_of (suc first) ws n)) 0
-unfolding singles_of
-singles_cons first w ws n = refl
-
-pub singles_here : (first : ℕ) (ws : List ℕ) (k n : ℕ) → k < length ws → 0 < n →
-    singles_of first (drop k ws) n ≡ cond (single_at first (get_or ws k 0)) (suc (singles_of (suc first) (drop (suc k) ws) (n - 1))) 0
-singles_here first ws k n h some =
-    let e : n ≡ suc (n - 1) = omega arith in
-    ap₂ (singles_of first) (drop-cons ws k 0 h) e ∙ singles_cons first (get_or ws k 0) (drop (suc k) ws) (n - 1)
-
--- the words of a row, as a part of their own
-module _ (ws : List ℕ) (k left : ℕ) where
-  pub row-length : (most : ℕ) → most ≡ min (length ws - k) left → length (take (k + most - k) (drop k ws)) ≡ most
-  row-length most e = omega (arith, e, length-take (k + most - k) (drop k ws), length-drop k ws)
-
-  pub row-here : (i most : ℕ) → most ≡ min (length ws - k) left → i < length (take (k + most - k) (drop k ws)) →
-      (i < most) × (get_or (take (k + most - k) (drop k ws)) i 0 ≡ get_or ws (k + i) 0)
-  row-here i most e h =
-      let less : i < most = omega (arith, h, row-length most e) in
-      (less, get_or-take (k + most - k) (drop k ws) i 0 (omega arith) ∙ get_or-drop k ws i 0)
-
--- a turn of the count, and its ends
-module _ (ws : List ℕ) (k first left : ℕ) where
-  abbrev pub rest : ℕ → ℕ
-  rest i = i + singles_of (first + i) (drop (k + i) ws) (left - i)
-
-  pub count-stops : (i most : ℕ) (b : Bool) → most ≡ min (length ws - k) left → i < most → b ≡ single_at (first + i) (get_or ws (k + i) 0) → b ≡ false → i ≡ rest i
-  count-stops i most b m h e f =
-      sym (ap (λ (n : ℕ). i + n) (singles_here (first + i) ws (k + i) (left - i) (omega arith) (omega arith) ∙ ap (λ (x : Bool). cond x (suc (singles_of (suc (first + i)) (drop (suc (k + i)) ws) (left - i - 1))) 0) (sym e ∙ f)) ∙ add-zero i)
-
-  pub count-on : (i most : ℕ) (b : Bool) → most ≡ min (length ws - k) left → i < most → b ≡ single_at (first + i) (get_or ws (k + i) 0) → b ≡ true → rest (i + 1) ≡ rest i
-  count-on i most b m h e f =
-      let s : first + (i + 1) ≡ suc (first + i) = omega arith in
-      let t : k + (i + 1) ≡ suc (k + i) = omega arith in
-      let u : left - (i + 1) ≡ left - i - 1 = omega arith in
-      let v : (n : ℕ) → i + 1 + n ≡ i + suc n = λ n. omega arith in
-      rw (s, t, u)
-      (v (singles_of (suc (first + i)) (drop (suc (k + i)) ws) (left - i - 1))
-      ∙ ap (λ (n : ℕ). i + n) (sym (singles_here (first + i) ws (k + i) (left - i) (omega arith) (omega arith) ∙ ap (λ (x : Bool). cond x (suc (singles_of (suc (first + i)) (drop (suc (k + i)) ws) (left - i - 1))) 0) (sym e ∙ f))))
-
-  pub count-end : (i most : ℕ) → most ≡ min (length ws - k) left → most ≤ i → i ≤ most → i ≡ rest i
-  count-end i most m h g =
-      sym (ap (λ (n : ℕ). i + n)
-      (⊎_elim
-      (λ (x : left ≤ i). let e : left - i ≡ 0 = omega arith in ap (singles_of (first + i) (drop (k + i) ws)) e ∙ singles-none (first + i) (drop (k + i) ws))
-      (λ (x : length ws ≤ k + i). ap (λ (l : List ℕ). singles_of (first + i) l (left - i)) (drop_of_length-le ws {i = k + i} x) ∙ singles_empty (first + i) (left - i))
-      (either_end i most m h)) ∙ add-zero i)
-    where
-      either_end : (i most : ℕ) → most ≡ min (length ws - k) left → most ≤ i → (left ≤ i) ⊎ (length ws ≤ k + i)
-      either_end i most m h = ⊎_elim (λ (x : i < left). inr (omega arith)) (λ (x : left ≤ i). inl x) (lt_or_ge i left)
+singles_beside first [] n = refl
+singles_beside first (w ∷ ws) zero = refl
+singles_beside first (w ∷ ws) (suc n) = let e : first + 1 ≡ suc first = omega arith in ap (λ (k : ℕ). cond (single_at first w) (1 + prefix_len (λ p. single_at p.1 p.0) (zip ws (range_with_len k n))) 0) e ∙ ap (λ (k : ℕ). cond (single_at first w) k 0) (add-comm-one (prefix_len (λ p. single_at p.1 p.0) (zip ws (range_with_len (suc first) n))) ∙ ap suc (singles_beside (suc first) ws n))
+  where
+    add-comm-one : (k : ℕ) → 1 + k ≡ suc k
+    add-comm-one k = omega arith
 
 -- ---- what they are
 

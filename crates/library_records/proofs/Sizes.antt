@@ -1,7 +1,7 @@
 -- The word of a size in range, and places among tracks that repeat. Assumes nothing.
-use Prim.Native.Nat.{ℕ, ◌+◌, ◌/◌, ◌%◌, ◌≤◌, ◌<◌}
+use Prim.Native.Nat.{ℕ, ◌+◌, ◌/◌, ◌%◌, ◌≤◌}
 use native.Mathlib.Omega.{arith}
-use native.Mathlib.Nat.{mod_self, mod-eq_of_lt, mod-add-mod}
+use native.Mathlib.Nat.{mod-add-mod}
 use mathlib.Core.Path.{◌≡◌, sym, ap, ap₂, subst, ◌∙◌}
 use mathlib.Core.Bool.{Bool, true}
 use lib.Dec.{T}
@@ -10,10 +10,10 @@ use Rattle.sizing.specs.Words.{largest_bits, float_up_to, sizing_of_kind, sizing
 use Rattle.sizing.specs.Ranges.{value_in_range}
 use Rattle.sizing.proofs.Bits.{bits_back}
 use Rattle.sizing.proofs.Words.{word_back}
-use Rattle.library_records.specs.Pairs.{word_of}
+use Rattle.library_numbers.specs.Records.{size_word}
 
 -- the word of a length in range is its own
-pub length-word : (word : ℕ) → word ≤ largest_bits → word ≡ word_of (sizing_of word)
+pub length-word : (word : ℕ) → word ≤ largest_bits → word ≡ size_word (sizing_of word)
 unfolding sizing_of sizing_of_kind float_up_to
 length-word word h =
     let d : word / 4294967296 ≡ 0 = omega arith in
@@ -21,7 +21,7 @@ length-word word h =
     rw (d, m, le-leb word largest_bits h) (omega (arith, bits_back word h))
 
 -- and so is that of any size in range
-pub range_word : (word : ℕ) (b : Bool) → b ≡ value_in_range (word / 4294967296) (word % 4294967296) → b ≡ true → word ≡ word_of (sizing_of word)
+pub range_word : (word : ℕ) (b : Bool) → b ≡ value_in_range (word / 4294967296) (word % 4294967296) → b ≡ true → word ≡ size_word (sizing_of word)
 range_word word b e t =
     let kind = word / 4294967296 in
     let bits = word % 4294967296 in

@@ -1,8 +1,7 @@
 -- Track records as numbers, three words each: a track and the gutter after it at a time.
 use Rattle.std.specs.Prelude.{ℕ, zero, suc, ◌+◌, ◌*◌, ◌-◌, ◌%◌, Bool, cond, not, ◌&&◌, ◌||◌, List, [], ◌∷◌, ◌++◌, leb, ltb, get_or}
-use Rattle.sizing.specs.declared.Sizing.{Sizing}
 use Rattle.sizing.specs.declared.MinMax.{MinMax}
-use Rattle.sizing.specs.Words.{size_word_of, kind_of, bits_of, min_max_of}
+use Rattle.sizing.specs.Words.{min_max_of}
 use Rattle.template_rules.specs.Template.{Component}
 use Rattle.track_rules.specs.declared.AxisTracks.{AxisTracks}
 use Rattle.track_rules.specs.declared.Plan.{Plan}
@@ -14,13 +13,9 @@ use Rattle.track_rules.specs.Steps.{cursor_of, written_at, track_at, record_of}
 use Rattle.axis_tables.specs.declared.AxisGrid.{AxisGrid}
 use Rattle.panel_rules.specs.Calls.{axis_tracks, template_in, spares_in}
 use Rattle.track_rules.specs.Numbers.{source_number}
-use Rattle.library_numbers.specs.Records.{record_words}
+use Rattle.library_numbers.specs.Records.{size_word, record_words}
 use Rattle.library_records.specs.declared.Gutters.{Gutters}
 use Rattle.track_record.specs.declared.Repeated.{Repeated}
-
--- the word of a size
-abbrev pub word_of : Sizing → ℕ
-word_of s = size_word_of (kind_of s) (bits_of s)
 
 -- a record of a kind, 0 a track and 1 a gutter, with 4 times its source: a collapsed one has 2 more, and both sizes length 0
 abbrev pub record_numbers : ℕ → ℕ → Bool → ℕ → ℕ → List ℕ
@@ -29,7 +24,7 @@ record_numbers kind source closed low high = (kind + cond closed 2 0 + 4 * sourc
 -- track t, as it is written out, and the gutter after it
 abbrev pub pair_words : Gutters → (ℕ → Bool) → ℕ → WrittenTrack → List ℕ
 pair_words g item t x =
-    record_numbers 0 (source_number x.source) (x.fit && not (item t)) (word_of x.size.min) (word_of x.size.max)
+    record_numbers 0 (source_number x.source) (x.fit && not (item t)) (size_word x.size.min) (size_word x.size.max)
     ++ record_numbers 1 (source_number Gutter) ((x.fit && not (item t)) || leb g.opened (suc t)) g.gap g.gap
 
 -- n lists one after the other, from list t on
@@ -58,7 +53,7 @@ template_pair ns cs items offset t g u =
 
 -- what the gutters of an axis share
 abbrev pub gutters_of : AxisTracks → Plan → Gutters
-gutters_of a p = record { gap = word_of a.gap; opened = p.opened }
+gutters_of a p = record { gap = size_word a.gap; opened = p.opened }
 
 -- track u of an axis
 abbrev pub axis_pair : AxisTracks → Plan → List Component → List MinMax → List ℕ → ℕ → List ℕ

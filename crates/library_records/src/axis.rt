@@ -7,10 +7,10 @@ ghost use Rattle.panel_rules.specs.Calls.{axis_tracks, template_in, spares_in};
 ghost use Rattle.library_records.specs.Pairs.{joined, gutters_of, axis_pair};
 
 use crate::implicit::{write_negative, write_positive};
-use crate::size::word_of;
 use crate::template::write_template;
-use crate::{Gutters, Stretch};
+use crate::{Gutters, LentAxis, Stretch};
 use axis_tables::AxisGrid;
+use library_numbers::numbers::size_word;
 use panel_calls::axis_track::axis_tracks;
 use panel_calls::part::spares_on;
 use track_record::count::before_end;
@@ -21,25 +21,22 @@ fn gutters_of(grid: AxisGrid, plan: Plan) -> Gutters
     ensures { result ≡ gutters_of (axis_tracks grid) plan }
 {
     Gutters {
-        gap: word_of(sizing::word::sizing_of(grid.space.gap)),
+        gap: size_word(sizing::word::sizing_of(grid.space.gap)),
         opened: plan.opened,
     }
 }
 
 // Writes a stretch of the tracks of an axis, with the gutters after them.
-pub(crate) fn write_pairs(
-    grid: AxisGrid,
-    tables: &[u64],
-    items: &[u8],
-    plan: Plan,
-    tracks: Stretch,
-    words: &mut [u64],
-)
-    requires written_value { plan.written ≡ written_count (axis_tracks grid) (word_totals grid.size.repetitions (part_of tables.now 0 grid.template.components)) }
-    requires count_bound { tracks.first + tracks.count < 4294967296 }
+pub(crate) fn write_pairs(lent: LentAxis, plan: Plan, tracks: Stretch, words: &mut [u64])
+    requires written_value { plan.written ≡ written_count (axis_tracks lent.grid) (word_totals lent.grid.size.repetitions (part_of lent.tables.now 0 lent.grid.template.components)) }
     requires count_in_bounds { tracks.place + 6 * tracks.count ≤ length words.old }
-    ensures { words.new ≡ sets words.old tracks.place (joined (axis_pair (axis_tracks grid) plan (template_in grid tables.now) (spares_in grid tables.now) items.now) tracks.first tracks.count) }
+    ensures { words.new ≡ sets words.old tracks.place (joined (axis_pair (axis_tracks lent.entry.grid) plan (template_in lent.entry.grid lent.entry.tables.now) (spares_in lent.entry.grid lent.entry.tables.now) lent.entry.items.now) tracks.first tracks.count) }
 {
+    let LentAxis {
+        grid,
+        tables,
+        items,
+    } = lent;
     let counts = axis_tracks(grid).counts;
     let negative = counts.negative_implicit as u64;
     let end = negative + plan.written as u64;
@@ -60,7 +57,7 @@ pub(crate) fn write_pairs(
         place: tracks.place + 6 * before,
     };
     let offset = (first as u64).saturating_sub(negative);
-    write_template(grid, tables, items, offset, gutters, middle, words);
+    write_template(lent, offset, gutters, middle, words);
     let next = first + written;
     let late = Stretch {
         first: next,

@@ -6,30 +6,26 @@ ghost use Rattle.track_rules.specs.Steps.{plan_of};
 ghost use Rattle.panel_rules.specs.Calls.{axis_tracks, template_in, spares_in};
 ghost use Rattle.library_records.specs.Pairs.{joined, record_at};
 
-use crate::Stretch;
 use crate::axis::write_pairs;
 use crate::pair::put_record;
-use crate::size::word_of;
-use axis_tables::AxisGrid;
+use crate::{LentAxis, Stretch};
+use library_numbers::numbers::size_word;
 use panel_calls::axis_track::{axis_tracks, carried_on, plan_on};
 use panel_calls::part::template_on;
 use track_record::rule::cursor_at;
 use track_rules::{GridTrackKind, Plan, TrackSource, TrackWalk};
 
 // Writes record `index` at a place.
-fn write_record(
-    grid: AxisGrid,
-    tables: &[u64],
-    items: &[u8],
-    plan: Plan,
-    index: usize,
-    words: &mut [u64],
-    place: usize,
-)
-    requires plan_value { plan ≡ plan_of (axis_tracks grid) (template_in grid tables.now) (item_at items.now) }
+fn write_record(lent: LentAxis, plan: Plan, index: usize, words: &mut [u64], place: usize)
+    requires plan_value { plan ≡ plan_of (axis_tracks lent.grid) (template_in lent.grid lent.tables.now) (item_at lent.items.now) }
     requires place_in_bounds { place + 3 ≤ length words.old }
-    ensures { words.new ≡ sets words.old place (record_at grid tables.now items.now index) }
+    ensures { words.new ≡ sets words.old place (record_at lent.entry.grid lent.entry.tables.now lent.entry.items.now index) }
 {
+    let LentAxis {
+        grid,
+        tables,
+        items,
+    } = lent;
     let axis = axis_tracks(grid);
     let cursor = cursor_at(template_on(grid, tables).components, axis, index as u64);
     let at = TrackWalk { axis, plan, cursor };
@@ -40,24 +36,17 @@ fn write_record(
         track.kind,
         track.source,
         track.collapsed,
-        word_of(track.size.min),
-        word_of(track.size.max),
+        size_word(track.size.min),
+        size_word(track.size.max),
     );
 }
 
 // Writes at most one record. The first gutter is always collapsed.
-fn write_edge(
-    grid: AxisGrid,
-    tables: &[u64],
-    items: &[u8],
-    plan: Plan,
-    records: Stretch,
-    words: &mut [u64],
-)
-    requires plan_value { plan ≡ plan_of (axis_tracks grid) (template_in grid tables.now) (item_at items.now) }
+fn write_edge(lent: LentAxis, plan: Plan, records: Stretch, words: &mut [u64])
+    requires plan_value { plan ≡ plan_of (axis_tracks lent.grid) (template_in lent.grid lent.tables.now) (item_at lent.items.now) }
     requires count_bound { records.count ≤ 1 }
     requires count_in_bounds { records.place + 3 * records.count ≤ length words.old }
-    ensures { words.new ≡ sets words.old records.place (joined (record_at grid tables.now items.now) records.first records.count) }
+    ensures { words.new ≡ sets words.old records.place (joined (record_at lent.entry.grid lent.entry.tables.now lent.entry.items.now) records.first records.count) }
 {
     if records.count == 0 {
         return;
@@ -67,15 +56,7 @@ fn write_edge(
         put_record(words, records.place, kind, source, true, 0, 0);
         return;
     }
-    write_record(
-        grid,
-        tables,
-        items,
-        plan,
-        records.first,
-        words,
-        records.place,
-    );
+    write_record(lent, plan, records.first, words, records.place);
 }
 
 // How many of `count` records from one on come before a track: 1 where that one is a gutter.
@@ -86,38 +67,31 @@ fn head_count(first: usize, count: usize) -> usize
 }
 
 // Writes `count` records of an axis from `first` on.
-pub(crate) fn write_axis(
-    grid: AxisGrid,
-    tables: &[u64],
-    items: &[u8],
-    first: usize,
-    count: usize,
-    words: &mut [u64],
-)
+pub(crate) fn write_axis(lent: LentAxis, first: usize, count: usize, words: &mut [u64])
     requires count_bound { first + count < 4294967296 }
     requires count_in_bounds { 3 * count ≤ length words.old }
-    ensures { words.new ≡ sets words.old 0 (joined (record_at grid tables.now items.now) first count) }
+    ensures { words.new ≡ sets words.old 0 (joined (record_at lent.entry.grid lent.entry.tables.now lent.entry.items.now) first count) }
 {
-    let plan = plan_on(grid, tables, items);
+    let plan = plan_on(lent.grid, lent.tables, lent.items);
     let head = head_count(first, count);
     let start = Stretch {
         first,
         count: head,
         place: 0,
     };
-    write_edge(grid, tables, items, plan, start, words);
+    write_edge(lent, plan, start, words);
     let pairs = (count - head) / 2;
     let middle = Stretch {
         first: (first + head) / 2,
         count: pairs,
         place: 3 * head,
     };
-    write_pairs(grid, tables, items, plan, middle, words);
+    write_pairs(lent, plan, middle, words);
     let done = head + 2 * pairs;
     let rest = Stretch {
         first: first + done,
         count: count - done,
         place: 3 * done,
     };
-    write_edge(grid, tables, items, plan, rest, words);
+    write_edge(lent, plan, rest, words);
 }

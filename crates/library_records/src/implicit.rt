@@ -24,7 +24,6 @@ pub(crate) fn write_spares(
     tracks: Stretch,
     words: &mut [u64],
 )
-    requires count_bound { tracks.first + tracks.count < 4294967296 }
     requires count_in_bounds { tracks.place + 6 * tracks.count ≤ length words.old }
     ensures { words.new ≡ sets words.old tracks.place (joined (spare_pair source (spares_of spares.entry.minimums.now spares.entry.maximums.now) items.now offset tracks.first gutters) tracks.first tracks.count) }
 {
@@ -81,7 +80,6 @@ pub(crate) fn write_negative(
     tracks: Stretch,
     words: &mut [u64],
 )
-    requires count_bound { tracks.first + tracks.count < 4294967296 }
     requires count_in_bounds { tracks.place + 6 * tracks.count ≤ length words.old }
     ensures { words.new ≡ sets words.old tracks.place (joined (spare_pair Negative (spares_of spares.entry.minimums.now spares.entry.maximums.now) items.now (length spares.entry.minimums.now - negative % length spares.entry.minimums.now + tracks.first) tracks.first gutters) tracks.first tracks.count) }
 {
@@ -111,7 +109,6 @@ pub(crate) fn write_positive(
     words: &mut [u64],
 )
     requires offset_bound { offset < 4294967296 }
-    requires count_bound { tracks.first + tracks.count < 4294967296 }
     requires count_in_bounds { tracks.place + 6 * tracks.count ≤ length words.old }
     ensures { words.new ≡ sets words.old tracks.place (joined (positive_pair (spares_of spares.entry.minimums.now spares.entry.maximums.now) items.now end offset tracks.first gutters) tracks.first tracks.count) }
 {

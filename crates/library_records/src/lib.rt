@@ -2,14 +2,14 @@
 
 #![tactic(auto)]
 
-ghost use Rattle.std.specs.Prelude.{◌≡◌, ◌+◌, ◌*◌, ◌≤◌, length};
+ghost use Rattle.std.specs.Prelude.{◌≡◌, ◌+◌, ◌*◌, ◌≤◌, ◌<◌, length};
 ghost use Rattle.std.proofs.lemmas.List.Edits.{sets};
 ghost use Rattle.track_rules.specs.Records.{tracks_in, records_in};
 ghost use Rattle.panel_tables.specs.Axes.{grid_in};
 ghost use Rattle.panel_tables.specs.Regions.{axis_words_in};
 ghost use Rattle.coordinates.specs.Refusals.{refused_by};
 ghost use Rattle.panel_rules.specs.Calls.{axis_tracks};
-ghost use Rattle.library_numbers.specs.Answers.{answered_count};
+ghost use Rattle.library_numbers.specs.Answers.{answered_count_numbers};
 ghost use Rattle.library_numbers.specs.Records.{run_words, run_refusal, run_count, WrittenRun, written_run};
 
 use axis_tables::AxisGrid;
@@ -36,23 +36,33 @@ use edge::write_axis;
 // The words of a record.
 const RECORD_WORDS: usize = 3;
 
-// What all gutters share: the word of the gap, and one past the last open track.
+// An axis to be read: what is kept of it, and its words and item bytes, which are lent.
 #[derive(Clone, Copy)]
+pub(crate) struct LentAxis<'a> {
+    pub grid: AxisGrid,
+    pub tables: &'a [u64],
+    pub items: &'a [u8],
+}
+
+// What all gutters share: the word of the gap, and one past the last open track.
+#[derive(Clone, Copy, Debug, PartialEq, Eq)]
 pub(crate) struct Gutters {
     pub gap: u64,
     pub opened: u64,
 }
 
 // A stretch of tracks or records to write: the first, how many, and the place of their words.
-#[derive(Clone, Copy)]
+#[derive(Clone, Copy, Debug, PartialEq, Eq)]
 pub(crate) struct Stretch {
     pub first: usize,
     pub count: usize,
     pub place: usize,
+    // Numbers of tracks and records have 32 bits.
+    ghost numbered: { first + count < 4294967296 },
 }
 
 // A track to write: its number, the place of its size in the tables, where it comes from, and whether `fit` writes it.
-#[derive(Clone, Copy)]
+#[derive(Clone, Copy, Debug, PartialEq, Eq)]
 pub(crate) struct PlacedTrack {
     pub number: u64,
     pub size: u64,
@@ -61,7 +71,7 @@ pub(crate) struct PlacedTrack {
 }
 
 // Tracks of the template to write next: those that repeat, how many of them, and where the template goes on.
-#[derive(Clone, Copy)]
+#[derive(Clone, Copy, Debug, PartialEq, Eq)]
 pub(crate) struct TemplatePart {
     pub repeated: Repeated,
     pub count: usize,
@@ -69,20 +79,13 @@ pub(crate) struct TemplatePart {
 }
 
 // Writes so many records from one on.
-fn write_records(
-    grid: AxisGrid,
-    tables: &[u64],
-    items: &[u8],
-    first: usize,
-    count: usize,
-    words: &mut [u64],
-)
-    requires count_bound { first + count ≤ records_in (axis_tracks grid) }
-    requires grid_in_bounds { tracks_in (axis_tracks grid) ≤ length items.now }
+fn write_records(lent: LentAxis, first: usize, count: usize, words: &mut [u64])
+    requires count_bound { first + count ≤ records_in (axis_tracks lent.grid) }
+    requires grid_in_bounds { tracks_in (axis_tracks lent.grid) ≤ length lent.items.now }
     requires count_in_bounds { 3 * count ≤ length words.old }
-    ensures { words.new ≡ sets words.old 0 (run_words grid tables.now items.now first count) }
+    ensures { words.new ≡ sets words.old 0 (run_words lent.entry.grid lent.entry.tables.now lent.entry.items.now first count) }
 {
-    write_axis(grid, tables, items, first, count, words);
+    write_axis(lent, first, count, words);
 }
 
 // Whether a run may be written.
@@ -111,18 +114,12 @@ fn run_count(grid: AxisGrid, lent: usize, first: u32) -> usize
 }
 
 // Writes the records of one axis from `first` on.
-fn write_on(
-    grid: AxisGrid,
-    tables: &[u64],
-    items: &[u8],
-    first: u32,
-    words: &mut [u64],
-) -> Result<u64, Fault>
-    ensures { record { answer = answered_count result; words = words.new } ≡ written_run grid tables.now items.now first words.old }
+fn write_on(lent: LentAxis, first: u32, words: &mut [u64]) -> Result<u64, Fault>
+    ensures { record { answer = answered_count_numbers result; words = words.new } ≡ written_run lent.entry.grid lent.entry.tables.now lent.entry.items.now first words.old }
 {
-    check_run(grid, items.len(), words.len(), first)?;
-    let count = run_count(grid, words.len(), first);
-    write_records(grid, tables, items, first as usize, count, words);
+    check_run(lent.grid, lent.items.len(), words.len(), first)?;
+    let count = run_count(lent.grid, words.len(), first);
+    write_records(lent, first as usize, count, words);
     Ok(count as u64)
 }
 
@@ -136,13 +133,12 @@ pub fn write_run(
     first: u32,
     records: &mut [u64],
 ) -> Result<u64, Fault>
-    ensures { record { answer = answered_count result; words = records.new } ≡ written_run (grid_in grid axis) (axis_words_in axis words.now) items.now first records.old }
+    ensures { record { answer = answered_count_numbers result; words = records.new } ≡ written_run (grid_in grid axis) (axis_words_in axis words.now) items.now first records.old }
 {
-    write_on(
-        grid_in(grid, axis),
-        axis_words(words, axis),
+    let lent = LentAxis {
+        grid: grid_in(grid, axis),
+        tables: axis_words(words, axis),
         items,
-        first,
-        records,
-    )
+    };
+    write_on(lent, first, records)
 }

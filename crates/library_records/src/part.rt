@@ -40,7 +40,6 @@ pub(crate) fn write_part(
 )
     requires length_nonzero { 0 < tracks.count → 0 < part.length }
     requires length_bound { part.first + part.length < 18446744073709551616 }
-    requires count_bound { tracks.first + tracks.count < 4294967296 }
     requires count_in_bounds { tracks.place + 6 * tracks.count ≤ length words.old }
     ensures { words.new ≡ sets words.old tracks.place (joined (part_pair minimums.now maximums.now items.now part offset tracks.first gutters) tracks.first tracks.count) }
 {

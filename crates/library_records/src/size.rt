@@ -1,25 +1,18 @@
 // Sizes of a lent table as the words that are handed out.
 ghost use Rattle.std.specs.Prelude.{◌≡◌, get_or};
 ghost use Rattle.sizing.specs.Words.{sizing_of};
-ghost use Rattle.library_records.specs.Pairs.{word_of};
+ghost use Rattle.library_numbers.specs.Records.{size_word};
 
-use sizing::Sizing;
+use library_numbers::numbers::size_word;
 use sizing::range::word_in_range;
 use sizing::word::sizing_of;
 
 // The word of the largest length.
 const LARGEST_LENGTH: u64 = 0x477f_ff00;
 
-// The word of a size.
-pub(crate) fn word_of(size: Sizing) -> u64
-    ensures { result ≡ word_of size }
-{
-    sizing::word::size_word(size.kind(), sizing::word::bits_of(size))
-}
-
 // The word of the size that a word gives: one in range is its own.
 fn kept_word(word: u64) -> u64
-    ensures { result ≡ word_of (sizing_of word) }
+    ensures { result ≡ size_word (sizing_of word) }
 {
     if word <= LARGEST_LENGTH {
         return word;
@@ -27,12 +20,12 @@ fn kept_word(word: u64) -> u64
     if word_in_range(word) {
         return word;
     }
-    word_of(sizing_of(word))
+    size_word(sizing_of(word))
 }
 
 // The word of the size at a place of a table.
 pub(crate) fn size_at(table: &[u64], place: u64) -> u64
-    ensures { result ≡ word_of (sizing_of (get_or table.now place 0)) }
+    ensures { result ≡ size_word (sizing_of (get_or table.now place 0)) }
 {
     kept_word(axis_tables::layout::word_at(table, place as usize))
 }

@@ -27,13 +27,11 @@ fn single_count(components: &[u64], component: usize, first: u64, left: usize) -
     requires left_bound { left < 4294967296 }
     ensures { result ≡ singles_of first (drop component components.now) left }
 {
-    let most = before_end(components.len() as u64, component as u64, left);
-    for (run, word) in components[component..component + most].iter().enumerate() {
-        if !single_at(*word, first + run as u64) {
-            return run;
-        }
-    }
-    most
+    components[component..]
+        .iter()
+        .zip(first..first + left as u64)
+        .take_while(|(word, place)| single_at(**word, *place))
+        .count()
 }
 
 // How many single tracks in a row start at a cursor, at most `left`.

@@ -15,7 +15,7 @@ use Rattle.sizing.specs.declared.Sizing.{Sizing}
 use Rattle.sizing.specs.declared.Sizing.TheVariants.{Length, Percent, Fraction, Auto, MinContent, MaxContent, FitContentLength, FitContentPercent}
 use Rattle.sizing.specs.Words.{zero32, largest_bits, float_up_to}
 use Rattle.sizing.specs.Ranges.{up_to, largest_length, sizing_in_range}
-use Rattle.sizing.specs.Definite.{definite_of, or_zero}
+use Rattle.sizing.specs.Definite.{length_alone, definite_of, or_zero}
 use Rattle.sizing.specs.Sums.{sum_from}
 use Rattle.sizing.proofs.Operations.{nonneg, nonneg_of}
 use Rattle.sizing.proofs.Patterns.{bits_value}
@@ -25,7 +25,7 @@ use Rattle.sizing.proofs.Running.{Small, Smalls, track-small, sum_fits, sum_fini
 use Rattle.track_rules.specs.declared.GridTrack.{GridTrack}
 use Rattle.track_rules.specs.Tracks.{zero_grid_track}
 use Rattle.track_rules.proofs.Lists.{lt_or_ge}
-use Rattle.line_positions.specs.Positions.{length_alone, record_value_in, values_of, start_of, tracks_among, position_of, InnerInRange, SizesInRange, InRange}
+use Rattle.line_positions.specs.Positions.{record_value_in, values_of, start_of, tracks_among, position_of, InnerInRange, SizesInRange, InRange}
 use Rattle.line_positions.proofs.Walk.{start-next}
 use Rattle.line_positions.proofs.Differences.{le_self, le_trans_nonneg}
 

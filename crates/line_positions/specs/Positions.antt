@@ -3,27 +3,15 @@ use Rattle.std.specs.Prelude.{ℕ, zero, suc, ◌+◌, ◌*◌, ◌-◌, ◌/◌
 use Rattle.std.specs.Float.{binary32}
 use Rattle.std.specs.Float.Ieee.{add, sub, lt, le}
 use Rattle.sizing.specs.declared.Sizing.{Sizing}
-use Rattle.sizing.specs.declared.Sizing.TheVariants.{Length, Percent, Fraction, Auto, MinContent, MaxContent, FitContentLength, FitContentPercent}
 use Rattle.sizing.specs.Words.{zero32}
-use Rattle.sizing.specs.Definite.{definite_of, is_definite, raised_or, or_zero}
+use Rattle.sizing.specs.Definite.{length_alone, definite_of, is_definite, raised_or, or_zero}
 use Rattle.sizing.specs.Sums.{sum_from}
 use Rattle.sizing.specs.Ranges.{up_to, largest_length, sizing_in_range}
 use Rattle.track_rules.specs.declared.GridTrack.{GridTrack}
 
 -- ---- what a record measures
 
--- without an inner size a length alone is definite: there is nothing to take a percentage of
-abbrev pub length_alone : Sizing → Option Float
-length_alone (Length v) = Some v
-length_alone (Percent p) = None
-length_alone (Fraction v) = None
-length_alone Auto = None
-length_alone MinContent = None
-length_alone MaxContent = None
-length_alone (FitContentLength v) = None
-length_alone (FitContentPercent p) = None
-
--- "percentages taken of the inner size"
+-- "percentages taken of the inner size"; without one a length alone is definite
 abbrev pub definite_in : Option Float → Sizing → Option Float
 definite_in (Some x) size = definite_of size x
 definite_in None size = length_alone size

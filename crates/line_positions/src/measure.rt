@@ -1,20 +1,10 @@
 // What a record measures, where that is definite.
 ghost use Rattle.std.specs.Prelude.{◌≡◌};
-ghost use Rattle.line_positions.specs.Positions.{length_alone, definite_in, record_value_in};
+ghost use Rattle.line_positions.specs.Positions.{definite_in, record_value_in};
 
 use sizing::Sizing;
-use sizing::definite::{definite_value, raised};
+use sizing::definite::{definite_value, length_alone, raised};
 use track_rules::GridTrack;
-
-// A length; no other kind is definite where there is no inner size.
-fn length_alone(size: Sizing) -> Option<f32>
-    ensures { result ≡ length_alone size }
-{
-    match size {
-        Sizing::Length(v) => Some(v),
-        _ => None,
-    }
-}
 
 // A length, or a percentage of the inner size where there is one.
 pub fn definite_in(size: Sizing, inner: Option<f32>) -> Option<f32>

@@ -3,6 +3,7 @@
 
 #![tactic(auto)]
 
+pub mod bytes;
 pub mod enter;
 pub mod entry;
 pub mod line_names;

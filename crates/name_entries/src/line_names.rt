@@ -6,6 +6,7 @@ ghost use Rattle.name_entries.specs.Entries.{entry_of, named_entry, entries_of};
 ghost use Rattle.name_entries.specs.LineNames.{shows, line_count};
 ghost use Rattle.name_entries.specs.LineEntries.{line_entries_of, explicit_line_entries};
 
+use crate::bytes::same_bytes;
 use crate::entry::name_in;
 use crate::{NameEntry, Names};
 
@@ -23,7 +24,7 @@ pub fn line_count(count: u32, explicit: u32) -> u64
 pub fn is_written(store: &[u8], entry: NameEntry, line: u32, name: &[u8]) -> bool
     ensures { result ≡ written? name.now line (named_entry store.now entry) }
 {
-    entry.line == line && name_in(store, entry) == name
+    entry.line == line && same_bytes(name_in(store, entry), name)
 }
 
 impl Names<'_> {

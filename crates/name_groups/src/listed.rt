@@ -5,6 +5,7 @@ ghost use Rattle.name_entries.specs.Entries.{entry_of, name_in};
 ghost use Rattle.name_groups.specs.Listed.{lists_next};
 
 use name_entries::NameEntry;
+use name_entries::bytes::same_bytes;
 use name_entries::entry::name_in;
 
 // The last line whose names are looked at.
@@ -15,7 +16,10 @@ fn same_name(store: &[u8], a: u64, b: u64) -> bool
     ensures { result ≡ eq_bytes (name_in store.now (entry_of a)) (name_in store.now (entry_of b)) }
 {
     a / 0x1_0000 == b / 0x1_0000
-        || name_in(store, NameEntry::from(a)) == name_in(store, NameEntry::from(b))
+        || same_bytes(
+            name_in(store, NameEntry::from(a)),
+            name_in(store, NameEntry::from(b)),
+        )
 }
 
 // Whether an entry has the first one's name on a line after one.

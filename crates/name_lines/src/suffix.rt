@@ -5,7 +5,7 @@ ghost use Rattle.name_entries.specs.Entries.{entry_of, name_in};
 ghost use Rattle.std.specs.Prelude.{◌++◌, ◌≡◌};
 
 use crate::GridAreaEnd;
-use name_entries::{NameEntry, entry};
+use name_entries::{NameEntry, bytes, entry};
 
 // `split_area_edge_name`: the edge of an area that a name stands for, where it ends in `-start` or `-end`.
 #[tactic(auto, unfolding(crate::specs::Suffixes::edge_of), using(crate::proofs::Suffixes::ends_tail))]
@@ -45,7 +45,7 @@ pub fn is_joined(name: &[u8], stem: &[u8], tail: &[u8]) -> bool
     ensures { result ≡ eq_bytes name.now (stem.now ++ tail.now) }
 {
     match name.strip_suffix(tail) {
-        Some(front) => front == stem,
+        Some(front) => bytes::same_bytes(front, stem),
         None => false,
     }
 }

@@ -10,7 +10,7 @@ use lib.Dec.{eqb, leb}
 use lib.ListN.{length, take, drop, length-drop}
 use lib.Seq.{drop-drop}
 use Rattle.name_entries.specs.Entries.{entry_of}
-use Rattle.name_entries.proofs.Booleans.{both}
+use Rattle.std.proofs.lemmas.Bool.{and_parts}
 use Rattle.name_lists.specs.Lists.{part_word, line_words, on_line}
 use Rattle.name_lists.specs.Ascending.{ascends_from, ascends, count_up_to}
 use Rattle.name_lists.proofs.OnLine.{line-entries}
@@ -18,7 +18,7 @@ use Rattle.name_lists.proofs.OnLine.{line-entries}
 -- the first of entries that ascend is not below the line, and the others ascend from it
 head_ascends : (line w : ℕ) (words : List ℕ) → ascends_from line (w ∷ words) ≡ true → (line ≤ (entry_of w).line) × (ascends_from (entry_of w).line words ≡ true)
 unfolding ascends_from
-head_ascends line w words e = let b = both (leb line (entry_of w).line) (ascends_from (entry_of w).line words) e in (leb-true line (entry_of w).line b.0, b.1)
+head_ascends line w words e = let b = and_parts (leb line (entry_of w).line) (ascends_from (entry_of w).line words) e in (leb-true line (entry_of w).line b.0, b.1)
 
 -- and so they ascend together
 tail_ascends : (line w : ℕ) (words : List ℕ) → line ≤ (entry_of w).line → ascends_from (entry_of w).line words ≡ true → ascends_from line (w ∷ words) ≡ true

@@ -8,7 +8,7 @@ use borrow.Author.Tests.{ltb-false, le-ltb, eq-eqb, ne_eqb}
 use lib.Dec.{ltb}
 use lib.ListN.{length}
 use Rattle.coordinates.specs.declared.refusal.Fault.{Fault}
-use Rattle.coordinates.specs.declared.refusal.Fault.TheVariants.{Unread, Name, Value, Count, Area, Twice, Late, Crowded, ZeroLine, Short, Indefinite, Overlap, Unequal, Broken, Unplaced}
+use Rattle.coordinates.proofs.Faults.{fault_some}
 use Rattle.std.specs.Prelude.{Result, Ok, Err}
 use Rattle.coordinates.specs.Refusals.{number_of, count, crowded, short}
 use Rattle.name_lists.specs.Lists.{ListedNames, answered_lists, lists, line_names_refusal, NamesListed, line_names_listed, Written}
@@ -30,24 +30,6 @@ pub in_range : (explicit entries bytes : ℕ) → explicit ≤ 10000 → entries
 unfolding line_names_refusal
 in_range explicit entries bytes a b c = rw (le-ltb 10000 explicit a, le-ltb 4096 entries b, le-ltb bytes 32768 c)
 
--- the number of a fault is none
-pub told : (fault : Fault) → number_of fault ≡ 0 → ⊥
-told Unread e = omega arith
-told Name e = omega arith
-told Value e = omega arith
-told Count e = omega arith
-told Area e = omega arith
-told Twice e = omega arith
-told Late e = omega arith
-told Crowded e = omega arith
-told ZeroLine e = omega arith
-told Short e = omega arith
-told Indefinite e = omega arith
-told Overlap e = omega arith
-told Unequal e = omega arith
-told Broken e = omega arith
-told Unplaced e = omega arith
-
 module _ (explicit : ℕ) (words store lent after : List ℕ) where
   abbrev number : ℕ
   number = line_names_refusal explicit (length words) (length store)
@@ -56,7 +38,7 @@ module _ (explicit : ℕ) (words store lent after : List ℕ) where
   pub listed-refused : (fault : Fault) → number_of fault ≡ number
       → ◌≡◌ {A = NamesListed} (record { answer = answered_lists (Err fault); words = lent }) (line_names_listed explicit words store lent)
   unfolding line_names_listed
-  listed-refused fault e = rw (← e, ne_eqb (number_of fault) 0 (told fault))
+  listed-refused fault e = rw (← e, ne_eqb (number_of fault) 0 (fault_some fault))
 
   -- what is written is the lists
   pub listed-written : (n : ℕ) → number ≡ 0 → Written lent 0 (lists explicit words store) after n
@@ -86,4 +68,4 @@ module _ (explicit : ℕ) (words store lent after : List ℕ) where
       let z = in_range explicit (length words) (length store) a b c in
       let g = rw (eq-eqb number 0 z) at e in
       let k : number_of fault ≡ 0 = ap (λ (x : NamesListed). x.answer.refusal.number) g in
-      absurd (told fault k)
+      absurd (fault_some fault k)

@@ -12,7 +12,7 @@ use Rattle.name_entries.specs.declared.NameEntry.{NameEntry}
 use Rattle.name_entries.specs.Entries.{entry_of, named_entry, entries_of}
 use Rattle.name_entries.specs.LineNames.{shows}
 use Rattle.name_entries.specs.LineEntries.{entries_after}
-use Rattle.name_entries.proofs.Booleans.{both}
+use Rattle.std.proofs.lemmas.Bool.{and_parts}
 use Rattle.name_entries.proofs.Entering.{entry-word}
 use Rattle.name_lists.specs.Lists.{part_word, line_words, lists_from, lists, on_line}
 use Rattle.name_lists.proofs.OnLine.{on_append}
@@ -49,7 +49,7 @@ module _ (store : List ℕ) (line at : ℕ) where
           on_line at (map (part_word store) (cond t (entry_of w ∷ entries_after line store (before ++ (w ∷ [])) words) (entries_after line store (before ++ (w ∷ [])) words)))
           ≡ cond (eqb line at) (map (part_word store) (cond t (entry_of w ∷ entries_after line store (before ++ (w ∷ [])) words) (entries_after line store (before ++ (w ∷ [])) words))) []
       by true q ih =
-          let k = eqb-true (entry_of w).line line (both (eqb (entry_of w).line line) (not (any (written? (named_entry store (entry_of w)).name line) (entries_of before store))) q).0 in
+          let k = eqb-true (entry_of w).line line (and_parts (eqb (entry_of w).line line) (not (any (written? (named_entry store (entry_of w)).name line) (entries_of before store))) q).0 in
           on-if (entry_of (part_word store (entry_of w))).line (map (part_word store) (entries_after line store (before ++ (w ∷ [])) words)) (ap (λ (e : NameEntry). e.line) (part_back store (entry_of w) (small-entry w)) ∙ k)
           (on_line at (map (part_word store) (entries_after line store (before ++ (w ∷ [])) words))) ih (part_word store (entry_of w))
       by false q ih = ih

@@ -1,13 +1,12 @@
 -- The word of an entry's name, by the length of that name.
 use mathlib.Core.Path.{◌≡◌, ◌∙◌, ap}
 use mathlib.Core.List.{List}
-use Prim.Native.Nat.{ℕ, ◌+◌, ◌*◌, ◌-◌, ◌<◌, min}
+use Prim.Native.Nat.{ℕ, ◌-◌, ◌<◌, min}
 use native.Mathlib.Omega.{arith}
 use lib.ListN.{length, drop, length-take, length-drop}
 use Rattle.name_rules.specs.Css.{Bytes}
 use Rattle.name_entries.specs.declared.NameEntry.{NameEntry}
 use Rattle.name_entries.specs.Entries.{entry_of, name_in}
-use Rattle.name_lists.specs.Lists.{part_word}
 
 -- the numbers of an entry are small
 pub record Small (e : NameEntry) : Type 0 where
@@ -35,6 +34,3 @@ module _ (store : List ℕ) (word : ℕ) (e : NameEntry) (known : e ≡ entry_of
   module _ (offset : ℕ) (cut : offset ≡ min e.offset (length store)) where
     pub offset-fits : offset < 65536
     offset-fits = let s = part_small in omega (arith, cut, s.offset)
-
-    pub part-word : e.line + offset * 65536 + length name * 4294967296 ≡ part_word store (entry_of word)
-    part-word = rw (cut, part_length, known)

@@ -3,9 +3,8 @@ use mathlib.Core.Path.{◌≡◌, refl, sym, ◌∙◌, ap}
 use mathlib.Core.Bool.{Bool, true, false, cond}
 use mathlib.Core.List.{List, [], ◌∷◌, ◌++◌, map}
 use Prim.Native.Nat.{ℕ, suc, ◌+◌, ◌-◌, ◌≤◌, ◌<◌}
-use native.Mathlib.Nat.{add-zero}
 use native.Mathlib.Omega.{arith}
-use lib.ListN.{length, get_or, take, set, length-append, drop_of_length-le}
+use lib.ListN.{length, get_or, take, length-append, drop_of_length-le}
 use lib.Seq.{sets, length-sets}
 use Rattle.name_template.proofs.Placing.{sets_append}
 use Rattle.name_entries.specs.declared.NameEntry.{NameEntry}
@@ -46,26 +45,6 @@ module _ (lent : List ℕ) (count : ℕ) (whole : List ℕ) where
   }
 
 -- ---- the entry at a place
-
-module _ (entries store : List ℕ) (line place w : ℕ) (e : NameEntry) (shown : Bool) (known : e ≡ entry_of (get_or entries place 0))
-    (tells : shown ≡ shows line (entries_of (take place entries) store) (named_entry store e)) where
-  entry-if : cond shown (part_word store (entry_of (get_or entries place 0)) ∷ []) [] ≡ entry_words entries store line place
-  entry-if = rw (tells, known)
-
-  -- one that shows its name has room
-  pub entry-room : (count room : ℕ) → shown ≡ true → count + length (entry_words entries store line place) ≤ room → count < room
-  entry-room count room t h = let a = ap length (entry-if) in let b : length (cond shown (part_word store (entry_of (get_or entries place 0)) ∷ []) []) ≡ 1 = rw t in omega (arith, a, b)
-
-  pub entry-written : (lent : List ℕ) (count : ℕ) → shown ≡ true → w ≡ part_word store (entry_of (get_or entries place 0)) →
-      Written lent count (entry_words entries store line place) (set lent count w) (count + 1)
-  entry-written lent count t f =
-      let a : entry_words entries store line place ≡ w ∷ [] = sym entry-if ∙ rw (t, f) in
-      record { words = rw a; counted = rw a }
-
-  pub entry-passed : (lent : List ℕ) (count : ℕ) → shown ≡ false → Written lent count (entry_words entries store line place) lent count
-  entry-passed lent count t =
-      let a : entry_words entries store line place ≡ [] = sym entry-if ∙ rw t in
-      record { words = rw a; counted = rw a (sym (add-zero count)) }
 
 -- ---- the entries of a table, from a place on
 

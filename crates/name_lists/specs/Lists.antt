@@ -2,12 +2,11 @@
 -- out", one list after the other. A name is a word: its line, and the part of the store that it is.
 use Rattle.std.specs.Prelude.{ℕ, zero, suc, ◌+◌, ◌-◌, ◌≤◌, ◌<◌, min, ◌≡◌, cond, List, [], ◌∷◌, ◌++◌, map, eqb, ltb, length, get_or, take, Result, Ok, Err}
 use Rattle.std.proofs.lemmas.List.Edits.{sets}
-use Rattle.coordinates.specs.Refusals.{no_refusal, refusal_of, number_of, count, crowded, short}
+use Rattle.coordinates.specs.Refusals.{Refusal, no_refusal, refusal_of, number_of, count, crowded, short}
 use Rattle.name_entries.specs.declared.NameEntry.{NameEntry}
 use Rattle.name_entries.specs.Entries.{entry_of, word_of, named_entry, entries_of}
 use Rattle.name_entries.specs.LineNames.{shows}
 use Rattle.name_entries.specs.LineEntries.{line_entries_of}
-use Rattle.coordinates.specs.declared.refusal.Refusal.{Refusal}
 use Rattle.coordinates.specs.declared.refusal.Fault.{Fault}
 use Rattle.name_lists.specs.Chains.{places_of, Chain, Chained}
 

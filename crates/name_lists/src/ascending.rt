@@ -1,8 +1,9 @@
 // The lists of all explicit lines from entries whose lines never fall: the entries of a line are one part of them.
-ghost use Rattle.std.specs.Prelude.{◌≡◌, true, ◌≤◌, length};
+ghost use Rattle.std.specs.Prelude.{◌≡◌, true};
 ghost use Rattle.name_lists.specs.Ascending.{ascends, count_up_to};
 ghost use Rattle.name_lists.specs.Lists.{lists, Written};
 
+use crate::explicit::{ExplicitNames, MOST_ENTRIES};
 use crate::line::write_line;
 use name_entries::{NameEntry, Names};
 
@@ -32,23 +33,23 @@ fn entries_up_to(entries: &[u64], line: u32) -> usize
         .count()
 }
 
-// Writes the lists: the quickest way, for entries that ascend.
-pub(crate) fn write_ascending(names: Names, explicit: u32, words: &mut [u64]) -> usize
-    requires explicit_bound { explicit ≤ 10000 }
-    requires entries_value { ascends names.entries.now ≡ true }
-    requires entries_in_bounds { length names.entries.now ≤ length words.old }
-    ensures { Written words.old 0 (lists explicit names.entry.entries.now names.entry.store.now) words.new result }
-{
-    let mut count: usize = 0;
-    let mut at = entries_up_to(names.entries, 0);
-    for line in 1..explicit + 2 {
-        let end = at + entries_up_to(&names.entries[at..], line);
-        let own = Names {
-            entries: &names.entries[at..end],
-            store: names.store,
-        };
-        count = write_line(own, line, words, count);
-        at = end;
+impl ExplicitNames<'_> {
+    // Writes the lists: the quickest way, for entries that ascend.
+    pub(crate) fn write_ascending(self, words: &mut [u64; MOST_ENTRIES]) -> usize
+        requires { ascends self.names.entries.now ≡ true }
+        ensures { Written words.old 0 (lists self.entry.explicit self.entry.names.entries.now self.entry.names.store.now) words.new result }
+    {
+        let mut count: usize = 0;
+        let mut at = entries_up_to(self.names.entries, 0);
+        for line in 1..self.explicit + 2 {
+            let end = at + entries_up_to(&self.names.entries[at..], line);
+            let own = Names {
+                entries: &self.names.entries[at..end],
+                store: self.names.store,
+            };
+            count = write_line(own, line, words, count);
+            at = end;
+        }
+        count
     }
-    count
 }

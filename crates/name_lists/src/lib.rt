@@ -2,47 +2,41 @@
 
 #![tactic(auto)]
 
-ghost use Rattle.std.specs.Prelude.{◌≡◌, ◌≤◌, length};
+ghost use Rattle.std.specs.Prelude.{◌≡◌, length};
 ghost use Rattle.coordinates.specs.Refusals.{refused_by};
 ghost use Rattle.name_lists.specs.Lists.{answered_lists, lists, line_names_refusal, line_names_listed, Written};
 
 mod ascending;
 mod chained;
 mod chains;
+mod explicit;
 mod line;
 mod passes;
 
-use ascending::{are_ascending, write_ascending};
-use chained::write_by_chains;
+use ascending::are_ascending;
 use coordinates::Fault;
+use explicit::{ExplicitNames, MOST_ENTRIES, MOST_TRACKS};
 use name_entries::Names;
-use passes::write_by_passes;
 
 // Up to so many entries times lines, passes over the entries take less time than chains.
 const FEW: usize = 2048;
 
-// The most entries of an axis, and the most explicit tracks.
-const MOST_ENTRIES: usize = 4096;
-
-const MOST_TRACKS: u32 = 10000;
-
 // The bytes of a line-name store.
 const STORE_BYTES: usize = 32768;
 
-// Writes the lists of the explicit lines one after the other: the quickest way for these entries.
-fn write_lists(names: Names, explicit: u32, words: &mut [u64]) -> usize
-    requires explicit_bound { explicit ≤ 10000 }
-    requires entries_len_bound { length names.entries.now ≤ 4096 }
-    requires entries_in_bounds { length names.entries.now ≤ length words.old }
-    ensures { Written words.old 0 (lists explicit names.entry.entries.now names.entry.store.now) words.new result }
-{
-    if are_ascending(names.entries) {
-        return write_ascending(names, explicit, words);
+impl ExplicitNames<'_> {
+    // Writes the lists of the explicit lines one after the other: the quickest way for these entries.
+    fn write_lists(self, words: &mut [u64; MOST_ENTRIES]) -> usize
+        ensures { Written words.old 0 (lists self.entry.explicit self.entry.names.entries.now self.entry.names.store.now) words.new result }
+    {
+        if are_ascending(self.names.entries) {
+            return self.write_ascending(words);
+        }
+        if self.names.entries.len() <= FEW / (self.explicit as usize + 1) {
+            return self.write_by_passes(words);
+        }
+        self.write_by_chains(words)
     }
-    if names.entries.len() <= FEW / (explicit as usize + 1) {
-        return write_by_passes(names, explicit, words);
-    }
-    write_by_chains(names, explicit, words)
 }
 
 // Whether the lists can be given.
@@ -72,5 +66,5 @@ pub fn detailed_line_names(
     ensures { record { answer = answered_lists result; words = words.new } ≡ line_names_listed explicit names.entry.entries.now names.entry.store.now words.old }
 {
     check_lists(explicit, names.entries.len(), names.store.len())?;
-    Ok(write_lists(names, explicit, words) as u64)
+    Ok(ExplicitNames { names, explicit }.write_lists(words) as u64)
 }

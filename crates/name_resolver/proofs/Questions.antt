@@ -6,11 +6,10 @@ use Prim.Native.Nat.{ℕ, zero, suc, pred, ◌+◌, ◌≤◌, max, min}
 use lib.IntN.{ℤ, pos, negsuc, ◌+ℤ◌, ◌-ℤ◌}
 use Rattle.coordinates.specs.Lines.{held, outside, to_origin_zero, to_grid_line}
 use Rattle.coordinates.specs.Refusals.{no_refusal}
-use Rattle.coordinates.specs.declared.axis.Axis.{Axis}
 use Rattle.name_rules.specs.Css.{Bytes, Side, start, end, suffix, Placement, auto, line, named, span, nspan, Resolved, at_line}
 use Rattle.name_rules.specs.Rule.{Seek, at, left, seek, settle, up_from, marks, or_first, found, forwards, backwards, span_counted}
-use Rattle.name_rules.specs.Rule.{named?, line_at, numbered, beside, resolved, resolve, line_held, beside_held, mark_of, held_ends}
-use Rattle.name_lines.specs.Areas.{side_of, axis_names, bears, bears_in}
+use Rattle.name_rules.specs.Rule.{line_at, numbered, beside, resolved, resolve, line_held, beside_held, mark_of, held_ends}
+use Rattle.name_lines.specs.Areas.{side_of}
 use Rattle.name_lines.specs.Suffixes.{side_edge}
 use Rattle.name_lines.specs.Marks.{back}
 use Rattle.name_lines.specs.declared.GridAreaEnd.{GridAreaEnd}
@@ -30,12 +29,6 @@ use Rattle.name_resolver.specs.declared.GridPlacement.TheVariants as Written
 use Rattle.name_resolver.proofs.Integers.{grid_line_answer_lem, origin_zero_answer_lem, conversion_mark}
 use Rattle.name_resolver.proofs.Finding.{forwards_first, backwards-line}
 use Rattle.std.specs.Prelude.{None}
-
--- which lines bear a name, whatever the explicit count
-pub named-bears : (n : ℕ) (axis : Axis) (entries store edges areas areastore : List ℕ)
-    → bears_in axis entries store edges areas areastore ≡ named? (axis_names n axis entries store edges areas areastore)
-unfolding named? bears
-named-bears n axis entries store edges areas areastore = refl
 
 -- the edge of an area at a side
 edge-found : (explicit : ℕ) (names : Bytes → ℕ → Bool) (nm : Bytes) (s : Side)

@@ -1,7 +1,6 @@
 -- Placements as written and as resolved (document 01, "Panel sheet": kinds `auto line named span nspan`, each with its number).
 use Rattle.std.specs.Prelude.{ℕ, false, cond, List, leb, ℤ, pos, take, drop, Result, Ok, Err}
-use Rattle.coordinates.specs.Refusals.{no_refusal, refusal_of, number_of, count}
-use Rattle.coordinates.specs.declared.refusal.Refusal.{Refusal}
+use Rattle.coordinates.specs.Refusals.{Refusal, no_refusal, refusal_of, number_of, count}
 use Rattle.coordinates.specs.declared.refusal.Fault.{Fault}
 use Rattle.name_rules.specs.Css as Css
 use Rattle.name_rules.specs.Css.{Bytes, AxisNames}

@@ -11,7 +11,7 @@ use coordinates::{OriginZeroLine, signed};
 use name_lines::GridAreaEnd;
 
 // How the lines of a name are counted: on from a line or back from one, passing over so many.
-#[derive(Clone, Copy)]
+#[derive(Clone, Copy, Debug, PartialEq, Eq)]
 pub enum Count {
     Forwards(Signed, u32),
     Backwards(Signed, u32),

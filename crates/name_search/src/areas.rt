@@ -10,6 +10,7 @@ use crate::marks::{lies_in, mark_line};
 use crate::{DrawnAreas, Sought};
 use coordinates::Axis;
 use name_entries::NameEntry;
+use name_entries::bytes::same_bytes;
 use name_entries::entry::name_in;
 use name_lines::GridAreaEnd;
 
@@ -58,7 +59,7 @@ fn nearest_area(
 {
     let number = edge_in(sought.axis, end, word);
     let near = nearer(sought.way, sought.from, number, best);
-    if near < best && name_in(store, NameEntry::from(area)) == name {
+    if near < best && same_bytes(name_in(store, NameEntry::from(area)), name) {
         return near;
     }
     best
@@ -95,7 +96,9 @@ fn mark_area(
     ensures { Adds marks.old marks.new (λ k. edged? name.now (side_of end) (suc (sought.from + k)) (area_of sought.axis word area store.now)) }
 {
     let number = edge_in(sought.axis, end, word);
-    if lies_in(sought.from, marks.len(), number) && name_in(store, NameEntry::from(area)) == name {
+    if lies_in(sought.from, marks.len(), number)
+        && same_bytes(name_in(store, NameEntry::from(area)), name)
+    {
         mark_line(marks, sought.from, number);
     }
 }

@@ -1,12 +1,12 @@
 -- Entries placed one after the other in a table.
 use mathlib.Core.Path.{◌≡◌, refl, ◌∙◌}
 use mathlib.Core.List.{List, [], ◌∷◌, ◌++◌, map}
-use Prim.Native.Nat.{ℕ, zero, suc, ◌+◌, ◌-◌, ◌*◌, ◌≤◌, ◌<◌}
+use Prim.Native.Nat.{ℕ, zero, suc, ◌+◌, ◌-◌, ◌*◌, ◌≤◌}
 use native.Mathlib.Nat.{suc-mul}
-use native.Mathlib.Numerals.{add-one}
 use native.Mathlib.Omega.{arith}
-use lib.ListN.{length, get_or, take, drop, set, length-map, length-drop, drop_of_length-le}
-use lib.Seq.{drop-cons, sets, length-take-le}
+use lib.ListN.{length, take, drop, set, length-map, length-drop}
+use lib.Seq.{sets, length-take-le}
+use Rattle.std.proofs.lemmas.List.{map-append}
 use Rattle.name_entries.specs.declared.NameEntry.{NameEntry}
 use Rattle.name_template.specs.declared.NameRecord.{NameRecord}
 use Rattle.name_template.specs.declared.ComponentNames.{ComponentNames}
@@ -28,10 +28,6 @@ module _ (w : ℕ) (r : NameRecord) (e : r ≡ record_of w) where
   unfolding record_of
   small-length = rw e (omega arith)
 
-pub words_append : (l m : List NameEntry) → map entry_word (l ++ m) ≡ map entry_word l ++ map entry_word m
-words_append [] m = refl
-words_append (e ∷ l) m = rw (words_append l m)
-
 pub sets_append : (d : List ℕ) (o : ℕ) (l m : List ℕ) → sets d o (l ++ m) ≡ sets (sets d o l) (o + length l) m
 sets_append d o [] m = let e : o + 0 ≡ o = omega arith in rw e
 sets_append d o (x ∷ l) m = let e : o + suc (length l) ≡ suc o + length l = omega arith in rw e (sets_append (set d o x) (suc o) l m)
@@ -41,16 +37,7 @@ pub placed-append : (d : List ℕ) (o : ℕ) (l m : List NameEntry)
     → sets d o (map entry_word (l ++ m)) ≡ sets (sets d o (map entry_word l)) (o + length l) (map entry_word m)
 placed-append d o l m =
     let e : length (map entry_word l) ≡ length l = length-map l entry_word in
-    rw (words_append l m, sets_append d o (map entry_word l) (map entry_word m), e)
-
-module _ (line : ℕ) (d names : List ℕ) (o j : ℕ) where
-  pub placed-next : j < length names
-      → sets d o (map entry_word (entries_on line (drop j names)))
-      ≡ sets (set d o (entry_word (entry_on line (get_or names j 0)))) (o + 1) (map entry_word (entries_on line (drop (j + 1) names)))
-  placed-next h = rw (drop-cons names j 0 h, add-one o, add-one j)
-
-  pub placed_end : length names ≤ j → sets d o (map entry_word (entries_on line (drop j names))) ≡ d
-  placed_end h = rw (drop_of_length-le names h)
+    rw (map-append entry_word l m, sets_append d o (map entry_word l) (map entry_word m), e)
 
 pub one_less : (n m : ℕ) → (n ≡ 0 → ⊥) → n * m ≡ (n - 1) * m + m
 one_less zero m out = absurd (out refl)

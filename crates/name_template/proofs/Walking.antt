@@ -141,17 +141,21 @@ module _ (names : List ℕ) (at w k line repetitions : ℕ) (r : ComponentNames)
       rw (met-written components, placed-append d o (component_entries names at r line) rest, met-count)
 
   -- lines stay small
-  pub met-line : (b : ℕ) → w < 18446744073709551616 → line ≤ b → 10000 ≤ b → r.line ≤ b + 65536
+  few-tracks : r.tracks ≤ 65535 → (component_of w).length ≤ 65535
+  unfolding component_names
+  few-tracks f = rw met at f
+
+  pub met-line : (b : ℕ) → r.tracks ≤ 65535 → line ≤ b → 10000 ≤ b → r.line ≤ b + 65536
   unfolding component_names
   met-line b f h g =
-      let s = component-small w f in
+      let s = few-tracks f in
       let t = line_bound (times_of repetitions (component_of w).count) line (component_of w).length b h g in
       rw met (omega arith)
 
-  pub met-last : (b : ℕ) → w < 18446744073709551616 → line ≤ b → 10000 ≤ b → line + r.times * r.tracks ≤ b + 65535
+  pub met-last : (b : ℕ) → r.tracks ≤ 65535 → line ≤ b → 10000 ≤ b → line + r.times * r.tracks ≤ b + 65535
   unfolding component_names
   met-last b f h g =
-      let s = component-small w f in
+      let s = few-tracks f in
       let n = times_of repetitions (component_of w).count in
       let t = after_bound n line (component_of w).length b h g in
       let e = after-written n line (component_of w).length in
@@ -163,14 +167,14 @@ pub record Stands (names : List ℕ) (at line k : ℕ) : Type 0 where
   pub low : line ≤ 10001 + 65536 * k
 
 pub stands-next : (names : List ℕ) (at w k line repetitions : ℕ) (r : ComponentNames) → r ≡ component_names names at w k line repetitions
-    → w < 18446744073709551616 → Stands names at line k → Stands names r.inside r.line (k + 1)
+    → r.tracks ≤ 65535 → Stands names at line k → Stands names r.inside r.line (k + 1)
 stands-next names at w k line repetitions r met f h =
     let t = met-line names at w k line repetitions r met h.placed (10001 + 65536 * k) f h.low (omega arith) in
     record { placed = met-within names at w k line repetitions r met h.placed; low = omega arith }
 
 -- the next component can be written where there is room for what remains
 pub writable : (names : List ℕ) (at w k line repetitions : ℕ) (r : ComponentNames) → r ≡ component_names names at w k line repetitions
-    → w < 18446744073709551616 → Stands names at line k → k ≤ 256 → (room place : ℕ) → place + component_count at r ≤ room → Writable names at r line room place
+    → r.tracks ≤ 65535 → Stands names at line k → k ≤ 256 → (room place : ℕ) → place + component_count at r ≤ room → Writable names at r line room place
 writable names at w k line repetitions r met f h few room place fits =
     let t = met-last names at w k line repetitions r met h.placed (10001 + 65536 * k) f h.low (omega arith) in
     record {

@@ -1,8 +1,7 @@
 -- The template's names written out (document 01, layer 4; named.rs, `NamedLineResolver::new`). Each entry shares the bytes of its record.
 use Rattle.std.specs.Prelude.{ℕ, zero, suc, ◌+◌, ◌-◌, true, false, cond, List, [], ◌∷◌, ◌++◌, map, ltb, length, Result, Ok, Err}
 use Rattle.std.proofs.lemmas.List.Edits.{sets}
-use Rattle.coordinates.specs.Refusals.{no_refusal, refusal_of, number_of}
-use Rattle.coordinates.specs.declared.refusal.Refusal.{Refusal}
+use Rattle.coordinates.specs.Refusals.{Refusal, no_refusal, refusal_of, number_of}
 use Rattle.coordinates.specs.declared.refusal.Fault.{Fault}
 use Rattle.template_rules.specs.Template.{component_of}
 use Rattle.template_rules.specs.declared.RepetitionCount.{RepetitionCount}

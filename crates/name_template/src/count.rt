@@ -2,7 +2,7 @@
 ghost use Rattle.std.specs.Prelude.{◌≡◌, ◌+◌, ◌*◌, ◌≤◌, min, length};
 ghost use Rattle.name_template.specs.Writing.{written_entries};
 
-use crate::component::{component_names, end_of_names};
+use crate::TemplateNames;
 
 // A count and so many names more, so many times, held at 4,097.
 fn held_sum(count: u64, names: u64, times: u64) -> u64
@@ -12,21 +12,23 @@ fn held_sum(count: u64, names: u64, times: u64) -> u64
     (count + times.min(4097) * names.min(4097)).min(4097)
 }
 
-// The number of entries that the records give, held at 4,097. No record names a component from 256 on.
-pub fn count_written_names(names: &[u64], components: &[u64], repetitions: u32) -> u32
-    ensures { result ≡ min 4097 (length (written_entries names.now components.now repetitions)) }
-{
-    let last = components.len().min(256);
-    let mut count: u64 = 0;
-    let mut at: usize = 0;
-    let mut line: u64 = 1;
-    for k in 0..last {
-        let c = component_names(names, at, components[k], k as u64, line, repetitions as u64);
-        let outside = held_sum(count, (c.before - at) as u64, 1);
-        count = held_sum(outside, (c.inside - c.before) as u64, c.times);
-        at = c.inside;
-        line = c.line;
+impl TemplateNames<'_> {
+    // The number of entries that the records give, held at 4,097. No record names a component from 256 on.
+    pub fn count_names(self) -> u32
+        ensures { result ≡ min 4097 (length (written_entries self.entry.names.now self.entry.components.now self.entry.repetitions)) }
+    {
+        let last = self.components.len().min(256);
+        let mut count: u64 = 0;
+        let mut at: usize = 0;
+        let mut line: u64 = 1;
+        for k in 0..last {
+            let c = self.component_names(at, k, line);
+            let outside = held_sum(count, (c.before - at) as u64, 1);
+            count = held_sum(outside, (c.inside - c.before) as u64, c.times);
+            at = c.inside;
+            line = c.line;
+        }
+        let end = self.end_of_names(at, last as u64, false);
+        held_sum(count, (end - at) as u64, 1) as u32
     }
-    let end = end_of_names(names, at, last as u64, false);
-    held_sum(count, (end - at) as u64, 1) as u32
 }

@@ -3,10 +3,18 @@
 #![tactic(auto)]
 
 mod component;
-pub mod count;
+mod count;
 pub mod record;
 mod repeat;
-pub mod write_out;
+mod write_out;
+
+// The names of a template: the words of its name records and of its components, and the repetitions found for its automatic repeat.
+#[derive(Clone, Copy)]
+pub struct TemplateNames<'a> {
+    pub names: &'a [u64],
+    pub components: &'a [u64],
+    pub repetitions: u32,
+}
 
 // A name record of a sheet: the component that it stands before (place 0), or in, after `place - 1` of its tracks,
 // and where the bytes of its name lie in the store.

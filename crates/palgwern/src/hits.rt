@@ -8,19 +8,16 @@ use crate::axis_in;
 use coordinates::Fault;
 use library_numbers::CountAnswer;
 use panel_hits::{Around, Span};
-use panel_positions::positions_on_no_axis;
-use panel_tables::Grid;
+use panel_positions::{SpanBits, positions_on_no_axis};
 use panel_tables::region::{PANEL_BYTES, PANEL_WORDS};
+use panel_tables::{Grid, LentPanel};
 use placement_hits::list::MOST_HITS;
 
 // The count of a list, or its refusal.
 fn hits_count(found: Result<u32, Fault>) -> CountAnswer
     ensures { result ≡ record { number = (answered_hits found).number; count = (answered_hits found).count } }
 {
-    match found {
-        Ok(count) => CountAnswer::from(Ok(u64::from(count))),
-        Err(fault) => CountAnswer::from(Err(fault)),
-    }
+    CountAnswer::from(found.map(u64::from))
 }
 
 // The placements of an axis with both lines within a span of pixels, ends included, by their indexes.
@@ -41,19 +38,16 @@ pub extern "C" fn palgwern_placements_within(
     ensures { record { answer = result; hits = hits.new } ≡ hits_within grid words.now (lent_in words.now bytes.now columnstore.now rowstore.now) axis items.now low high hits.old }
 {
     let Ok(axis) = axis_in(axis) else {
-        return CountAnswer::from(Err(positions_on_no_axis(low, high)));
+        return CountAnswer::from(Err(positions_on_no_axis(SpanBits { low, high })));
     };
-    let span = Span { axis, low, high };
-    hits_count(panel_hits::placements_within(
-        grid,
+    let lent = LentPanel {
         words,
         bytes,
         columnstore,
         rowstore,
-        items,
-        span,
-        hits,
-    ))
+    };
+    let span = Span { axis, low, high };
+    hits_count(panel_hits::placements_within(grid, lent, items, span, hits))
 }
 
 // The placements of an axis with a grid line strictly between their own, by their indexes.
@@ -72,18 +66,17 @@ pub extern "C" fn palgwern_placements_around(
 ) -> CountAnswer
     ensures { record { answer = result; hits = hits.new } ≡ hits_around grid words.now (lent_in words.now bytes.now columnstore.now rowstore.now) axis items.now line hits.old }
 {
-    let Ok(axis) = axis_in(axis) else {
-        return CountAnswer::from(Err(Fault::Count));
-    };
-    let around = Around { axis, line };
-    hits_count(panel_hits::placements_around(
-        grid,
+    let lent = LentPanel {
         words,
         bytes,
         columnstore,
         rowstore,
-        items,
-        around,
-        hits,
-    ))
+    };
+    match axis_in(axis) {
+        Ok(axis) => {
+            let around = Around { axis, line };
+            hits_count(panel_hits::placements_around(grid, lent, items, around, hits))
+        }
+        Err(fault) => CountAnswer::from(Err(fault)),
+    }
 }

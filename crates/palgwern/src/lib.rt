@@ -11,8 +11,9 @@ ghost use Rattle.coordinates.specs.declared.refusal.Fault.TheVariants.{Count};
 ghost use Rattle.panel_tables.specs.Regions.{area_words_in, placement_words_in};
 ghost use Rattle.panel_rules.specs.Calls.{name_tables_in, area_table_in, placement_table_in};
 ghost use Rattle.panel_rules.specs.Placing.{resolve_placement};
-ghost use Rattle.library_numbers.specs.Answers.{PanelEntered, name_entered, size_of, line_count_of, record_count_of, placement_numbers};
-ghost use Rattle.palgwern.specs.Names.{refused_name, ShowsName};
+ghost use Rattle.panel_names.specs.Lent.{lent_tables};
+ghost use Rattle.library_numbers.specs.Answers.{answered_name, PanelEntered, name_entered, size_of, line_count_of, record_count_of, placement_numbers};
+ghost use Rattle.palgwern.specs.Names.{ShowsName};
 ghost use Rattle.library_numbers.specs.Records.{WrittenRun, records_written};
 ghost use Rattle.library_names.specs.Lists.{lists_written};
 ghost use Rattle.panel_resolving.specs.Placements.{WrittenNumbers, placements_written};
@@ -22,22 +23,20 @@ mod hits;
 pub mod resize;
 
 use axis_tables::layout::AXIS_BYTES;
-use coordinates::refusal::COUNT;
 use coordinates::{Axis, Fault};
 use library_names::{LINE_NAME_RUN, write_lists};
 use library_numbers::axis::entry_in_no_axis;
-use library_numbers::{
-    CountAnswer, NameAnswer, PanelAnswer, PlacementNumbers, SizeAnswer, numbers, part,
-};
+use library_numbers::{CountAnswer, NameAnswer, PanelAnswer, PlacementNumbers, SizeAnswer, part};
 use library_records::write_run;
 use panel_calls::size::{explicit_size, line_count};
 use panel_calls::track::record_count;
+use panel_names::LentNames;
 use panel_names::entering::enter_name;
 use panel_names::naming::line_entry;
 use panel_resolving::placing::resolve_placement;
 use panel_resolving::run::{PLACEMENT_RUN, write_placements};
 use panel_tables::region::{PANEL_BYTES, PANEL_WORDS};
-use panel_tables::{Grid, Panel};
+use panel_tables::{Grid, LentPanel, Panel};
 
 // The number of the rows, the last of an axis.
 const ROWS: u32 = 1;
@@ -97,19 +96,7 @@ pub extern "C" fn palgwern_enter_name(
 pub extern "C" fn palgwern_explicit_size(grid: Grid, axis: u32) -> SizeAnswer
     ensures { result ≡ size_of grid axis }
 {
-    let Ok(axis) = axis_in(axis) else {
-        return SizeAnswer {
-            number: COUNT,
-            repetitions: 0,
-            explicit: 0,
-        };
-    };
-    let size = explicit_size(grid, axis);
-    SizeAnswer {
-        number: 0,
-        repetitions: size.repetitions,
-        explicit: size.explicit,
-    }
+    SizeAnswer::from(axis_in(axis).map(|axis| explicit_size(grid, axis)))
 }
 
 // How many lists of line names an axis has.
@@ -118,10 +105,7 @@ pub extern "C" fn palgwern_explicit_size(grid: Grid, axis: u32) -> SizeAnswer
 pub extern "C" fn palgwern_line_count(grid: Grid, axis: u32) -> CountAnswer
     ensures { result ≡ line_count_of grid axis }
 {
-    let Ok(axis) = axis_in(axis) else {
-        return CountAnswer::from(Err(Fault::Count));
-    };
-    CountAnswer::from(Ok(line_count(grid, axis)))
+    CountAnswer::from(axis_in(axis).map(|axis| line_count(grid, axis)))
 }
 
 // How many records an axis has.
@@ -130,10 +114,7 @@ pub extern "C" fn palgwern_line_count(grid: Grid, axis: u32) -> CountAnswer
 pub extern "C" fn palgwern_record_count(grid: Grid, axis: u32) -> CountAnswer
     ensures { result ≡ record_count_of grid axis }
 {
-    let Ok(axis) = axis_in(axis) else {
-        return CountAnswer::from(Err(Fault::Count));
-    };
-    CountAnswer::from(Ok(u64::from(record_count(grid, axis))))
+    CountAnswer::from(axis_in(axis).map(|axis| u64::from(record_count(grid, axis))))
 }
 
 // Placement `index` with its names resolved.
@@ -148,8 +129,13 @@ pub extern "C" fn palgwern_resolve_placement(
 ) -> PlacementNumbers
     ensures { result ≡ placement_numbers (resolve_placement grid (name_tables_in words.now columnstore.now rowstore.now) (area_table_in words.now bytes.now) (placement_table_in words.now bytes.now) index) }
 {
-    let placed = resolve_placement(grid, words, bytes, columnstore, rowstore, index);
-    numbers::placement_numbers(placed)
+    let lent = LentPanel {
+        words,
+        bytes,
+        columnstore,
+        rowstore,
+    };
+    PlacementNumbers::from(resolve_placement(grid, lent, index))
 }
 
 // Placements from `first` on with their names resolved, as many as there are and fit: eight numbers each, those of PlacementNumbers.
@@ -165,18 +151,32 @@ pub extern "C" fn palgwern_resolve_placements(
 ) -> CountAnswer
     ensures { record { answer = result; numbers = numbers.new } ≡ placements_written grid (name_tables_in words.now columnstore.now rowstore.now) (area_table_in words.now bytes.now) (placement_table_in words.now bytes.now) first numbers.old }
 {
-    CountAnswer::from(write_placements(grid, words, bytes, columnstore, rowstore, first, numbers))
+    let lent = LentPanel {
+        words,
+        bytes,
+        columnstore,
+        rowstore,
+    };
+    CountAnswer::from(write_placements(grid, lent, first, numbers))
 }
 
-// The number of a fault in place of a name.
-fn refused_name(fault: Fault) -> NameAnswer
-    ensures { result ≡ refused_name (number_of fault) }
+// Where a name of a line of an axis lies, once the number of the axis and the stores are seen to be right.
+fn place_name(
+    grid: Grid,
+    lent: LentNames,
+    axis: u32,
+    line: u32,
+    place: u32,
+) -> Result<NameAnswer, Fault>
+    ensures { ShowsName grid (lent_tables lent.entry) axis line place (answered_name result) }
 {
-    NameAnswer {
-        number: u32::from(fault),
-        offset: 0,
-        length: 0,
+    let axis = axis_in(axis)?;
+    if lent.columnstore.len().min(lent.rowstore.len()) < AXIS_BYTES {
+        return Err(Fault::Short);
     }
+    let entry = line_entry(grid, lent, axis, line, place);
+    let bytes = part::store_length(axis, lent.columnstore.len(), lent.rowstore.len());
+    Ok(part::name_part(bytes, entry))
 }
 
 // Where a name of a line of an axis lies in the axis's store, by its place from 0.
@@ -192,15 +192,12 @@ pub extern "C" fn palgwern_line_name(
 ) -> NameAnswer
     ensures { ShowsName grid (name_tables_in words.now columnstore.now rowstore.now) axis line place result }
 {
-    let Ok(axis) = axis_in(axis) else {
-        return refused_name(Fault::Count);
+    let lent = LentNames {
+        words,
+        columnstore,
+        rowstore,
     };
-    if columnstore.len().min(rowstore.len()) < AXIS_BYTES {
-        return refused_name(Fault::Short);
-    }
-    let entry = line_entry(grid, words, columnstore, rowstore, axis, line, place);
-    let bytes = part::store_length(axis, columnstore.len(), rowstore.len());
-    part::name_part(bytes, entry)
+    NameAnswer::from(place_name(grid, lent, axis, line, place))
 }
 
 // All line names of an axis, one list for each explicit line after the other: a word for each name, its line, its offset in the
@@ -217,10 +214,15 @@ pub extern "C" fn palgwern_line_names(
 ) -> CountAnswer
     ensures { record { answer = result; words = names.new } ≡ lists_written grid (name_tables_in words.now columnstore.now rowstore.now) axis names.old }
 {
-    let Ok(axis) = axis_in(axis) else {
-        return CountAnswer::from(Err(Fault::Count));
+    let lent = LentNames {
+        words,
+        columnstore,
+        rowstore,
     };
-    CountAnswer::from(write_lists(grid, words, columnstore, rowstore, axis, names))
+    match axis_in(axis) {
+        Ok(axis) => CountAnswer::from(write_lists(grid, lent, axis, names)),
+        Err(fault) => CountAnswer::from(Err(fault)),
+    }
 }
 
 // Records of an axis from `first` on, as many as there are and fit: three words each, kind, minimum and maximum.
@@ -236,8 +238,8 @@ pub extern "C" fn palgwern_records(
 ) -> CountAnswer
     ensures { record { answer = result; words = records.new } ≡ records_written grid words.now axis items.now first records.old }
 {
-    let Ok(axis) = axis_in(axis) else {
-        return CountAnswer::from(Err(Fault::Count));
-    };
-    CountAnswer::from(write_run(grid, words, axis, items, first, records))
+    match axis_in(axis) {
+        Ok(axis) => CountAnswer::from(write_run(grid, words, axis, items, first, records)),
+        Err(fault) => CountAnswer::from(Err(fault)),
+    }
 }

@@ -3,7 +3,6 @@ ghost use Rattle.std.specs.Prelude.{◌≡◌};
 ghost use Rattle.palgwern.specs.Resize.{least_resize_of};
 
 use crate::axis_in;
-use coordinates::Fault;
 use least_resize::ResizeAnswer;
 use panel_tables::Grid;
 use panel_tables::region::PANEL_WORDS;
@@ -18,8 +17,5 @@ pub extern "C" fn palgwern_least_resize(
 ) -> ResizeAnswer
     ensures { result ≡ least_resize_of grid words.now axis }
 {
-    let Ok(axis) = axis_in(axis) else {
-        return ResizeAnswer::from(Err(Fault::Count));
-    };
-    ResizeAnswer::from(panel_resize::least_resize(grid, words, axis))
+    ResizeAnswer::from(axis_in(axis).and_then(|axis| panel_resize::least_resize(grid, words, axis)))
 }

@@ -1,19 +1,28 @@
 -- Lines are written one after the other until none is left, or any line might not fit.
 use Prim.Native.Nat.{ℕ, ◌+◌, ◌-◌, ◌≤◌, ◌<◌}
 use mathlib.Core.Path.{◌≡◌, refl, sym, ap, ap₂, ◌∙◌}
-use mathlib.Core.Bool.{Bool, true, false, cond, not}
+use mathlib.Core.Bool.{Bool, true, false, not}
 use mathlib.Core.List.{List, [], ◌∷◌, ◌++◌, append-nil, append_assoc}
 use native.Mathlib.Omega.{arith}
-use lib.Dec.{eqb}
+use borrow.Author.Tests.{ne_eqb}
 use lib.ListN.{length, take, drop, length-append, length-drop, drop_of_length-le}
 use lib.Seq.{sets, sets-eq, length-sets, drop-drop, take_all}
 use Rattle.name_template.proofs.Placing.{sets_append}
+use Rattle.std.specs.Prelude.{Result, Ok, Err}
+use Rattle.coordinates.specs.Refusals.{number_of}
+use Rattle.coordinates.proofs.Faults.{fault_some}
+use Rattle.panel_tables.specs.declared.Panel.{Panel}
+use Rattle.panel_tables.specs.Written.{zero_panel}
+use Rattle.sheet_rules.specs.declared.SheetFault.{SheetFault}
+use Rattle.sheet_rules.specs.declared.SheetFault.TheVariants.{Overlap as Overlaps, Line}
+use Rattle.sheet_rules.specs.Answers.{answered_sheet, refused_with}
+use Rattle.sheet_rules.specs.Panels.{Tables}
 use Rattle.sheet_rules.specs.Read.{SheetRead}
 use Rattle.coordinates.specs.declared.axis.Axis.TheVariants.{Column, Row}
 use Rattle.panel_text.specs.Written.{WritesLine}
 use Rattle.panel_answer.specs.declared.AnswerLine.{AnswerLine}
 use Rattle.panel_answer.specs.declared.AnswerLine.TheVariants.{Refused, Size, Record, Place, End}
-use Rattle.panel_answer.specs.Answer.{GridHeld, answer_lines, text_of, lines_of}
+use Rattle.panel_answer.specs.Answer.{GridHeld, text_of, lines_of}
 use Rattle.panel_answer.specs.Walk.{is_end, first_line, line_text, line_after}
 use Rattle.panel_answer.specs.declared.Filled.{Filled}
 use Rattle.panel_answer.specs.Text.{lines_from, text_from, WritesUpTo, FillsText}
@@ -68,16 +77,21 @@ at-end (Record a i s) e = absurd (true_false (sym e))
 at-end (Place i) e = absurd (true_false (sym e))
 at-end End e = refl
 
+-- what a sheet was read as, and what is lent then
+abbrev pub read_as : Result Panel SheetFault → Tables → SheetRead
+read_as read t = record { answer = answered_sheet read; tables = t }
+
+-- the text of a sheet that is refused
+refused-text : (f : SheetFault) (h : GridHeld) → text_from h (Refused f) ≡ text_of (refused_line (refused_with f).refusal ∷ [])
+refused-text f h = text-next h (Refused f) (omega arith) ∙ ap (λ (z : List ℕ). refused_line (refused_with f).refusal ++ z) (text-end h)
+
 -- the text of what a sheet was read as
-pub begun_text : (r : SheetRead) → text_from (record { grid = r.answer.panel.grid; tables = r.tables }) (first_line r.answer) ≡ text_of (lines_of r)
-begun_text r = go (eqb r.answer.refusal.number 0)
-  where
-    go : (t : Bool) → text_from (record { grid = r.answer.panel.grid; tables = r.tables }) (cond t (Size Column) (Refused r.answer.refusal))
-        ≡ text_of (cond t (answer_lines (record { grid = r.answer.panel.grid; tables = r.tables })) (refused_line r.answer.refusal ∷ []))
-    go true = text-whole (record { grid = r.answer.panel.grid; tables = r.tables })
-    go false =
-        text-next (record { grid = r.answer.panel.grid; tables = r.tables }) (Refused r.answer.refusal) (omega arith)
-        ∙ ap (λ (z : List ℕ). refused_line r.answer.refusal ++ z) (text-end (record { grid = r.answer.panel.grid; tables = r.tables }))
+pub begun_text : (read : Result Panel SheetFault) (t : Tables)
+    → text_from (record { grid = (answered_sheet read).panel.grid; tables = t }) (first_line read) ≡ text_of (lines_of (read_as read t))
+begun_text (Ok p) t = text-whole (record { grid = p.grid; tables = t })
+begun_text (Err (Overlaps p)) t = refused-text (Overlaps p) (record { grid = zero_panel.grid; tables = t })
+begun_text (Err (Line f)) t =
+    rw (ne_eqb (number_of f.fault) 0 (fault_some f.fault)) (refused-text (Line f) (record { grid = zero_panel.grid; tables = t }))
 
 module _ (out₀ : List ℕ) (h : GridHeld) (at : AnswerLine) where
   pub none_written : WritesUpTo out₀ h at at out₀ 0

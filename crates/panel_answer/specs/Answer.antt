@@ -6,7 +6,8 @@ use Rattle.track_rules.specs.declared.GridTrack.{GridTrack}
 use Rattle.track_rules.specs.Records.{listed, records_in, records_of}
 use Rattle.panel_tables.specs.declared.Grid.{Grid}
 use Rattle.panel_tables.specs.Axes.{grid_in}
-use Rattle.sheet_rules.specs.Panels.{Tables}
+use Rattle.panel_tables.specs.declared.LentPanel.{LentPanel}
+use Rattle.sheet_rules.specs.Panels.{Tables, tables_in}
 use Rattle.sheet_rules.specs.Read.{SheetRead, read_sheet}
 use Rattle.panel_rules.specs.Placing.{PlacementAnswer}
 use Rattle.panel_rules.specs.Calls.{words_in, template_in, spares_in, axis_tracks, explicit_size}
@@ -18,6 +19,10 @@ use Rattle.panel_text.specs.Lines.{size_line, record_line, place_line, refused_l
 pub record GridHeld : Type 0 where
   pub grid : Grid
   pub tables : Tables
+
+-- a grid, and what is lent of its panel
+abbrev pub held_with : Grid → LentPanel → GridHeld
+held_with grid x = record { grid = grid; tables = tables_in x.words.now x.bytes.now x.columnstore.now x.rowstore.now }
 
 -- "`size`: axis, repetitions, explicit count"
 abbrev pub size_line_of : GridHeld → Axis → List ℕ

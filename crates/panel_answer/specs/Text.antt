@@ -10,7 +10,7 @@ use Rattle.panel_answer.specs.Walk.{following, is_end}
 
 -- how many lines there are from a line on
 abbrev pub lines_from : GridHeld → AnswerLine → ℕ
-lines_from h (Refused r) = 1
+lines_from h (Refused f) = 1
 lines_from h (Size Column) = suc (record_count h Column + suc (record_count h Row + h.grid.placements))
 lines_from h (Size Row) = suc (record_count h Row + h.grid.placements)
 lines_from h (Record Column i s) = suc (record_count h Column - (i + 1) + suc (record_count h Row + h.grid.placements))

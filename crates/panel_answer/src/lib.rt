@@ -7,15 +7,16 @@ pub mod fill;
 pub mod line;
 mod place;
 
-use coordinates::{Axis, Refusal};
+use coordinates::Axis;
 use panel_tables::Grid;
+use sheet_rules::SheetFault;
 use track_rules::TrackWalk;
 
-// A line of an answer: a refusal; the size of an axis; a record of it, by its index and what is carried to it; a placement, by its
+// A line of an answer: why the sheet is refused; the size of an axis; a record of it, by its index and what is carried to it; a placement, by its
 // index; none.
-#[derive(Clone, Copy)]
+#[derive(Clone, Copy, Debug, PartialEq)]
 pub enum AnswerLine {
-    Refused(Refusal),
+    Refused(SheetFault),
     Size(Axis),
     Record(Axis, u32, TrackWalk),
     Place(u32),
@@ -23,14 +24,14 @@ pub enum AnswerLine {
 }
 
 // A sheet that was read: what answers, zeros where it is refused, and the first line of its answer.
-#[derive(Clone, Copy)]
+#[derive(Clone, Copy, Debug, PartialEq)]
 pub struct Begun {
     pub grid: Grid,
     pub first: AnswerLine,
 }
 
 // What was written of an answer: how many bytes, and the line that is next.
-#[derive(Clone, Copy)]
+#[derive(Clone, Copy, Debug, PartialEq)]
 pub struct Filled {
     pub count: usize,
     pub next: AnswerLine,

@@ -1,15 +1,18 @@
 // One line of an answer, and the line after it.
 ghost use Rattle.std.specs.Prelude.{◌≡◌};
 ghost use Rattle.panel_tables.specs.Regions.{axis_words_in, marks_in};
-ghost use Rattle.sheet_rules.specs.Panels.{tables_in};
+ghost use Rattle.sheet_rules.specs.Answers.{refused_with};
+ghost use Rattle.panel_text.specs.Lines.{refused_line};
 ghost use Rattle.panel_text.specs.Written.{WritesLine};
-ghost use Rattle.panel_answer.specs.Answer.{GridHeld};
+ghost use Rattle.panel_answer.specs.Answer.{held_with};
 ghost use Rattle.panel_answer.specs.Walk.{is_end, line_text, next_line};
 ghost use Rattle.coordinates.specs.declared.axis.Axis.TheVariants.{Column, Row};
 
 use crate::{AnswerLine, axis, place};
-use panel_tables::Grid;
+use coordinates::Fault;
 use panel_tables::region::{PANEL_BYTES, PANEL_WORDS};
+use panel_tables::{Grid, LentPanel};
+use sheet_rules::SheetFault;
 
 // Whether no line is left.
 pub fn is_end(at: AnswerLine) -> bool
@@ -18,33 +21,35 @@ pub fn is_end(at: AnswerLine) -> bool
     matches!(at, AnswerLine::End)
 }
 
+// The line of a refused sheet.
+fn put_refused(out: &mut [u8], fault: SheetFault) -> usize
+    ensures { WritesLine out.old (refused_line (refused_with fault).refusal) out.new result }
+{
+    match fault {
+        SheetFault::Overlap(overlap) => panel_text::refused_line(
+            out,
+            u32::from(Fault::Overlap),
+            overlap.line,
+        ),
+        SheetFault::Line(found) => panel_text::refused_line(
+            out,
+            u32::from(found.fault),
+            found.line,
+        ),
+    }
+}
+
 // Writes a line at the start of lent bytes and answers its length, 0 at the end.
-pub fn put_line(
-    out: &mut [u8],
-    grid: Grid,
-    words: &[u64; PANEL_WORDS],
-    bytes: &[u8; PANEL_BYTES],
-    columnstore: &[u8],
-    rowstore: &[u8],
-    at: AnswerLine,
-) -> usize
-    ensures { WritesLine out.old (line_text (record { grid = grid; tables = tables_in words.now bytes.now columnstore.now rowstore.now }) at) out.new result }
+pub fn put_line(out: &mut [u8], grid: Grid, lent: LentPanel, at: AnswerLine) -> usize
+    ensures { WritesLine out.old (line_text (held_with grid lent.entry) at) out.new result }
 {
     match at {
-        AnswerLine::Refused(refusal) => panel_text::refused_line(out, refusal),
+        AnswerLine::Refused(fault) => put_refused(out, fault),
         AnswerLine::Size(axis) => axis::put_size(out, grid, axis),
         AnswerLine::Record(axis, index, state) => axis::put_record(
-            out, grid, words, bytes, axis, index, state,
+            out, grid, lent.words, lent.bytes, axis, index, state,
         ),
-        AnswerLine::Place(index) => place::put_place(
-            out,
-            grid,
-            words,
-            bytes,
-            columnstore,
-            rowstore,
-            index,
-        ),
+        AnswerLine::Place(index) => place::put_place(out, grid, lent, index),
         AnswerLine::End => 0,
     }
 }

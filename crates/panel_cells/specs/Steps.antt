@@ -2,12 +2,12 @@
 use Rattle.std.specs.Prelude.{ℕ, zero, suc, ◌+◌, min, List, [], ◌∷◌, Bool, cond, ◌&&◌, ltb, Option, Some, None}
 use Rattle.coordinates.specs.declared.axis.Axis.TheVariants.{Column, Row}
 use Rattle.panel_tables.specs.declared.AreaEdges.{AreaEdges}
-use Rattle.panel_tables.specs.declared.EdgePair.{EdgePair}
+use Rattle.coordinates.specs.declared.line.LinePair.{LinePair}
 use Rattle.panel_tables.specs.View.{Area}
 use Rattle.panel_tables.specs.Areas.{area_at, edges_in}
 
 -- two pairs of edges have a track in common: each start is before each end
-abbrev pub meet : EdgePair → EdgePair → Bool
+abbrev pub meet : LinePair → LinePair → Bool
 meet a b = (ltb a.start a.end && ltb a.start b.end) && (ltb b.start a.end && ltb b.start b.end)
 
 -- two areas have a row and a column in common

@@ -6,20 +6,20 @@ ghost use Rattle.std.specs.Prelude.{◌≡◌};
 ghost use Rattle.panel_tables.specs.Areas.{edges_in};
 ghost use Rattle.panel_cells.specs.Steps.{meet, shares, area_number_of, first_sharing_in};
 
-use coordinates::Axis;
+use coordinates::{Axis, LinePair};
+use panel_tables::AreaEdges;
 use panel_tables::area::{MOST_AREAS, area_at};
-use panel_tables::{AreaEdges, EdgePair};
 
 // The edges of an area in an axis.
-fn edges_in(edges: AreaEdges, axis: Axis) -> EdgePair
+fn edges_in(edges: AreaEdges, axis: Axis) -> LinePair
     ensures { result ≡ edges_in edges axis }
 {
     match axis {
-        Axis::Column => EdgePair {
+        Axis::Column => LinePair {
             start: edges.columnstart,
             end: edges.columnend,
         },
-        Axis::Row => EdgePair {
+        Axis::Row => LinePair {
             start: edges.rowstart,
             end: edges.rowend,
         },
@@ -27,7 +27,7 @@ fn edges_in(edges: AreaEdges, axis: Axis) -> EdgePair
 }
 
 // Whether two pairs of edges have a track in common: each start is before each end.
-fn meet(a: EdgePair, b: EdgePair) -> bool
+fn meet(a: LinePair, b: LinePair) -> bool
     ensures { result ≡ meet a b }
 {
     (a.start < a.end && a.start < b.end) && (b.start < a.end && b.start < b.end)

@@ -7,8 +7,7 @@ use mathlib.Core.Logic.{◌⊎◌, inl, inr, ⊎_elim, ◌↔◌}
 use native.Mathlib.Omega.{arith}
 use lib.Dec.{eqb}
 use borrow.Author.Tests.{eqb-true, eqb-false}
-use Rattle.coordinates.specs.declared.refusal.Refusal.{Refusal}
-use Rattle.coordinates.specs.Refusals.{no_refusal}
+use Rattle.coordinates.specs.Refusals.{Refusal, no_refusal}
 use Rattle.panel_cells.specs.Cells.{FirstPair, CellsOnce}
 use Rattle.panel_cells.proofs.Pairs.{none_once}
 use Rattle.sheet_rules.specs.declared.Overlap.{Overlap}

@@ -9,7 +9,7 @@ use lib.Dec.{eqb, ltb}
 use Rattle.std.specs.Prelude.{Result, Ok, Err}
 use Rattle.coordinates.specs.declared.refusal.Fault.{Fault}
 use Rattle.coordinates.specs.Refusals.{number_of, refused_by, short}
-use Rattle.track_rules.proofs.Answers.{fault_some}
+use Rattle.coordinates.proofs.Faults.{fault_some}
 use Rattle.panel_positions.specs.declared.Between.{Between}
 use Rattle.panel_tables.specs.declared.Grid.{Grid}
 use Rattle.panel_rules.specs.Calls.{shorter_store}

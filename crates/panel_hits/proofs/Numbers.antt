@@ -18,7 +18,7 @@ use Rattle.panel_rules.specs.Placing.{PlacementAnswer}
 use Rattle.panel_rules.specs.Calls.{shorter_store}
 use Rattle.library_numbers.specs.Answers.{placement_numbers}
 use Rattle.panel_resolving.specs.Placements.{WrittenNumbers, numbers_of, run_numbers, numbers_refusal, numbers_count, placements_written}
-use Rattle.placement_hits.specs.Steps.{number_at, end_by, ends_at, is_hit, passing, Listed, listed_of}
+use Rattle.placement_hits.specs.Steps.{number_at, end_by, ends_at, asked_of, is_hit, passing, Listed, listed_of}
 use Rattle.placement_hits.specs.declared.Question.{Question}
 use Rattle.panel_hits.specs.Settled.{Lent, settled, counts_in, settled_hit, settled_hits}
 
@@ -37,7 +37,7 @@ module _ (numbers : List ℤ) (i : ℕ) (p : PlacementAnswer) where
   Stands = (j : ℕ) → j < 8 → number_at numbers i j ≡ get_or (numbers_of (placement_numbers p)) j (pos 0)
 
   pub hit-settled : (a : Axis) (c : TrackCounts) (q : Question) → Stands
-      → is_hit (record { axis = a; counts = c; question = q }) numbers i ≡ settled_hit a c q p
+      → is_hit (asked_of a c q) numbers i ≡ settled_hit a c q p
   unfolding is_hit settled_hit ends_at placement_numbers
   hit-settled a c q s =
       rw (s 1 (omega arith), s 2 (omega arith), s 3 (omega arith), s 4 (omega arith), s 5 (omega arith), end_back p.line.start, end_back p.line.end)
@@ -99,19 +99,19 @@ module _ (g : Grid) (l : Lent) (lent : List ℤ) where
 
   -- what is listed of it is what is listed of the settled placements
   pub run-hits : (w : WrittenNumbers) (a : Axis) (q : Question) → w ≡ placements_written g l.names l.areas l.placements 0 lent → 32768 ≤ shorter_store l.names → length lent ≡ 2048
-      → passing (is_hit (record { axis = a; counts = counts_in g a; question = q }) w.numbers) 0 (min g.placements 256) ≡ settled_hits g l a q
+      → passing (is_hit (asked_of a (counts_in g a) q) w.numbers) 0 (min g.placements 256) ≡ settled_hits g l a q
   unfolding settled_hits
   run-hits w a q e stores long =
       same-passing _ _ 0 (min g.placements 256) (λ k h b.
       let n : ℕ = min 256 (g.placements - 0) in
       let below : k < n = omega arith in
-      ap (λ (x : List ℤ). is_hit (record { axis = a; counts = counts_in g a; question = q }) x k) (run-left w e stores (omega arith))
+      ap (λ (x : List ℤ). is_hit (asked_of a (counts_in g a) q) x k) (run-left w e stores (omega arith))
       ∙ hit-settled (sets lent 0 (run g l 0 n)) k (settled g l k) a (counts_in g a) q (run-stands n (omega arith) long k below))
 
   -- the same of what the code asks with
   pub settled-listed : (w : WrittenNumbers) (a : Axis) (q : Question) (c : TrackCounts) (hits : List ℕ) (r : Listed) → c ≡ counts_in g a
       → w ≡ placements_written g l.names l.areas l.placements 0 lent → 32768 ≤ shorter_store l.names → length lent ≡ 2048
-      → r ≡ listed_of (passing (is_hit (record { axis = a; counts = c; question = q }) w.numbers) 0 (min g.placements 256)) hits
+      → r ≡ listed_of (passing (is_hit (asked_of a c q) w.numbers) 0 (min g.placements 256)) hits
       → r ≡ listed_of (settled_hits g l a q) hits
   settled-listed w a q c hits r f run stores long listed =
       listed ∙ rw f (ap (λ (list : List ℕ). listed_of list hits) (run-hits w a q run stores long))

@@ -4,6 +4,7 @@ use Rattle.coordinates.specs.declared.axis.Axis.{Axis}
 use Rattle.track_counts.specs.declared.counts.TrackCounts.{TrackCounts}
 use Rattle.name_resolver.specs.Placements.{resolved_ends}
 use Rattle.panel_tables.specs.declared.Grid.{Grid}
+use Rattle.panel_tables.specs.declared.LentPanel.{LentPanel}
 use Rattle.panel_tables.specs.Axes.{grid_in}
 use Rattle.coordinates.specs.Axes.{axis_number}
 use Rattle.panel_rules.specs.Placing.{PlacementAnswer}
@@ -21,6 +22,9 @@ pub record Lent : Type 0 where
 abbrev pub lent_in : List ℕ → List ℕ → List ℕ → List ℕ → Lent
 lent_in words bytes column_store row_store =
     record { names = name_tables_in words column_store row_store; areas = area_table_in words bytes; placements = placement_table_in words bytes }
+
+abbrev pub lent_of : LentPanel → Lent
+lent_of x = lent_in x.words.now x.bytes.now x.columnstore.now x.rowstore.now
 
 -- placement i as it is settled: what `resolve_placement` and the run of placements answer
 abbrev pub settled : Grid → Lent → ℕ → PlacementAnswer

@@ -3,16 +3,15 @@
 #![tactic(auto)]
 
 ghost use Rattle.std.specs.Prelude.{◌≡◌};
-ghost use Rattle.panel_hits.specs.Settled.{lent_in};
+ghost use Rattle.panel_hits.specs.Settled.{lent_of};
 ghost use Rattle.panel_hits.specs.Lists.{WrittenHits, answered_hits, placements_within, placements_around};
 
 mod refusal;
 mod settled;
 
 use coordinates::{Axis, Fault};
-use panel_positions::lines_within;
-use panel_tables::Grid;
-use panel_tables::region::{PANEL_BYTES, PANEL_WORDS};
+use panel_positions::{SpanBits, lines_within};
+use panel_tables::{Grid, LentPanel};
 use placement_hits::Question;
 use placement_hits::list::MOST_HITS;
 use placement_hits::place::line_place;
@@ -37,26 +36,24 @@ pub struct Around {
 // then counts that no sheet gives by 4, item bytes below N or a short store by 10, and a record with no definite size by 11.
 pub fn placements_within(
     grid: Grid,
-    words: &[u64; PANEL_WORDS],
-    bytes: &[u8; PANEL_BYTES],
-    columnstore: &[u8],
-    rowstore: &[u8],
+    lent: LentPanel,
     items: &[u8],
     span: Span,
     hits: &mut [u32; MOST_HITS],
 ) -> Result<u32, Fault>
-    ensures { record { answer = answered_hits result; hits = hits.new } ≡ placements_within grid words.now (lent_in words.now bytes.now columnstore.now rowstore.now) items.now span hits.old }
+    ensures { record { answer = answered_hits result; hits = hits.new } ≡ placements_within grid lent.entry.words.now (lent_of lent.entry) items.now span hits.old }
 {
     let axis = span.axis;
-    let lines = lines_within(grid, words, axis, items, span.low, span.high);
-    let stores = check_stores(columnstore.len().min(rowstore.len()));
+    let bits = SpanBits {
+        low: span.low,
+        high: span.high,
+    };
+    let lines = lines_within(grid, lent.words, axis, items, bits);
+    let stores = check_stores(lent.columnstore.len().min(lent.rowstore.len()));
     let within = checked(lines, stores)?;
     Ok(settled::write_settled(
         grid,
-        words,
-        bytes,
-        columnstore,
-        rowstore,
+        lent,
         axis,
         Question::Within(within.below, within.upto),
         hits,
@@ -67,29 +64,18 @@ pub fn placements_within(
 // outside -32,768..32,767 by 4, then line 0 by 9, item bytes below N or a short store by 10, and a record with no definite size by 11.
 pub fn placements_around(
     grid: Grid,
-    words: &[u64; PANEL_WORDS],
-    bytes: &[u8; PANEL_BYTES],
-    columnstore: &[u8],
-    rowstore: &[u8],
+    lent: LentPanel,
     items: &[u8],
     around: Around,
     hits: &mut [u32; MOST_HITS],
 ) -> Result<u32, Fault>
-    ensures { record { answer = answered_hits result; hits = hits.new } ≡ placements_around grid words.now (lent_in words.now bytes.now columnstore.now rowstore.now) items.now around hits.old }
+    ensures { record { answer = answered_hits result; hits = hits.new } ≡ placements_around grid lent.entry.words.now (lent_of lent.entry) items.now around hits.old }
 {
     let axis = around.axis;
-    let lines = lines_within(grid, words, axis, items, 0, 0);
-    let stores = check_stores(columnstore.len().min(rowstore.len()));
+    let whole = SpanBits { low: 0, high: 0 };
+    let lines = lines_within(grid, lent.words, axis, items, whole);
+    let stores = check_stores(lent.columnstore.len().min(lent.rowstore.len()));
     checked(checked(lines, stores), check_line(around.line))?;
     let place = line_place(settled::counts_in(grid, axis), around.line);
-    Ok(settled::write_settled(
-        grid,
-        words,
-        bytes,
-        columnstore,
-        rowstore,
-        axis,
-        Question::Around(place),
-        hits,
-    ))
+    Ok(settled::write_settled(grid, lent, axis, Question::Around(place), hits))
 }

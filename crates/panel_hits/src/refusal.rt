@@ -1,14 +1,10 @@
 // What a list is refused by: the lowest number first.
-ghost use Rattle.std.specs.Prelude.{◌≡◌, cond, ltb};
-ghost use Rattle.coordinates.specs.Refusals.{count, refused_by};
+ghost use Rattle.std.specs.Prelude.{◌≡◌};
+ghost use Rattle.coordinates.specs.Refusals.{refused_by};
 ghost use Rattle.panel_hits.specs.Lists.{lower_fault, checked_of, store_refusal, line_refusal};
 
 use axis_tables::layout::AXIS_BYTES;
 use coordinates::Fault;
-use coordinates::signed::{Signed, split};
-
-// The largest line, and how far the smallest lies before -1.
-const LAST_LINE: u32 = 32767;
 
 // The fault with the lower number.
 fn lower(a: Fault, b: Fault) -> Fault
@@ -41,23 +37,13 @@ pub(crate) fn check_stores(shorter: usize) -> Result<(), Fault>
     Ok(())
 }
 
-// Whether a line is near enough to its edge.
-fn check_distance(distance: u32) -> Result<(), Fault>
-    ensures { refused_by result ≡ cond (ltb 32767 distance) count 0 }
-{
-    if LAST_LINE < distance {
-        return Err(Fault::Count);
-    }
-    Ok(())
-}
-
-// Whether a given line can be asked for.
+// Whether a given line can be asked for: it is an i16, and not 0.
 pub(crate) fn check_line(line: i32) -> Result<(), Fault>
     ensures { refused_by result ≡ line_refusal line }
 {
-    match split(line) {
-        Signed::NonNegative(0) => Err(Fault::ZeroLine),
-        Signed::NonNegative(distance) => check_distance(distance),
-        Signed::Negative(distance) => check_distance(distance),
+    match i16::try_from(line) {
+        Ok(0) => Err(Fault::ZeroLine),
+        Ok(_) => Ok(()),
+        Err(_) => Err(Fault::Count),
     }
 }

@@ -1,15 +1,15 @@
 // The placements of a panel that answer a question on the lines of an axis.
 ghost use Rattle.std.specs.Prelude.{◌≡◌, ◌≤◌};
-ghost use Rattle.panel_rules.specs.Calls.{name_tables_in, shorter_store};
+ghost use Rattle.panel_rules.specs.Calls.{shorter_store};
+ghost use Rattle.panel_resolving.specs.Lent.{lent_names};
 ghost use Rattle.placement_hits.specs.Steps.{Listed, listed_of};
-ghost use Rattle.panel_hits.specs.Settled.{counts_in, lent_in, settled_hits};
+ghost use Rattle.panel_hits.specs.Settled.{counts_in, lent_of, settled_hits};
 
 use coordinates::Axis;
 use panel_calls::axis_track::axis_tracks;
 use panel_resolving::run::{PLACEMENT_RUN, write_placements};
-use panel_tables::Grid;
 use panel_tables::axis::grid_in;
-use panel_tables::region::{PANEL_BYTES, PANEL_WORDS};
+use panel_tables::{Grid, LentPanel};
 use placement_hits::list::{MOST_HITS, write_hits};
 use placement_hits::{Asked, Question};
 use track_counts::TrackCounts;
@@ -21,26 +21,20 @@ pub(crate) fn counts_in(grid: Grid, axis: Axis) -> TrackCounts
     axis_tracks(grid_in(grid, axis)).counts
 }
 
-// Writes the placements that answer a question, from the first place on, all of them resolved in one run; how many there are.
+// Writes the placements that answer a question, from the first place on, all of them resolved in one run; how many there are. A panel with
+// no placements has no run, and an empty list.
 pub(crate) fn write_settled(
     grid: Grid,
-    words: &[u64; PANEL_WORDS],
-    bytes: &[u8; PANEL_BYTES],
-    columnstore: &[u8],
-    rowstore: &[u8],
+    lent: LentPanel,
     axis: Axis,
     question: Question,
     hits: &mut [u32; MOST_HITS],
 ) -> u32
-    requires { 32768 ≤ shorter_store (name_tables_in words.now columnstore.now rowstore.now) }
-    ensures { record { count = result; hits = hits.new } ≡ listed_of (settled_hits grid (lent_in words.now bytes.now columnstore.now rowstore.now) axis question) hits.old }
+    requires { 32768 ≤ shorter_store (lent_names lent) }
+    ensures { record { count = result; hits = hits.new } ≡ listed_of (settled_hits grid (lent_of lent.entry) axis question) hits.old }
 {
     let mut numbers: [i32; PLACEMENT_RUN] = [0; PLACEMENT_RUN];
-    let _written = write_placements(grid, words, bytes, columnstore, rowstore, 0, &mut numbers);
-    let asked = Asked {
-        axis,
-        counts: counts_in(grid, axis),
-        question,
-    };
+    let _written = write_placements(grid, lent, 0, &mut numbers);
+    let asked = Asked::of_axis(axis, counts_in(grid, axis), question);
     write_hits(asked, &numbers, grid.placements, hits)
 }

@@ -10,8 +10,8 @@ use Rattle.coordinates.specs.declared.axis.Axis.{Axis}
 use Rattle.coordinates.specs.declared.axis.Axis.TheVariants.{Column, Row}
 use Rattle.coordinates.specs.declared.refusal.Fault.{Fault}
 use Rattle.coordinates.specs.Refusals.{number_of}
-use Rattle.std.specs.Prelude.{Result, Ok, Err}
-use Rattle.track_rules.proofs.Answers.{fault_some}
+use Rattle.std.specs.Prelude.{Ok, Err}
+use Rattle.coordinates.proofs.Faults.{fault_some}
 use Rattle.name_entries.specs.Enter.{entry_refusal}
 use Rattle.name_entries.specs.LineNames.{of_axis}
 use Rattle.name_entries.specs.Entries.{word_of}

@@ -2,9 +2,11 @@
 ghost use Rattle.std.specs.Prelude.{◌≡◌};
 ghost use Rattle.std.specs.List.{slice_get};
 ghost use Rattle.name_entries.specs.LineEntries.{explicit_line_entries};
-ghost use Rattle.panel_rules.specs.Calls.{NameTables, entry_words_in, line_name_in, name_tables_in};
+ghost use Rattle.panel_rules.specs.Calls.{NameTables, entry_words_in, line_name_in};
+ghost use Rattle.panel_names.specs.Lent.{lent_tables};
 ghost use Rattle.panel_names.specs.LineEntries.{shown_entry_in};
 
+use crate::LentNames;
 use crate::store::entries_of;
 use axis_tables::AxisGrid;
 use axis_tables::layout::AXIS_BYTES;
@@ -12,7 +14,8 @@ use coordinates::Axis;
 use name_entries::entry::name_in;
 use name_entries::{NameEntry, Names};
 use panel_tables::Grid;
-use panel_tables::region::{PANEL_WORDS, axis_words};
+use panel_tables::axis::grid_in;
+use panel_tables::region::axis_words;
 
 // The entry that shows a name of a line of one axis, by its place from 0.
 fn entry_on(grid: AxisGrid, words: &[u64], store: &[u8], line: u32, place: u32) -> Option<NameEntry>
@@ -30,48 +33,33 @@ fn entry_on(grid: AxisGrid, words: &[u64], store: &[u8], line: u32, place: u32) 
 #[tactic(auto, unfolding(crate::specs::LineEntries::shown_entry_in))]
 pub fn line_entry(
     grid: Grid,
-    words: &[u64; PANEL_WORDS],
-    columnstore: &[u8],
-    rowstore: &[u8],
+    lent: LentNames,
     axis: Axis,
     line: u32,
     place: u32,
 ) -> Option<NameEntry>
-    ensures { result ≡ shown_entry_in grid (name_tables_in words.now columnstore.now rowstore.now) axis line place }
+    ensures { result ≡ shown_entry_in grid (lent_tables lent.entry) axis line place }
 {
-    if columnstore.len().min(rowstore.len()) < AXIS_BYTES {
+    if lent.columnstore.len().min(lent.rowstore.len()) < AXIS_BYTES {
         return None;
     }
-    match axis {
-        Axis::Column => {
-            let columns = axis_words(words, Axis::Column);
-            entry_on(grid.columns, columns, columnstore, line, place)
-        }
-        Axis::Row => {
-            let rows = axis_words(words, Axis::Row);
-            entry_on(grid.rows, rows, rowstore, line, place)
-        }
-    }
+    let words = axis_words(lent.words, axis);
+    entry_on(grid_in(grid, axis), words, lent.store(axis), line, place)
 }
 
 // A name of a line of an axis, by its place from 0: a part of the column store or of the row store. It is empty where that line
 // and place hold none, or a store is below 32,768 bytes.
 pub fn line_name<'a>(
     grid: Grid,
-    words: &[u64; PANEL_WORDS],
-    columnstore: &'a [u8],
-    rowstore: &'a [u8],
+    lent: LentNames<'_, 'a>,
     axis: Axis,
     line: u32,
     place: u32,
 ) -> &'a [u8]
-    ensures { result.now ≡ line_name_in grid (name_tables_in words.now columnstore.now rowstore.now) axis line place }
+    ensures { result.now ≡ line_name_in grid (lent_tables lent.entry) axis line place }
 {
-    let Some(entry) = line_entry(grid, words, columnstore, rowstore, axis, line, place) else {
-        return &columnstore[..0];
+    let Some(entry) = line_entry(grid, lent, axis, line, place) else {
+        return &lent.columnstore[..0];
     };
-    match axis {
-        Axis::Column => name_in(columnstore, entry),
-        Axis::Row => name_in(rowstore, entry),
-    }
+    name_in(lent.store(axis), entry)
 }

@@ -52,9 +52,9 @@ pub record LinesWithin : Type 0 where
   pub upto : ℕ
 
 -- the numbers and values of what a call answers
-abbrev pub answered_line : Result ℤ Fault → LineAnswer
-answered_line (Ok l) = record { number = 0; line = l }
-answered_line (Err fault) = record { number = number_of fault; line = pos 0 }
+abbrev pub answered_nearest_line : Result ℤ Fault → LineAnswer
+answered_nearest_line (Ok l) = record { number = 0; line = l }
+answered_nearest_line (Err fault) = record { number = number_of fault; line = pos 0 }
 
 abbrev pub answered_between : Result Between Fault → LinesWithin
 answered_between (Ok b) = record { number = 0; below = b.below; upto = b.upto }

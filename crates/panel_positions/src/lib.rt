@@ -4,7 +4,7 @@
 
 ghost use Rattle.std.specs.Prelude.{◌≡◌};
 ghost use Rattle.coordinates.specs.Refusals.{number_of};
-ghost use Rattle.panel_positions.specs.Cursor.{answered_line, answered_between, nearest_line, lines_within, no_axis_positions};
+ghost use Rattle.panel_positions.specs.Cursor.{answered_nearest_line, answered_between, nearest_line, lines_within, no_axis_positions};
 
 mod walk;
 
@@ -22,7 +22,7 @@ pub struct LineAnswer {
 }
 
 impl From<Result<i32, Fault>> for LineAnswer {
-    ghost from_gives = { λ found answer. answer ≡ answered_line found };
+    ghost from_gives = { λ found answer. answer ≡ answered_nearest_line found };
 
     // The line, or the number of the fault and 0.
     fn from(found: Result<i32, Fault>) -> LineAnswer {
@@ -34,6 +34,13 @@ impl From<Result<i32, Fault>> for LineAnswer {
             },
         }
     }
+}
+
+// A span of pixels, by the bits of its ends.
+#[derive(Clone, Copy, Debug, PartialEq, Eq)]
+pub struct SpanBits {
+    pub low: u32,
+    pub high: u32,
 }
 
 // How many lines of an axis lie before a span, and how many up to its end: the lines within it are those between.
@@ -52,7 +59,7 @@ pub fn nearest_line(
     items: &[u8],
     cursor: u32,
 ) -> Result<i32, Fault>
-    ensures { answered_line result ≡ nearest_line grid words.now axis items.now cursor }
+    ensures { answered_nearest_line result ≡ nearest_line grid words.now axis items.now cursor }
 {
     walk::nearest_on(grid_in(grid, axis), axis_words(words, axis), items, cursor)
 }
@@ -64,25 +71,18 @@ pub fn lines_within(
     words: &[u64; PANEL_WORDS],
     axis: Axis,
     items: &[u8],
-    low: u32,
-    high: u32,
+    span: SpanBits,
 ) -> Result<Between, Fault>
-    ensures { answered_between result ≡ lines_within grid words.now axis items.now low high }
+    ensures { answered_between result ≡ lines_within grid words.now axis items.now span.low span.high }
 {
-    walk::lines_on(
-        grid_in(grid, axis),
-        axis_words(words, axis),
-        items,
-        low,
-        high,
-    )
+    walk::lines_on(grid_in(grid, axis), axis_words(words, axis), items, span)
 }
 
 // What positions on no axis are refused by: their range first.
-pub fn positions_on_no_axis(low: u32, high: u32) -> Fault
-    ensures { number_of result ≡ no_axis_positions low high }
+pub fn positions_on_no_axis(span: SpanBits) -> Fault
+    ensures { number_of result ≡ no_axis_positions span.low span.high }
 {
-    if walk::are_lengths(low, high) {
+    if walk::are_lengths(span) {
         return Fault::Count;
     }
     Fault::Value

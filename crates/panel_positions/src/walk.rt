@@ -8,10 +8,10 @@ ghost use Rattle.panel_rules.specs.Calls.{axis_tracks};
 ghost use Rattle.line_positions.specs.Steps.{walked_to};
 ghost use Rattle.coordinates.specs.Lines.{to_grid_line};
 ghost use Rattle.coordinates.specs.Refusals.{refused_by};
-ghost use Rattle.panel_positions.specs.Cursor.{records_on, forged, answered_line, nearest_on, answered_between, lines_on};
+ghost use Rattle.panel_positions.specs.Cursor.{records_on, forged, answered_nearest_line, nearest_on, answered_between, lines_on};
 ghost use Rattle.panel_positions.specs.Steps.{older_refusal, answered_sought, sought_on};
 
-use crate::Between;
+use crate::{Between, SpanBits};
 use axis_tables::AxisGrid;
 use coordinates::Fault;
 use line_positions::{LineWalk, PixelSpan, step};
@@ -65,18 +65,18 @@ fn is_forged(grid: AxisGrid) -> bool
 }
 
 // Whether bits are those of two lengths in range.
-pub(crate) fn are_lengths(low: u32, high: u32) -> bool
-    ensures { result ≡ (length_in_range low && length_in_range high) }
+pub(crate) fn are_lengths(span: SpanBits) -> bool
+    ensures { result ≡ (length_in_range span.low && length_in_range span.high) }
 {
-    length_in_range(low) && length_in_range(high)
+    length_in_range(span.low) && length_in_range(span.high)
 }
 
 // What is refused before the records are walked.
 #[tactic(auto, unfolding(crate::specs::Steps::older_refusal))]
-fn check_span(grid: AxisGrid, items: usize, low: u32, high: u32) -> Result<(), Fault>
-    ensures { refused_by result ≡ older_refusal grid items low high }
+fn check_span(grid: AxisGrid, items: usize, span: SpanBits) -> Result<(), Fault>
+    ensures { refused_by result ≡ older_refusal grid items span.low span.high }
 {
-    if !are_lengths(low, high) {
+    if !are_lengths(span) {
         return Err(Fault::Value);
     }
     if is_forged(grid) {
@@ -89,21 +89,15 @@ fn check_span(grid: AxisGrid, items: usize, low: u32, high: u32) -> Result<(), F
 }
 
 // What is sought of the lines of an axis: a walk over records that are all definite.
-fn sought_on(
-    grid: AxisGrid,
-    words: &[u64],
-    items: &[u8],
-    low: u32,
-    high: u32,
-) -> Result<LineWalk, Fault>
-    ensures { answered_sought result ≡ sought_on grid words.now items.now low high }
+fn sought_on(grid: AxisGrid, words: &[u64], items: &[u8], span: SpanBits) -> Result<LineWalk, Fault>
+    ensures { answered_sought result ≡ sought_on grid words.now items.now span.low span.high }
 {
-    check_span(grid, items.len(), low, high)?;
-    let span = PixelSpan {
-        low: length_of(low),
-        high: length_of(high),
+    check_span(grid, items.len(), span)?;
+    let pixels = PixelSpan {
+        low: length_of(span.low),
+        high: length_of(span.high),
     };
-    let walk = walked(grid, words, items, span);
+    let walk = walked(grid, words, items, pixels);
     if walk.definite {
         Ok(walk)
     } else {
@@ -132,9 +126,13 @@ pub(crate) fn nearest_on(
     items: &[u8],
     cursor: u32,
 ) -> Result<i32, Fault>
-    ensures { answered_line result ≡ nearest_on grid words.now items.now cursor }
+    ensures { answered_nearest_line result ≡ nearest_on grid words.now items.now cursor }
 {
-    let sought = sought_on(grid, words, items, cursor, cursor)?;
+    let span = SpanBits {
+        low: cursor,
+        high: cursor,
+    };
+    let sought = sought_on(grid, words, items, span)?;
     Ok(grid_line_at(sought.nearest, grid.implicit.negative, grid.size.explicit))
 }
 
@@ -143,12 +141,11 @@ pub(crate) fn lines_on(
     grid: AxisGrid,
     words: &[u64],
     items: &[u8],
-    low: u32,
-    high: u32,
+    span: SpanBits,
 ) -> Result<Between, Fault>
-    ensures { answered_between result ≡ lines_on grid words.now items.now low high }
+    ensures { answered_between result ≡ lines_on grid words.now items.now span.low span.high }
 {
-    let sought = sought_on(grid, words, items, low, high)?;
+    let sought = sought_on(grid, words, items, span)?;
     Ok(Between {
         below: sought.below,
         upto: sought.upto,

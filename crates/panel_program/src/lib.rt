@@ -2,13 +2,17 @@
 
 #![tactic(auto)]
 
-ghost use Rattle.std.specs.Prelude.{◌≡◌, ◌≤◌, length, true};
+ghost use Rattle.std.specs.Prelude.{◌≡◌, ◌<◌, ◌≤◌, length, take, true, IfSome, OnOk};
+ghost use Rattle.std.specs.Io.KnownBytes.{Appends, Consumes, IsAtEnd};
+ghost use Rattle.panel_answer.specs.Answer.{answer_text};
 ghost use Rattle.panel_answer.specs.Walk.{is_end};
+ghost use Rattle.panel_program.specs.Printed.{zero_tables};
 
 use axis_tables::layout::AXIS_BYTES;
 use panel_answer::AnswerLine;
 use panel_answer::fill::{begin_answer, fill};
 use panel_answer::line::is_end;
+use panel_tables::LentPanel;
 use panel_tables::region::{PANEL_BYTES, PANEL_WORDS};
 use std::io;
 use std::io::{Read, Write};
@@ -18,7 +22,9 @@ const SHEET_ROOM: usize = 32769;
 
 // Reads until the buffer is full, the input ends or a read fails: how many bytes stand at its start then, and whether no read failed.
 pub fn read_full<R: Read>(input: &mut R, buffer: &mut [u8]) -> (usize, io::Result<()>)
-    ensures { result.0 ≤ length buffer.new }
+    ensures within { result.0 ≤ length buffer.new }
+    ensures taken { Consumes (R.remaining input.old) (R.remaining input.new) (take result.0 buffer.new) }
+    ensures whole { OnOk result.1 (result.0 < length buffer.new → IsAtEnd (R.remaining input.new)) }
 {
     let mut done: usize = 0;
     while done < buffer.len() {
@@ -33,7 +39,8 @@ pub fn read_full<R: Read>(input: &mut R, buffer: &mut [u8]) -> (usize, io::Resul
 
 // Prints the answer to a sheet, part after part of its text: the line that is left then, which is none, and whether no write failed.
 fn print_answer<W: Write>(output: &mut W, sheet: &[u8]) -> (AnswerLine, io::Result<()>)
-    ensures { is_end result.0 ≡ true }
+    ensures ended { is_end result.0 ≡ true }
+    ensures printed { OnOk result.1 (Appends (W.contents output.old) (W.contents output.new) (answer_text sheet.now zero_tables)) }
 {
     let mut words = [0u64; PANEL_WORDS];
     let mut bytes = [0u8; PANEL_BYTES];
@@ -46,20 +53,17 @@ fn print_answer<W: Write>(output: &mut W, sheet: &[u8]) -> (AnswerLine, io::Resu
         &mut columnstore,
         &mut rowstore,
     );
-    let grid = begun.grid;
+    let lent = LentPanel {
+        words: &words,
+        bytes: &bytes,
+        columnstore: &columnstore,
+        rowstore: &rowstore,
+    };
     let mut next = begun.first;
     let mut out = [0u8; 65536];
     let mut written = Ok(());
     while !is_end(next) {
-        let filled = fill(
-            &mut out,
-            grid,
-            &words,
-            &bytes,
-            &columnstore,
-            &rowstore,
-            next,
-        );
+        let filled = fill(&mut out, begun.grid, lent, next);
         written = written.and(output.write_all(&out[..filled.count]));
         next = filled.next;
     }
@@ -67,9 +71,10 @@ fn print_answer<W: Write>(output: &mut W, sheet: &[u8]) -> (AnswerLine, io::Resu
 }
 
 // Reads the sheet and prints its answer: whether no line of it is left, and the first failure of a read or a write where there is one.
-// What a reader gives and a writer takes is promised by no contract.
+// Of an input that is longer than a sheet may be, what was read is refused as the whole is.
 pub fn answer_input<R: Read, W: Write>(input: &mut R, output: &mut W) -> (bool, io::Result<()>)
-    ensures { result.0 ≡ true }
+    ensures ended { result.0 ≡ true }
+    ensures answered { OnOk result.1 (IfSome (R.remaining input.old) (λ sheet. Appends (W.contents output.old) (W.contents output.new) (answer_text sheet zero_tables))) }
 {
     let mut sheet = [0u8; SHEET_ROOM];
     let (length, taken) = read_full(input, &mut sheet);

@@ -1,12 +1,13 @@
 -- One search after the other comes to what the question asks for. Assumes nothing.
 use mathlib.Core.Path.{◌≡◌, refl, sym, ◌∙◌, ap, fun_ext}
-use mathlib.Core.Bool.{Bool}
+use mathlib.Core.Bool.{Bool, true, false}
 use mathlib.Core.List.{List, ◌++◌}
 use Prim.Native.Nat.{ℕ, suc}
 use Rattle.name_rules.specs.Css.{Bytes, Side, start, end, suffix}
 use Rattle.name_rules.specs.Rule.{Seek, at, left}
 use Rattle.name_lines.specs.Areas.{bears_in}
 use Rattle.name_lines.specs.Suffixes.{edge_of, stem_of, side_edge}
+use Rattle.name_lines.proofs.Suffixes.{never}
 use Rattle.name_lines.proofs.Tables.{sought-name, sought-side}
 use Rattle.name_groups.specs.Keys.{joined_key, key_of}
 use Rattle.name_groups.specs.Groups.{group_at, group_part}
@@ -18,9 +19,8 @@ use Rattle.name_resolver.specs.Questions.{edge_found, or_else, found_by}
 use Rattle.axis_tables.specs.Runs.{part_of}
 use Rattle.panel_resolving.specs.declared.Around.{Around}
 use Rattle.panel_resolving.specs.Names.{bears_by, sought_by}
-use Rattle.name_lines.specs.declared.Way.TheVariants.{Up}
-use Rattle.panel_resolving.specs.Asking.{own_found}
-use Rattle.std.specs.Prelude.{Option, Some}
+use Rattle.panel_resolving.specs.Asking.{asks_own, sought_for, stem_for, own_found, found_from}
+use Rattle.std.specs.Prelude.{Option, Some, None}
 use Rattle.name_lines.specs.declared.GridAreaEnd.{GridAreaEnd}
 use Rattle.name_lines.specs.declared.GridAreaEnd.TheVariants.{Start, End}
 
@@ -53,30 +53,51 @@ module _ (x : Around) (index store areas areabytes : List ℕ) where
       side-key-of end = side_key x.grouping nm end
 
   module _ (q : Question) (nm : Bytes) (k : Seek) where
-    -- what is sought among the lines of the name, and of an edge of its area
-    abbrev own : Option GridAreaEnd → Sought
-    own w = record { axis = x.axis; from = q.from; edge = w; over = q.over; way = q.way }
-
-    abbrev edge : Sought
-    edge = record { axis = x.axis; from = 0; edge = q.edge; over = 0; way = Up }
+    -- what one search comes to
+    abbrev Comes : Bool → Type 0
+    Comes own = k ≡ line_sought (sought_for x.axis q own nm) (sought_by x (sought_for x.axis q own nm) index store areas areabytes (stem_for x.axis q own nm))
 
     -- the lines of the name
-    pub found-own : (w : Option GridAreaEnd) (stem : Bytes) → w ≡ edge_of nm → stem ≡ stem_of nm w
-        → k ≡ line_sought (own w) (sought_by x (own w) index store areas areabytes stem) → k ≡ own_found names nm q
+    came-own : Comes true → k ≡ own_found names nm q
     unfolding line_sought
-    found-own w stem f g e = let h = rw (g, f) at e in rw (own-lines (own (edge_of nm)) nm refl refl) at h
+    came-own e = rw (own-lines (sought_for x.axis q true nm) nm refl refl) at e
 
     -- an edge of its area
-    pub found-edge : (side : GridAreaEnd) → q.edge ≡ Some side → k ≡ line_sought edge (sought_by x edge index store areas areabytes nm) → k ≡ edge_found names nm q.edge
+    came-edge : asks_own q.edge ≡ false → Comes false → k ≡ edge_found names nm q.edge
     unfolding line_sought
-    found-edge Start f e = rw f (rw (edge-lines edge nm start refl f) at e)
-    found-edge End f e = rw f (rw (edge-lines edge nm end refl f) at e)
+    came-edge a e = go q.edge a refl
+      where
+        go : (w : Option GridAreaEnd) → asks_own w ≡ false → q.edge ≡ w → k ≡ edge_found names nm w
+        go (Some Start) h f = rw (edge-lines (sought_for x.axis q false nm) nm start refl f) at e
+        go (Some End) h f = rw (edge-lines (sought_for x.axis q false nm) nm end refl f) at e
+        go None h f = never (sym h)
 
-    -- the edge that is found, else what is found among the lines of the name
-    pub found-first : (l : ℕ) → at l ≡ edge_found names nm q.edge → at l ≡ found_by names nm q
-    unfolding found_by
-    found-first l e = ap (λ (s : Seek). or_else s (own_found names nm q)) e
+  module _ (q : Question) (nm : Bytes) (own : Bool) (edged : own ≡ false → asks_own q.edge ≡ false) where
+    -- a line that is found answers
+    pub found_at : (l : ℕ) → Comes q nm (at l) own → found_from names nm q own ≡ found_by names nm q → at l ≡ found_by names nm q
+    unfolding found_from
+    found_at l e r = go own refl e r
+      where
+        go : (o : Bool) → own ≡ o → Comes q nm (at l) o → found_from names nm q o ≡ found_by names nm q → at l ≡ found_by names nm q
+        go true h c f = came-own q nm (at l) c ∙ f
+        go false h c f = ap (λ (s : Seek). or_else s (own_found names nm q)) (came-edge q nm (at l) (edged h) c) ∙ f
 
-    pub found-next : (m : ℕ) → left m ≡ edge_found names nm q.edge → k ≡ own_found names nm q → k ≡ found_by names nm q
-    unfolding found_by
-    found-next m e f = f ∙ ap (λ (s : Seek). or_else s (own_found names nm q)) e
+    -- where no line of the name is found, that is the answer
+    pub found_left : (m : ℕ) → own ≡ true → Comes q nm (left m) own → found_from names nm q own ≡ found_by names nm q → left m ≡ found_by names nm q
+    unfolding found_from
+    found_left m h e r = came-own q nm (left m) (rw h at e) ∙ (rw h at r)
+
+    -- where no edge is found, the lines of the name are left
+    pub found-next : (m : ℕ) → own ≡ false → Comes q nm (left m) own → found_from names nm q own ≡ found_by names nm q → found_from names nm q true ≡ found_by names nm q
+    unfolding found_from
+    found-next m h e r = ap (λ (s : Seek). or_else s (own_found names nm q)) (came-edge q nm (left m) (edged h) (rw h at e)) ∙ (rw h at r)
+
+  -- at first
+  pub found_first : (q : Question) (nm : Bytes) (own : Bool) → own ≡ asks_own q.edge → found_from names nm q own ≡ found_by names nm q
+  unfolding found_from found_by
+  found_first q nm own h = rw h (go q.edge)
+    where
+      go : (w : Option GridAreaEnd) → found_from names nm (record { name = q.name; edge = w; way = q.way; from = q.from; over = q.over; held = q.held }) (asks_own w)
+          ≡ found_by names nm (record { name = q.name; edge = w; way = q.way; from = q.from; over = q.over; held = q.held })
+      go (Some side) = refl
+      go None = refl

@@ -14,7 +14,7 @@ use Rattle.std.specs.Prelude.{Result, Ok, Err}
 use Rattle.coordinates.specs.declared.refusal.Fault.{Fault}
 use Rattle.coordinates.specs.declared.refusal.Fault.TheVariants.{Unread, Name, Value, Count, Area, Twice, Late, Crowded, ZeroLine, Short, Indefinite, Overlap, Unequal, Broken, Unplaced}
 use Rattle.coordinates.specs.Refusals.{number_of, count, short}
-use Rattle.track_rules.proofs.Answers.{fault_some}
+use Rattle.coordinates.proofs.Faults.{fault_some}
 use Rattle.name_resolver.specs.declared.NonNamedGridPlacement.{NonNamedGridPlacement}
 use Rattle.name_resolver.specs.declared.NonNamedGridPlacement.TheVariants.{Auto, Line as AtLine, Span}
 use Rattle.name_resolver.specs.Placements.{resolved_kind_of}
@@ -24,7 +24,7 @@ use Rattle.panel_rules.specs.Calls.{NameTables, NamedWords, shorter_store}
 use Rattle.panel_rules.specs.declared.PlacedLine.{PlacedLine}
 use Rattle.panel_rules.specs.Placing.{answered_placement}
 use Rattle.library_numbers.specs.declared.PlacementNumbers.{PlacementNumbers}
-use Rattle.library_numbers.specs.Answers.{mark_number, answered_count, placement_numbers}
+use Rattle.library_numbers.specs.Answers.{mark_number, answered_count_numbers, placement_numbers}
 use Rattle.panel_resolving.specs.Placements.{numbers_of, SmallNumbers, run_numbers, numbers_refusal, numbers_count, placements_written}
 
 -- ---- the numbers are small
@@ -111,12 +111,12 @@ few-written held first n h e = omega (arith, e)
 
 module _ (p : Grid) (t : NameTables) (areas placements : NamedWords) (first : ℕ) (lent : List ℤ) where
   pub run-refused : (fault : Fault) → number_of fault ≡ numbers_refusal p.placements (shorter_store t) first →
-      record { answer = answered_count (Err fault); numbers = lent } ≡ placements_written p t areas placements first lent
+      record { answer = answered_count_numbers (Err fault); numbers = lent } ≡ placements_written p t areas placements first lent
   unfolding placements_written
   run-refused fault e = rw (← e, ne_eqb (number_of fault) 0 (fault_some fault))
 
   pub run-written : (n : ℕ) (after : List ℤ) → numbers_refusal p.placements (shorter_store t) first ≡ 0 →
       n ≡ numbers_count p.placements first → after ≡ sets lent 0 (run_numbers p t areas placements first n) →
-      record { answer = answered_count (Ok n); numbers = after } ≡ placements_written p t areas placements first lent
+      record { answer = answered_count_numbers (Ok n); numbers = after } ≡ placements_written p t areas placements first lent
   unfolding placements_written
   run-written n after z e w = rw (eq-eqb (numbers_refusal p.placements (shorter_store t) first) 0 z, w, e)

@@ -6,3 +6,4 @@ pub mod Asking
 pub mod Whole
 pub mod Placements
 pub mod Chosen
+pub mod Lent

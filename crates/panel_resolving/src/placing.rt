@@ -1,12 +1,13 @@
 // One placement of a panel with its names resolved.
 ghost use Rattle.std.specs.Prelude.{◌≡◌, ◌<◌, true};
 ghost use Rattle.name_resolver.specs.Placements.{answered_resolution, resolution_of};
-ghost use Rattle.panel_rules.specs.Calls.{NameTables, NamedWords, area_table_in, names_in, name_tables_in, placement_table_in};
+ghost use Rattle.panel_rules.specs.Calls.{NameTables, NamedWords, names_in};
 ghost use Rattle.name_groups.specs.declared.key.Grouping.TheVariants.{Whole};
 ghost use Rattle.panel_tables.specs.Placements.{placement_at};
 ghost use Rattle.panel_tables.specs.Regions.{area_bytes_in, area_words_in, placement_bytes_in, placement_words_in};
 ghost use Rattle.panel_rules.specs.Placing.{answered_placement, line_placement, placed_by, resolve_placement};
 ghost use Rattle.panel_resolving.specs.Chosen.{on_axis};
+ghost use Rattle.panel_resolving.specs.Lent.{lent_areas, lent_names, lent_placements};
 ghost use Rattle.panel_resolving.specs.Names.{bears_by, resolution_by};
 ghost use Rattle.panel_resolving.specs.Whole.{whole_around};
 
@@ -20,9 +21,9 @@ use name_groups::key::Grouping;
 use name_resolver::ResolvedPlacement;
 use panel_names::store::entries_of;
 use panel_rules::PlacedLine;
-use panel_tables::Grid;
 use panel_tables::placement::placement_at;
 use panel_tables::region::{PANEL_BYTES, PANEL_WORDS, axis_words, placement_words};
+use panel_tables::{Grid, LentPanel};
 
 // The answer for a placement of an axis: the resolver's refusal, then 10 where a store is short.
 pub(crate) fn placed_by(
@@ -73,58 +74,44 @@ fn resolve_one(
 }
 
 // A placement beside the names of its axis.
-fn resolve_in(
-    grid: Grid,
-    words: &[u64; PANEL_WORDS],
-    bytes: &[u8; PANEL_BYTES],
-    columnstore: &[u8],
-    rowstore: &[u8],
-    index: u32,
-) -> Result<ResolvedPlacement, Fault>
+fn resolve_in(grid: Grid, lent: LentPanel, index: u32) -> Result<ResolvedPlacement, Fault>
     requires { index < 4294967295 }
-    ensures { answered_resolution result ≡ resolution_of (names_in grid (name_tables_in words.now columnstore.now rowstore.now) (area_table_in words.now bytes.now) (placement_at (placement_words_in words.now) index).axis) (placement_bytes_in bytes.now) (line_placement (placement_at (placement_words_in words.now) index)) }
+    ensures { answered_resolution result ≡ resolution_of (names_in grid (lent_names lent.entry) (lent_areas lent.entry) (placement_at (placement_words_in lent.entry.words.now) index).axis) (placement_bytes_in lent.entry.bytes.now) (line_placement (placement_at (placement_words_in lent.entry.words.now) index)) }
 {
     let held = grid.areas;
-    let place = placement_at(placement_words(words), index);
+    let place = placement_at(placement_words(lent.words), index);
     let axis = place.axis;
     match axis {
         Axis::Column => {
             let own = grid.columns;
             let around = whole_around(axis, own.size.explicit, held);
             let names = Names {
-                entries: entries_of(own, axis_words(words, Axis::Column)),
-                store: columnstore,
+                entries: entries_of(own, axis_words(lent.words, Axis::Column)),
+                store: lent.columnstore,
             };
-            resolve_one(around, names, words, bytes, index)
+            resolve_one(around, names, lent.words, lent.bytes, index)
         }
         Axis::Row => {
             let own = grid.rows;
             let around = whole_around(axis, own.size.explicit, held);
             let names = Names {
-                entries: entries_of(own, axis_words(words, Axis::Row)),
-                store: rowstore,
+                entries: entries_of(own, axis_words(lent.words, Axis::Row)),
+                store: lent.rowstore,
             };
-            resolve_one(around, names, words, bytes, index)
+            resolve_one(around, names, lent.words, lent.bytes, index)
         }
     }
 }
 
 // Placement `index` of a panel with its names resolved. 4: no such placement; 10: a store below 32,768 bytes.
-pub fn resolve_placement(
-    grid: Grid,
-    words: &[u64; PANEL_WORDS],
-    bytes: &[u8; PANEL_BYTES],
-    columnstore: &[u8],
-    rowstore: &[u8],
-    index: u32,
-) -> Result<PlacedLine, Fault>
-    ensures { answered_placement result ≡ resolve_placement grid (name_tables_in words.now columnstore.now rowstore.now) (area_table_in words.now bytes.now) (placement_table_in words.now bytes.now) index }
+pub fn resolve_placement(grid: Grid, lent: LentPanel, index: u32) -> Result<PlacedLine, Fault>
+    ensures { answered_placement result ≡ resolve_placement grid (lent_names lent.entry) (lent_areas lent.entry) (lent_placements lent.entry) index }
 {
     if grid.placements <= index {
         return Err(Fault::Count);
     }
-    let place = placement_at(placement_words(words), index);
-    let resolved = resolve_in(grid, words, bytes, columnstore, rowstore, index);
-    let shorter = columnstore.len().min(rowstore.len());
+    let place = placement_at(placement_words(lent.words), index);
+    let resolved = resolve_in(grid, lent, index);
+    let shorter = lent.columnstore.len().min(lent.rowstore.len());
     placed_by(resolved, place.axis, shorter < AXIS_BYTES)
 }

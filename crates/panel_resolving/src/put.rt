@@ -7,7 +7,6 @@ ghost use Rattle.panel_resolving.specs.Placements.{SmallNumbers, end_numbers, nu
 
 use coordinates::Fault;
 use library_numbers::PlacementNumbers;
-use library_numbers::numbers::placement_numbers;
 use panel_rules::PlacedLine;
 
 // How many numbers a placement takes.
@@ -57,5 +56,5 @@ pub(crate) fn put_placement(numbers: &mut [i32], place: usize, answer: Result<Pl
     requires { place + 8 ≤ length numbers.old }
     ensures { numbers.new ≡ sets numbers.old place (numbers_of (placement_numbers (answered_placement answer))) }
 {
-    put_numbers(numbers, place, placement_numbers(answer));
+    put_numbers(numbers, place, PlacementNumbers::from(answer));
 }

@@ -1,10 +1,11 @@
 // A run of the placements of a panel, resolved and written as numbers.
 ghost use Rattle.std.specs.Prelude.{◌≡◌, ◌*◌, ◌+◌, ◌≤◌, length};
 ghost use Rattle.std.proofs.lemmas.List.Edits.{sets};
-ghost use Rattle.panel_rules.specs.Calls.{NameTables, NamedWords, area_table_in, name_tables_in, placement_table_in, shorter_store};
+ghost use Rattle.panel_rules.specs.Calls.{NameTables, NamedWords, shorter_store};
 ghost use Rattle.coordinates.specs.Refusals.{refused_by};
-ghost use Rattle.library_numbers.specs.Answers.{answered_count};
+ghost use Rattle.library_numbers.specs.Answers.{answered_count_numbers};
 ghost use Rattle.panel_resolving.specs.Chosen.{run_of};
+ghost use Rattle.panel_resolving.specs.Lent.{lent_areas, lent_names, lent_placements};
 ghost use Rattle.panel_resolving.specs.Placements.{WrittenNumbers, numbers_count, numbers_refusal, placements_written, run_numbers};
 
 use crate::placing::whole_around;
@@ -13,8 +14,8 @@ use axis_tables::layout::AXIS_BYTES;
 use coordinates::{Axis, Fault};
 use name_entries::Names;
 use panel_names::store::entries_of;
-use panel_tables::Grid;
-use panel_tables::region::{PANEL_BYTES, PANEL_WORDS, axis_words};
+use panel_tables::region::axis_words;
+use panel_tables::{Grid, LentPanel};
 
 // The most placements of a run, which is as many as a panel holds.
 const MOST_PLACEMENTS: u32 = 256;
@@ -57,19 +58,10 @@ fn run_of(axis: Axis, explicit: u32, areas: u32, first: u32, count: u32) -> Run
 }
 
 // Writes so many placements from one on, those of the columns, then those of the rows.
-fn write_numbers(
-    grid: Grid,
-    words: &[u64; PANEL_WORDS],
-    bytes: &[u8; PANEL_BYTES],
-    columnstore: &[u8],
-    rowstore: &[u8],
-    first: u32,
-    count: u32,
-    numbers: &mut [i32],
-)
+fn write_numbers(grid: Grid, lent: LentPanel, first: u32, count: u32, numbers: &mut [i32])
     requires count_bound { (first + count ≤ grid.placements) × (first + count ≤ 4294967295) × (8 * count ≤ length numbers.old) }
-    requires bound { 32768 ≤ shorter_store (name_tables_in words.now columnstore.now rowstore.now) }
-    ensures { numbers.new ≡ sets numbers.old 0 (run_numbers grid (name_tables_in words.now columnstore.now rowstore.now) (area_table_in words.now bytes.now) (placement_table_in words.now bytes.now) first count) }
+    requires bound { 32768 ≤ shorter_store (lent_names lent) }
+    ensures { numbers.new ≡ sets numbers.old 0 (run_numbers grid (lent_names lent.entry) (lent_areas lent.entry) (lent_placements lent.entry) first count) }
 {
     let held = grid.areas;
     let columns = grid.columns;
@@ -77,41 +69,29 @@ fn write_numbers(
     let ofcolumns = run_of(Axis::Column, columns.size.explicit, held, first, count);
     let ofrows = run_of(Axis::Row, rows.size.explicit, held, first, count);
     let columnnames = Names {
-        entries: entries_of(columns, axis_words(words, Axis::Column)),
-        store: columnstore,
+        entries: entries_of(columns, axis_words(lent.words, Axis::Column)),
+        store: lent.columnstore,
     };
     let rownames = Names {
-        entries: entries_of(rows, axis_words(words, Axis::Row)),
-        store: rowstore,
+        entries: entries_of(rows, axis_words(lent.words, Axis::Row)),
+        store: lent.rowstore,
     };
-    write_axis(ofcolumns, columnnames, words, bytes, numbers);
-    write_axis(ofrows, rownames, words, bytes, numbers);
+    write_axis(ofcolumns, columnnames, lent.words, lent.bytes, numbers);
+    write_axis(ofrows, rownames, lent.words, lent.bytes, numbers);
 }
 
 // Writes the placements of a panel from `first` on, as many as there are and fit. 4: no such placement; 10: a store below 32,768 bytes.
 pub fn write_placements(
     grid: Grid,
-    words: &[u64; PANEL_WORDS],
-    bytes: &[u8; PANEL_BYTES],
-    columnstore: &[u8],
-    rowstore: &[u8],
+    lent: LentPanel,
     first: u32,
     numbers: &mut [i32; PLACEMENT_RUN],
 ) -> Result<u64, Fault>
-    ensures { record { answer = answered_count result; numbers = numbers.new } ≡ placements_written grid (name_tables_in words.now columnstore.now rowstore.now) (area_table_in words.now bytes.now) (placement_table_in words.now bytes.now) first numbers.old }
+    ensures { record { answer = answered_count_numbers result; numbers = numbers.new } ≡ placements_written grid (lent_names lent.entry) (lent_areas lent.entry) (lent_placements lent.entry) first numbers.old }
 {
-    let shorter = columnstore.len().min(rowstore.len());
+    let shorter = lent.columnstore.len().min(lent.rowstore.len());
     check_numbers(grid.placements, shorter, first)?;
     let count = numbers_count(grid.placements, first);
-    write_numbers(
-        grid,
-        words,
-        bytes,
-        columnstore,
-        rowstore,
-        first,
-        count,
-        numbers,
-    );
+    write_numbers(grid, lent, first, count, numbers);
     Ok(u64::from(count))
 }

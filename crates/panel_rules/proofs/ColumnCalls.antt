@@ -4,8 +4,7 @@ use mathlib.Core.List.{List, [], ◌∷◌}
 use mathlib.Core.Bool.{false, cond}
 use Rattle.coordinates.specs.declared.axis.Axis.{Axis}
 use Rattle.coordinates.specs.declared.axis.Axis.TheVariants.{Column, Row}
-use Rattle.coordinates.specs.declared.refusal.Refusal.{Refusal}
-use Rattle.coordinates.specs.Refusals.{refusal_of}
+use Rattle.coordinates.specs.Refusals.{Refusal, refusal_of}
 use Rattle.name_rules.specs.Css.{Entry}
 use Rattle.axis_tables.specs.View.{AxisView}
 use Rattle.panel_tables.specs.View.{PanelView}

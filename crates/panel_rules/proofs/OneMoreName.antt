@@ -12,8 +12,7 @@ use lib.ListN.{length}
 use borrow.Author.Tests.{lt-ltb, eq-eqb}
 use Rattle.coordinates.specs.declared.axis.Axis.{Axis}
 use Rattle.coordinates.specs.declared.axis.Axis.TheVariants.{Column, Row}
-use Rattle.coordinates.specs.declared.refusal.Refusal.{Refusal}
-use Rattle.coordinates.specs.Refusals.{no_refusal, refusal_of, count}
+use Rattle.coordinates.specs.Refusals.{Refusal, no_refusal, refusal_of, count}
 use Rattle.name_rules.specs.Css.{Bytes, Entry, AxisNames, named, ResolvedEnds}
 use Rattle.name_rules.specs.Css as Css
 use Rattle.name_rules.specs.OneMore.{OneMoreEntry}

@@ -8,8 +8,7 @@ use native.Mathlib.Nat.{add-zero}
 use lib.Dec.{eqb}
 use lib.ListN.{length, drop}
 use borrow.Author.Tests.{eqb-true, eqb-false, eq-eqb, ne_eqb}
-use Rattle.coordinates.specs.declared.refusal.Refusal.{Refusal}
-use Rattle.coordinates.specs.Refusals.{no_refusal}
+use Rattle.coordinates.specs.Refusals.{Refusal, no_refusal}
 use Rattle.axis_tables.specs.View.{AxisView, axis_bytes}
 use Rattle.axis_tables.specs.Written.{words_with}
 use Rattle.panel_tables.specs.View.{PanelView}

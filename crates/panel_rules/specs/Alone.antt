@@ -1,7 +1,7 @@
 -- "Any two runs that differ in nothing but row names and row template have the same column answers": what such runs are, and what is the same.
 use Rattle.std.specs.Prelude.{ℕ, ◌≡◌, Bool, cond, ◌&&◌, ◌||◌, List, [], ◌∷◌, get_or}
 use Rattle.coordinates.specs.declared.axis.Axis.TheVariants.{Column}
-use Rattle.coordinates.specs.declared.refusal.Refusal.{Refusal}
+use Rattle.coordinates.specs.Refusals.{Refusal}
 use Rattle.text.specs.Split.{split, same}
 use Rattle.sheet_forms.specs.Words.{at, axis_words, kind_words}
 use Rattle.track_rules.specs.declared.GridTrack.{GridTrack}

@@ -3,9 +3,8 @@ use Rattle.std.specs.Prelude.{ℕ, ◌+◌, min, Bool, cond, ◌||◌, List, [],
 use Rattle.std.proofs.lemmas.List.Edits.{sets}
 use Rattle.coordinates.specs.declared.axis.Axis.{Axis}
 use Rattle.coordinates.specs.declared.axis.Axis.TheVariants.{Column, Row}
-use Rattle.coordinates.specs.declared.refusal.Refusal.{Refusal}
 use Rattle.coordinates.specs.declared.refusal.Fault.{Fault}
-use Rattle.coordinates.specs.Refusals.{no_refusal, refusal_of, number_of}
+use Rattle.coordinates.specs.Refusals.{Refusal, no_refusal, refusal_of, number_of}
 use Rattle.sizing.specs.Words.{sizing_of}
 use Rattle.sizing.specs.declared.MinMax.{MinMax}
 use Rattle.template_rules.specs.Template.{Component, template_of}

@@ -2,9 +2,8 @@
 use Rattle.std.specs.Prelude.{ℕ, zero, suc, min, Bool, cond, List, eqb, ltb, ℤ, pos, negsuc, Result, Ok, Err}
 use Rattle.coordinates.specs.declared.axis.Axis.{Axis}
 use Rattle.coordinates.specs.declared.axis.Axis.TheVariants.{Column}
-use Rattle.coordinates.specs.declared.refusal.Refusal.{Refusal}
 use Rattle.coordinates.specs.declared.refusal.Fault.{Fault}
-use Rattle.coordinates.specs.Refusals.{no_refusal, refusal_of, number_of, count, short}
+use Rattle.coordinates.specs.Refusals.{Refusal, no_refusal, refusal_of, number_of, count, short}
 use Rattle.name_resolver.specs.declared.Name.{Name}
 use Rattle.name_resolver.specs.declared.GridPlacement.{GridPlacement}
 use Rattle.name_resolver.specs.declared.GridPlacement.TheVariants.{Auto, Line as AtLine, NamedLine, Span, NamedSpan}

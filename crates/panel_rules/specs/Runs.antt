@@ -2,8 +2,7 @@
 -- They step by exactly the definitions that the contracts of `read_sheet` and `enter_name` cite.
 use Rattle.std.specs.Prelude.{ℕ, ◌≡◌, List, [], ◌∷◌, length}
 use Rattle.coordinates.specs.declared.axis.Axis.{Axis}
-use Rattle.coordinates.specs.declared.refusal.Refusal.{Refusal}
-use Rattle.coordinates.specs.Refusals.{no_refusal}
+use Rattle.coordinates.specs.Refusals.{Refusal, no_refusal}
 use Rattle.name_rules.specs.Css.{Bytes}
 use Rattle.name_entries.specs.LineNames.{of_axis}
 use Rattle.track_rules.specs.declared.GridTrack.{GridTrack}

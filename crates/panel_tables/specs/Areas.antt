@@ -13,7 +13,7 @@ use Rattle.axis_tables.specs.Reads.{name_place}
 use Rattle.panel_tables.specs.declared.Room.{Room}
 use Rattle.panel_tables.specs.declared.Panel.{Panel}
 use Rattle.panel_tables.specs.declared.AreaEdges.{AreaEdges}
-use Rattle.panel_tables.specs.declared.EdgePair.{EdgePair}
+use Rattle.coordinates.specs.declared.line.LinePair.{LinePair}
 use Rattle.panel_tables.specs.declared.AreaPlace.{AreaPlace}
 use Rattle.panel_tables.specs.View.{Area, edges_outside}
 
@@ -33,7 +33,7 @@ area_at words i =
     record { edges = edges_of (word_of words 0 i); offset = (name_place (word_of words 64 i)).offset; length = (name_place (word_of words 64 i)).length }
 
 -- the edges of an area in an axis
-abbrev pub edges_in : AreaEdges → Axis → EdgePair
+abbrev pub edges_in : AreaEdges → Axis → LinePair
 edges_in e Column = record { start = e.columnstart; end = e.columnend }
 edges_in e Row = record { start = e.rowstart; end = e.rowend }
 

@@ -14,7 +14,6 @@ use Rattle.panel_tables.specs.declared.Grid.{Grid}
 use Rattle.panel_tables.specs.declared.Room.{Room}
 use Rattle.panel_tables.specs.declared.Panel.{Panel}
 use Rattle.panel_tables.specs.declared.Reading.{Reading}
-use Rattle.panel_tables.specs.declared.PanelAfter.{PanelAfter}
 use Rattle.panel_tables.specs.View.{PanelView, PanelOutcome}
 use Rattle.panel_tables.specs.Written.{PanelHeld, PanelStepped}
 
@@ -54,13 +53,6 @@ pub record PanelRead : Type 0 where
   pub fault : ℕ
   pub panel : Panel
   pub reading : Reading
-
--- the number and the panel of what a call answers
-abbrev pub answered_read : PanelAfter → PanelRead
-answered_read after = record { fault = fault_number after.fault; panel = after.panel; reading = after.reading }
-
-abbrev pub read_by : Panel → Reading → Axis → AxisPut → PanelRead
-read_by p r axis a = record { fault = a.fault; panel = with_state p axis a.state; reading = with_reading r axis a.reading }
 
 -- ---- the same of a view
 abbrev pub view_in : PanelView → Axis → AxisView

@@ -79,9 +79,8 @@ pub fn area_name<'a>(words: &[u64], bytes: &'a [u8], index: u32) -> &'a [u8]
 }
 
 // Whether one of so many areas has that name.
-
 pub fn has_area(areas: u32, words: &[u64], bytes: &[u8], name: &[u8]) -> bool
     ensures { result ≡ has_area_in areas words.now bytes.now name.now }
 {
-    (0..areas.min(MOST_AREAS)).any(|k| text::words::equal(area_name(words, bytes, k), name))
+    (0..areas.min(MOST_AREAS)).any(|k| area_name(words, bytes, k) == name)
 }

@@ -1,11 +1,10 @@
 // One axis of a panel: taken out, and put back.
 ghost use Rattle.std.specs.Prelude.{◌≡◌};
-ghost use Rattle.panel_tables.specs.Axes.{grid_in, room_in, state_in, reading_in, with_grid, with_room, with_state, with_reading, answered_read, read_by};
-ghost use Rattle.axis_tables.specs.Store.{answered_axis};
+ghost use Rattle.panel_tables.specs.Axes.{grid_in, room_in, state_in, reading_in, with_grid, with_room, with_state};
 
-use crate::{Grid, Panel, PanelAfter, Reading, Room};
-use axis_tables::{AxisAfter, AxisGrid, AxisReading, AxisRoom, AxisState};
-use coordinates::{Axis, Fault};
+use crate::{Grid, Panel, Reading, Room};
+use axis_tables::{AxisGrid, AxisReading, AxisRoom, AxisState};
+use coordinates::Axis;
 
 // What answers on an axis.
 pub fn grid_in(grid: Grid, axis: Axis) -> AxisGrid
@@ -79,43 +78,4 @@ pub fn with_state(panel: Panel, axis: Axis, state: AxisState) -> Panel
     let grid = with_grid(panel.grid, axis, state.grid);
     let room = with_room(panel.room, axis, state.room);
     Panel { grid, room }
-}
-
-// The reading with that of an axis anew.
-fn with_reading(reading: Reading, axis: Axis, own: AxisReading) -> Reading
-    ensures { result ≡ with_reading reading axis own }
-{
-    match axis {
-        Axis::Column => Reading {
-            columns: own,
-            ..reading
-        },
-        Axis::Row => Reading {
-            rows: own,
-            ..reading
-        },
-    }
-}
-
-// The panel and the reading with what a record answered for an axis: as they came where it was refused.
-pub fn read_by(
-    panel: Panel,
-    reading: Reading,
-    axis: Axis,
-    answer: Result<AxisAfter, Fault>,
-) -> PanelAfter
-    ensures { answered_read result ≡ read_by panel reading axis (answered_axis (state_in panel axis) (reading_in reading axis) answer) }
-{
-    match answer {
-        Ok(after) => PanelAfter {
-            fault: None,
-            panel: with_state(panel, axis, after.state),
-            reading: with_reading(reading, axis, after.reading),
-        },
-        Err(fault) => PanelAfter {
-            fault: Some(fault),
-            panel,
-            reading,
-        },
-    }
 }

@@ -10,7 +10,8 @@ pub mod region;
 pub mod state;
 
 use axis_tables::{AxisGrid, AxisReading, AxisRoom};
-use coordinates::{Axis, Fault};
+use coordinates::Axis;
+use region::{PANEL_BYTES, PANEL_WORDS};
 
 // What answers are read from, beside the tables: both axes, and how many areas and placements the tables hold.
 #[repr(C)]
@@ -40,6 +41,15 @@ pub struct Panel {
     pub room: Room,
 }
 
+// What is lent of a panel to be read: its words and bytes, and the stores of the columns' and of the rows' line names.
+#[derive(Clone, Copy)]
+pub struct LentPanel<'a> {
+    pub words: &'a [u64; PANEL_WORDS],
+    pub bytes: &'a [u8; PANEL_BYTES],
+    pub columnstore: &'a [u8],
+    pub rowstore: &'a [u8],
+}
+
 // What reading keeps of a picture: how many rows were read, the number of words of the first, and whether the cells of a name are no rectangle.
 #[derive(Clone, Copy, Debug, PartialEq, Eq, Default)]
 pub struct PictureReading {
@@ -58,14 +68,6 @@ pub struct Reading {
     pub rows: AxisReading,
 }
 
-// A panel after a record and what reading it needs, and the record's fault: a row of a picture with a fault changes them too.
-#[derive(Clone, Copy, Debug, PartialEq, Eq)]
-pub struct PanelAfter {
-    pub fault: Option<Fault>,
-    pub panel: Panel,
-    pub reading: Reading,
-}
-
 // The edges of an area, as lines.
 #[derive(Clone, Copy, Debug, PartialEq, Eq)]
 pub struct AreaEdges {
@@ -73,13 +75,6 @@ pub struct AreaEdges {
     pub rowend: u32,
     pub columnstart: u32,
     pub columnend: u32,
-}
-
-// The two edges of an area in an axis.
-#[derive(Clone, Copy, Debug, PartialEq, Eq)]
-pub struct EdgePair {
-    pub start: u32,
-    pub end: u32,
 }
 
 // An area as its table holds it: its edges, and where the bytes of its name lie.

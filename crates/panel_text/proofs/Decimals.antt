@@ -9,8 +9,8 @@ use lib.Dec.{ltb}
 use lib.ListN.{length, length-append}
 use borrow.Author.Tests.{ltb-true, ltb-false, lt-ltb, le-ltb}
 use Rattle.panel_text.specs.Numerals.{digit, decimal_up_to, decimal}
-use Rattle.panel_text.specs.Written.{Put}
-use Rattle.panel_text.proofs.Puts.{put_then, put_near, put_as}
+use Rattle.panel_text.specs.Written.{Adds}
+use Rattle.panel_text.proofs.Puts.{add_then, add_near, add_as}
 
 -- as many digits as one likes
 enough : (j k n : ℕ) → n < j → n < k → decimal_up_to j n ≡ decimal_up_to k n
@@ -46,12 +46,12 @@ few-digits (suc k) n h = go (ltb n 10) refl (few-digits k (n / 10))
         rw (decimal-next n (ltb-false n 10 e)) (omega (arith, length-append (decimal (n / 10)) (digit (n % 10) ∷ []), i h10))
 
 -- a number of 32 bits, written digit by digit
-module _ {a c : List ℕ} {i k d : ℕ} (n : ℕ) where
-  pub put_one : n < 10 → d ≡ digit n → Put a i (d ∷ []) c k 1 → Put a i (decimal n) c k 10
-  put_one h e p = put_near (put_as (ap (λ (x : ℕ). x ∷ []) e ∙ sym (decimal-one n h)) p) (omega arith)
+module _ {a c : List ℕ} {d : ℕ} (n : ℕ) where
+  pub add_one : n < 10 → d ≡ digit n → Adds a (d ∷ []) c 1 → Adds a (decimal n) c 10
+  add_one h e p = add_near (add_as (ap (λ (x : ℕ). x ∷ []) e ∙ sym (decimal-one n h)) p) (omega arith)
 
-  pub put_next : {b : List ℕ} {j m : ℕ} → 10 ≤ n → n < 2 ^ 32 → d ≡ digit (n % 10) → Put a i (decimal (n / 10)) b j m → Put b j (d ∷ []) c k 1
-      → Put a i (decimal n) c k 10
-  put_next h g e p q =
-      let r = put_as (ap (λ (x : ℕ). decimal (n / 10) ++ (x ∷ [])) e ∙ sym (decimal-next n h)) (put_then p q) in
-      record { bytes = r.bytes; end = r.end; near = omega (arith, r.end, few-digits 9 n (omega arith)) }
+  pub add_next : {b : List ℕ} {m : ℕ} → 10 ≤ n → n < 2 ^ 32 → d ≡ digit (n % 10) → Adds a (decimal (n / 10)) b m → Adds b (d ∷ []) c 1
+      → Adds a (decimal n) c 10
+  add_next h g e p q =
+      let r = add_as (ap (λ (x : ℕ). decimal (n / 10) ++ (x ∷ [])) e ∙ sym (decimal-next n h)) (add_then p q) in
+      record { whole = r.whole; near = few-digits 9 n (omega arith) }

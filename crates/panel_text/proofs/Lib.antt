@@ -1,5 +1,4 @@
 pub mod Puts
 pub mod Decimals
 pub mod Hexadecimals
-pub mod Wholes
 pub mod ReadBack

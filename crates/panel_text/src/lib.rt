@@ -6,13 +6,12 @@ ghost use Rattle.panel_text.specs.Lines.{size_line, record_line, place_line, ref
 ghost use Rattle.panel_text.specs.Written.{WritesLine};
 
 mod fields;
+mod line;
 mod numerals;
 
-use coordinates::{Axis, Refusal};
-use fields::{
-    LINE_FEED, TAB, put_axis, put_collapsed, put_count, put_end_kind, put_end_number, put_field,
-    put_size, put_source, put_track,
-};
+use coordinates::Axis;
+use fields::{LINE_FEED, TAB};
+use line::PrintedLine;
 use name_resolver::ResolvedLine;
 use track_rules::GridTrack;
 
@@ -20,41 +19,49 @@ use track_rules::GridTrack;
 pub fn size_line(out: &mut [u8], axis: Axis, repetitions: u32, count: u32) -> usize
     ensures { WritesLine out.old (size_line axis repetitions count) out.new result }
 {
-    let at = put_field(out, 0, b"size", TAB);
-    let at = put_axis(out, at, axis);
-    let at = put_count(out, at, repetitions, TAB);
-    put_count(out, at, count, LINE_FEED)
+    let mut text = PrintedLine::new();
+    text.field(b"size", TAB);
+    text.axis(axis);
+    text.count(repetitions, TAB);
+    text.count(count, LINE_FEED);
+    text.put(out)
 }
 
 // The line of a track record.
 pub fn record_line(out: &mut [u8], index: u32, track: GridTrack) -> usize
     ensures { WritesLine out.old (record_line index track) out.new result }
 {
-    let at = put_count(out, 0, index, TAB);
-    let at = put_track(out, at, track.kind);
-    let at = put_collapsed(out, at, track.collapsed);
-    let at = put_size(out, at, track.size.min);
-    let at = put_size(out, at, track.size.max);
-    put_source(out, at, track.source, LINE_FEED)
+    let mut text = PrintedLine::new();
+    text.count(index, TAB);
+    text.track(track.kind);
+    text.collapsed(track.collapsed);
+    text.size(track.size.min);
+    text.size(track.size.max);
+    text.source(track.source, LINE_FEED);
+    text.put(out)
 }
 
 // The line of a placement with its names resolved.
 pub fn place_line(out: &mut [u8], axis: Axis, line: ResolvedLine) -> usize
     ensures { WritesLine out.old (place_line axis line) out.new result }
 {
-    let at = put_field(out, 0, b"place", TAB);
-    let at = put_axis(out, at, axis);
-    let at = put_end_kind(out, at, line.start);
-    let at = put_end_number(out, at, line.start, TAB);
-    let at = put_end_kind(out, at, line.end);
-    put_end_number(out, at, line.end, LINE_FEED)
+    let mut text = PrintedLine::new();
+    text.field(b"place", TAB);
+    text.axis(axis);
+    text.end_kind(line.start);
+    text.end_number(line.start, TAB);
+    text.end_kind(line.end);
+    text.end_number(line.end, LINE_FEED);
+    text.put(out)
 }
 
 // The line of a refused sheet.
-pub fn refused_line(out: &mut [u8], refusal: Refusal) -> usize
-    ensures { WritesLine out.old (refused_line refusal) out.new result }
+pub fn refused_line(out: &mut [u8], number: u32, line: u32) -> usize
+    ensures { WritesLine out.old (refused_line (record { number = number; line = line })) out.new result }
 {
-    let at = put_field(out, 0, b"refused", TAB);
-    let at = put_count(out, at, refusal.number, TAB);
-    put_count(out, at, refusal.line, LINE_FEED)
+    let mut text = PrintedLine::new();
+    text.field(b"refused", TAB);
+    text.count(number, TAB);
+    text.count(line, LINE_FEED);
+    text.put(out)
 }

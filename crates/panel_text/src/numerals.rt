@@ -1,22 +1,12 @@
-// Numbers as text, from a place in lent bytes on.
-ghost use Rattle.std.specs.Prelude.{◌≡◌, [], ◌∷◌, ◌≤◌, ◌<◌};
+// Numbers as text in a line.
+ghost use Rattle.std.specs.Prelude.{◌≡◌, ◌<◌, ◌≤◌};
 ghost use Rattle.panel_text.specs.Numerals.{decimal, whole_number, hexadecimal_digits, hexadecimal};
 ghost use Rattle.panel_text.specs.Numerals.{digit as Numerals·digit};
-ghost use Rattle.panel_text.specs.Written.{Put};
+ghost use Rattle.panel_text.specs.Written.{Adds};
 
+use crate::line::PrintedLine;
 use coordinates::signed;
 use coordinates::signed::Signed;
-
-// One byte; nothing is written past the end.
-pub(crate) fn put_byte(out: &mut [u8], place: usize, byte: u8) -> usize
-    requires { place ≤ 200 }
-    ensures { Put out.old place (byte ∷ []) out.new result 1 }
-{
-    if place < out.len() {
-        out[place] = byte;
-    }
-    place + 1
-}
 
 // The byte of a digit below 16.
 fn digit(number: u32) -> u8
@@ -30,48 +20,47 @@ fn digit(number: u32) -> u8
     }
 }
 
-// Decimal digits, the highest first.
-pub(crate) fn put_decimal(out: &mut [u8], place: usize, number: u32) -> usize
-    requires { place ≤ 180 }
-    ensures { Put out.old place (decimal number) out.new result 10 }
-{
-    if number < 10 {
-        return put_byte(out, place, digit(number));
+impl PrintedLine {
+    // Decimal digits, the highest first.
+    pub(crate) fn decimal(&mut self, number: u32)
+        ensures { Adds self.old (decimal number) self.new 10 }
+    {
+        if number < 10 {
+            return self.byte(digit(number));
+        }
+        self.decimal(number / 10);
+        self.byte(digit(number % 10));
     }
-    let last = put_decimal(out, place, number / 10);
-    put_byte(out, last, digit(number % 10))
-}
 
-// The last digits of a number in hexadecimal, the highest first.
-fn put_hexadecimal_digits(out: &mut [u8], place: usize, count: u32, number: u32) -> usize
-    requires { (place ≤ 180) × (count ≤ 8) }
-    ensures { Put out.old place (hexadecimal_digits count number) out.new result count }
-{
-    if count == 0 {
-        return place;
+    // The last digits of a number in hexadecimal, the highest first.
+    fn hexadecimal_digits(&mut self, count: u32, number: u32)
+        requires { count ≤ 8 }
+        ensures { Adds self.old (hexadecimal_digits count number) self.new count }
+    {
+        if count == 0 {
+            return;
+        }
+        self.hexadecimal_digits(count - 1, number / 16);
+        self.byte(digit(number % 16));
     }
-    let last = put_hexadecimal_digits(out, place, count - 1, number / 16);
-    put_byte(out, last, digit(number % 16))
-}
 
-// The eight hexadecimal digits of 32 bits.
-pub(crate) fn put_hexadecimal(out: &mut [u8], place: usize, bits: u32) -> usize
-    requires { place ≤ 180 }
-    ensures { Put out.old place (hexadecimal bits) out.new result 8 }
-{
-    put_hexadecimal_digits(out, place, 8, bits)
-}
+    // The eight hexadecimal digits of 32 bits.
+    pub(crate) fn hexadecimal(&mut self, bits: u32)
+        ensures { Adds self.old (hexadecimal bits) self.new 8 }
+    {
+        self.hexadecimal_digits(8, bits);
+    }
 
-// A whole number, `-` before a negative one.
-pub(crate) fn put_whole(out: &mut [u8], place: usize, number: i16) -> usize
-    requires { place ≤ 170 }
-    ensures { Put out.old place (whole_number number) out.new result 11 }
-{
-    match signed::split_16_bits(number) {
-        Signed::NonNegative(n) => put_decimal(out, place, n),
-        Signed::Negative(k) => {
-            let digits = put_byte(out, place, b'-');
-            put_decimal(out, digits, k + 1)
+    // A whole number, `-` before a negative one.
+    pub(crate) fn whole_number(&mut self, number: i16)
+        ensures { Adds self.old (whole_number number) self.new 11 }
+    {
+        match signed::split_16_bits(number) {
+            Signed::NonNegative(n) => self.decimal(n),
+            Signed::Negative(k) => {
+                self.byte(b'-');
+                self.decimal(k + 1);
+            }
         }
     }
 }

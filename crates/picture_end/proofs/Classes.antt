@@ -15,7 +15,7 @@ use Rattle.sheet_forms.specs.Forms.{Kind, area, name, track, repeat, end, spare,
 use Rattle.sheet_forms.proofs.LineRows.{word-index, kind_below}
 use Rattle.sheet_rules.specs.Kinds.{is_kind}
 use Rattle.std.specs.Prelude.{Option, Some, None}
-use Rattle.sheet_lines.specs.Fields.{kind_number as number_of_kind}
+use Rattle.sheet_lines.specs.Fields.{line_kind_number as number_of_kind}
 use Rattle.sheet_lines.specs.declared.kinds.LineKind.{LineKind}
 use Rattle.sheet_lines.specs.declared.kinds.LineKind.TheVariants.{Axis, Area, Name, Track, Repeat, End, Spare, Extra, Item, Place, Row}
 use Rattle.picture_end.specs.Steps.{class_of, later_fields, row_by, class_by}

@@ -72,6 +72,17 @@ module _ (fs : Line) (rest : List Line) (c : LineClass) (class : class_number c 
   pub follows-between : c ≡ Between → row_follows (fs ∷ rest) ≡ row_follows rest
   follows-between h = follows-later fs rest (class_number c) class (ap class_number h)
 
+-- whether a row follows from a place on, by the line that ends at the next line feed
+module _ (s : List ℕ) (at e : ℕ) (fits : at ≤ length s) (found : e ≡ at + before 10 (drop at s)) (h : e ≡ length s → ⊥) (c : LineClass) (class : class_number c ≡ class_of (split 9 (take (e - at) (drop at s)))) where
+  pub ahead_row : c ≡ Row → true ≡ row_follows (lines_from (split 10 (drop at s)))
+  ahead_row r = rw (left-more s at e fits found h) (follows-row _ (lines_from (split 10 (drop (e + 1) s))) c class r)
+
+  pub ahead_later : c ≡ Later → false ≡ row_follows (lines_from (split 10 (drop at s)))
+  ahead_later r = rw (left-more s at e fits found h) (follows-late _ (lines_from (split 10 (drop (e + 1) s))) c class r)
+
+  pub ahead_between : c ≡ Between → row_follows (lines_from (split 10 (drop at s))) ≡ row_follows (lines_from (split 10 (drop (e + 1) s)))
+  ahead_between r = rw (left-more s at e fits found h) (follows-between _ (lines_from (split 10 (drop (e + 1) s))) c class r)
+
 -- the number of a row
 pub class_row : (c : LineClass) → class_number c ≡ 1 → c ≡ Row
 class_row Between e = absurd (omega arith)

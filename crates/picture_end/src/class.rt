@@ -1,15 +1,15 @@
 // What a line is to a picture, by its first field and how many fields it has.
 ghost use Rattle.std.specs.Prelude.{◌≡◌};
 ghost use Rattle.text.specs.Split.{split};
-ghost use Rattle.sheet_lines.specs.Fields.{kind_number};
+ghost use Rattle.sheet_lines.specs.Fields.{line_kind_number};
 ghost use Rattle.picture_end.specs.Steps.{class_number, class_of, later_fields, row_by, class_by};
 
+use sheet_lines::fields::{
+    AREA_FIELDS, END_FIELDS, EXTRA_FIELDS, Fields, ITEM_FIELDS, NAME_FIELDS, PLACE_FIELDS,
+    REPEAT_FIELDS, SIZES_FIELDS,
+};
 use sheet_lines::{LineKind, kind};
-use text::fields::STARTS;
-use text::{cut_parts, part};
-
-// What parts the fields of a line.
-const TAB: u8 = b'\t';
+use text::field;
 
 // What a line is to a picture.
 #[derive(Clone, Copy, Debug, PartialEq, Eq)]
@@ -24,20 +24,20 @@ pub enum LineClass {
 // The fields of a line of a kind after which a row is late; 0 for any other kind.
 #[tactic(auto, unfolding(crate::specs::Steps::later_fields))]
 fn later_fields(kind: Option<LineKind>) -> usize
-    ensures { result ≡ later_fields (kind_number kind) }
+    ensures { result ≡ later_fields (line_kind_number kind) }
 {
     match kind {
         None => 0,
         Some(LineKind::Axis) => 0,
-        Some(LineKind::Area) => 6,
-        Some(LineKind::Name) => 3,
-        Some(LineKind::Track) => 6,
-        Some(LineKind::Repeat) => 3,
-        Some(LineKind::End) => 2,
-        Some(LineKind::Spare) => 6,
-        Some(LineKind::Extra) => 4,
-        Some(LineKind::Item) => 3,
-        Some(LineKind::Place) => 8,
+        Some(LineKind::Area) => AREA_FIELDS,
+        Some(LineKind::Name) => NAME_FIELDS,
+        Some(LineKind::Track) => SIZES_FIELDS,
+        Some(LineKind::Repeat) => REPEAT_FIELDS,
+        Some(LineKind::End) => END_FIELDS,
+        Some(LineKind::Spare) => SIZES_FIELDS,
+        Some(LineKind::Extra) => EXTRA_FIELDS,
+        Some(LineKind::Item) => ITEM_FIELDS,
+        Some(LineKind::Place) => PLACE_FIELDS,
         Some(LineKind::Row) => 0,
     }
 }
@@ -55,7 +55,7 @@ fn row_by(fields: usize) -> LineClass
 
 // A line of that kind with so many fields.
 fn class_by(kind: Option<LineKind>, fields: usize) -> LineClass
-    ensures { class_number result ≡ class_by (kind_number kind) fields }
+    ensures { class_number result ≡ class_by (line_kind_number kind) fields }
 {
     match kind {
         Some(LineKind::Row) => row_by(fields),
@@ -68,7 +68,6 @@ fn class_by(kind: Option<LineKind>, fields: usize) -> LineClass
 pub fn line_class(line: &[u8]) -> LineClass
     ensures { class_number result ≡ class_of (split 9 line.now) }
 {
-    let mut starts = [0; STARTS];
-    let fields = cut_parts(line, TAB, &mut starts);
-    class_by(kind(part(line, TAB, 0)), fields)
+    let fields = Fields::cut(line);
+    class_by(kind(field(line, &fields.starts, 0)), fields.count)
 }

@@ -12,6 +12,7 @@ const LINE_FEED: u8 = b'\n';
 
 // Whether one of the lines from a place of a sheet on is a row of the picture: no line between them ends it. What stands after the last
 // line feed is no line.
+#[tactic(auto, using(crate::proofs::Follows::left_end, crate::proofs::Follows::left_open, crate::proofs::Follows::ahead_row, crate::proofs::Follows::ahead_later, crate::proofs::Follows::ahead_between))]
 pub fn row_follows(sheet: &[u8], from: usize) -> bool
     ensures { result ≡ row_follows (lines_from (split 10 (drop from sheet.now))) }
 {

@@ -13,12 +13,15 @@ use Rattle.panel_tables.specs.declared.Panel.{Panel}
 use Rattle.panel_tables.specs.declared.AreaEdges.{AreaEdges}
 use Rattle.picture_rules.specs.Picture.{Word, is_dots}
 use Rattle.picture_areas.specs.declared.draw.PictureAfter.{PictureAfter}
-use Rattle.picture_areas.specs.Runs.{Drawn, InPicture, answered_drawn, draw_in}
+use Rattle.picture_areas.specs.Runs.{Drawn, InPicture, answered_drawn, draw_in, edges_of_box}
 use Rattle.picture_rows.specs.Steps.{joined, refused_row, settled, run_in, runs_in, started, picture_edges, spanned, counted_row, counted, row_in}
-use Rattle.picture_rules.specs.Steps.{runs_of}
-use Rattle.picture_rows.proofs.Runs.{step-dots, step-drawn}
+use Rattle.picture_rules.specs.Steps.{runs_of, run_box}
+use Rattle.picture_words.specs.declared.run.WordRun.{WordRun}
+use Rattle.picture_words.specs.Words.{words_left, word_at}
+use Rattle.picture_words.specs.Runs.{run_at}
+use Rattle.picture_rows.proofs.Runs.{step-dots, step-drawn, runs-next, runs-stop}
 use Rattle.picture_rows.proofs.Counts.{counted-refused, row-drawn}
-use Rattle.sheet_forms.proofs.Together.{fault_some}
+use Rattle.coordinates.proofs.Faults.{fault_some}
 
 -- an answer with the table beside it
 abbrev pub state : Panel → Result PictureAfter Fault → List ℕ → List ℕ → InPicture
@@ -83,21 +86,35 @@ module _ (before : PictureAfter) (n : Word) (e : AreaEdges) (w b : List ℕ) whe
         ∙ ap (λ (s : Result PictureAfter Fault). settled before.panel (joined before.broken (state before.panel s v c))) (sym h)
         ∙ ap (settled before.panel) left
 
--- ---- what is left after a run: of a refused one the fault, of another all
+-- ---- a turn of the loop: the run at a place, with its word and its edges, and what it answers
 
-module _ (q : Panel) (z : InPicture) (w b : List ℕ) where
-  pub left_so : (d : PictureAfter) → state q (Ok d) w b ≡ settled q z → (z.answer.fault ≡ 0) × (z ≡ state q (Ok d) w b)
-  left_so d e =
-      let h : z.answer.fault ≡ 0 = sym (settled_fault q z) ∙ ap (λ (x : InPicture). x.answer.fault) (sym e) in
-      (h, sym (settled_so q z h) ∙ sym e)
+module _ (row column : ℕ) (line : List ℕ) (at : ℕ) (fits : at ≤ length line) (run : WordRun) (found : run ≡ run_at line at)
+    (n : Word) (word : n ≡ word_at line at) (e : AreaEdges) (edges : e ≡ edges_of_box (run_box row column run.count))
+    (q : Panel) (x : InPicture) (r : Result PictureAfter Fault) (w b : List ℕ) (step : state q r w b ≡ settled q (run_in n e x)) where
+  abbrev z : InPicture
+  z = run_in n e x
 
-  pub left_not : (f : Fault) → state q (Err f) w b ≡ settled q z → (z.answer.fault ≡ 0 → ⊥) × ((p : Panel) → state p (Err f) w b ≡ settled p z)
-  left_not f e =
-      let h : z.answer.fault ≡ number_of f = sym (settled_fault q z) ∙ ap (λ (x : InPicture). x.answer.fault) (sym e) in
-      let n : z.answer.fault ≡ 0 → ⊥ = λ k. fault_some f (sym h ∙ k) in
-      let v : w ≡ z.words = ap (λ (x : InPicture). x.words) (e ∙ settled_not q z n) in
-      let c : b ≡ z.bytes = ap (λ (x : InPicture). x.bytes) (e ∙ settled_not q z n) in
-      (n, λ p. (λ i. record { answer = refused_row (sym h i) p; words = v i; bytes = c i }) ∙ sym (settled_not p z n))
+  abbrev rest : InPicture
+  rest = runs_in row column (runs_of (words_left line at)) x
+
+  -- it is drawn, and the runs after it are left
+  pub turn_drawn : (d : PictureAfter) → r ≡ Ok d → rest ≡ runs_in row e.columnend (runs_of (words_left line run.next)) (state q (Ok d) w b)
+  turn_drawn d h =
+      let s : state q (Ok d) w b ≡ settled q z = ap (λ (t : Result PictureAfter Fault). state q t w b) (sym h) ∙ step in
+      let f : z.answer.fault ≡ 0 = sym (settled_fault q z) ∙ ap (λ (y : InPicture). y.answer.fault) (sym s) in
+      runs-next row column line at x fits run found n word e edges z refl f
+      ∙ ap (runs_in row e.columnend (runs_of (words_left line run.next))) (sym (settled_so q z f) ∙ sym s)
+
+  -- it is refused, and so is the row
+  pub turn_refused : (f : Fault) → r ≡ Err f → (p : Panel) → state p (Err f) w b ≡ settled p rest
+  turn_refused f h p =
+      let s : state q (Err f) w b ≡ settled q z = ap (λ (t : Result PictureAfter Fault). state q t w b) (sym h) ∙ step in
+      let k : z.answer.fault ≡ number_of f = sym (settled_fault q z) ∙ ap (λ (y : InPicture). y.answer.fault) (sym s) in
+      let some : z.answer.fault ≡ 0 → ⊥ = λ j. fault_some f (sym k ∙ j) in
+      let v : w ≡ z.words = ap (λ (y : InPicture). y.words) (s ∙ settled_not q z some) in
+      let c : b ≡ z.bytes = ap (λ (y : InPicture). y.bytes) (s ∙ settled_not q z some) in
+      (λ i. record { answer = refused_row (sym k i) p; words = v i; bytes = c i }) ∙ sym (settled_not p z some)
+      ∙ ap (settled p) (sym (runs-stop row column line at x fits run found n word e edges z refl some))
 
 -- ---- a row, from what its runs leave
 

@@ -11,13 +11,13 @@ use picture_areas::{PictureAfter, draw_run};
 use picture_words::{first_word, is_dots, run_at, word_at};
 
 // The edges of a run of so many words, from a column on.
-fn run_edges(row: u32, column: u32, count: usize) -> AreaEdges
-    requires { (row ≤ 10000) × (column + count ≤ 10001) }
+fn run_edges(row: u16, column: u32, count: usize) -> AreaEdges
+    requires { column + count ≤ 10001 }
     ensures { result ≡ edges_of_box (run_box row column count) }
 {
     AreaEdges {
-        rowstart: row,
-        rowend: row + 1,
+        rowstart: u32::from(row),
+        rowend: u32::from(row) + 1,
         columnstart: column,
         columnend: column + count as u32,
     }
@@ -49,9 +49,9 @@ pub(crate) fn draw_runs(
     words: &mut [u64],
     bytes: &mut [u8],
     line: &[u8],
-    row: u32,
+    row: u16,
 ) -> Result<PictureAfter, Fault>
-    requires { (row ≤ 10000) × (length (words_of line.now) ≤ 10000) }
+    requires { length (words_of line.now) ≤ 10000 }
     ensures { record { answer = answered_drawn panel result; words = words.new; bytes = bytes.new } ≡ settled panel (runs_in row 1 (runs_of (words_of line.now)) (started panel words.old bytes.old)) }
 {
     let mut drawn = PictureAfter {

@@ -1,5 +1,5 @@
 // One row of a picture.
-ghost use Rattle.std.specs.Prelude.{◌≡◌, ◌≤◌};
+ghost use Rattle.std.specs.Prelude.{◌≡◌};
 ghost use Rattle.picture_words.specs.Words.{words_of};
 ghost use Rattle.picture_areas.specs.Runs.{answered_drawn};
 ghost use Rattle.picture_rows.specs.Steps.{picture_edges, spanned, row_in};
@@ -16,15 +16,14 @@ use picture_words::words_in;
 pub const MOST_ROWS: u32 = 10000;
 
 // The edges around the cells of a picture, of so many columns and rows.
-fn picture_edges(width: usize, row: u32) -> AreaEdges
-    requires { (width ≤ 10000) × (row ≤ 10000) }
+fn picture_edges(width: u16, row: u16) -> AreaEdges
     ensures { result ≡ picture_edges width row }
 {
     AreaEdges {
         rowstart: 1,
-        rowend: row + 1,
+        rowend: u32::from(row) + 1,
         columnstart: 1,
-        columnend: width as u32 + 1,
+        columnend: u32::from(width) + 1,
     }
 }
 
@@ -54,9 +53,10 @@ pub fn draw_row(
     if MOST_WORDS < width || MOST_ROWS < row {
         return Err(Fault::Count);
     }
-    let drawn = draw_runs(panel, words, bytes, line, row)?;
+    let drawn = draw_runs(panel, words, bytes, line, row as u16)?;
+    let edges = picture_edges(width as u16, row as u16);
     Ok(PictureAfter {
         broken: drawn.broken,
-        panel: spanned(drawn.panel, picture_edges(width, row)),
+        panel: spanned(drawn.panel, edges),
     })
 }

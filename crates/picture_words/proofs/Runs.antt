@@ -23,19 +23,12 @@ use Rattle.picture_words.specs.Runs.{start_at, run_at}
 use Rattle.picture_words.proofs.Words.{words_past, words-next, starts-here}
 
 -- two words that were compared
-pub other_word : (a b : Word) (r : Bool) → r ≡ not (pointwise nat_eq a b) → r ≡ true → same a b ≡ false
-other_word a b r e h = sym (same_pointwise a b) ∙ go (pointwise nat_eq a b) (sym h ∙ e)
+pub same_word : (a b : Word) (r : Bool) → r ≡ not (pointwise nat_eq a b) → same a b ≡ not r
+same_word a b r e = sym (same_pointwise a b) ∙ twice (pointwise nat_eq a b) ∙ ap not (sym e)
   where
-    go : (t : Bool) → true ≡ not t → t ≡ false
-    go true q = q
-    go false q = refl
-
-pub equal_word : (a b : Word) (r : Bool) → r ≡ not (pointwise nat_eq a b) → r ≡ false → same a b ≡ true
-equal_word a b r e h = sym (same_pointwise a b) ∙ go (pointwise nat_eq a b) (sym h ∙ e)
-  where
-    go : (t : Bool) → false ≡ not t → t ≡ true
-    go true q = refl
-    go false q = q
+    twice : (t : Bool) → t ≡ not (not t)
+    twice true = refl
+    twice false = refl
 
 -- the words equal to the first, it included
 first_again : (ws : List Word) → first_run ws ≡ again_of (get_or ws 0 []) ws
@@ -70,10 +63,14 @@ module _ (line : List ℕ) (at e : ℕ) (fits : at ≤ length line) (found : e �
   pub start-next : (k : ℕ) → start_at line at (k + 1) ≡ start_at line (e + 1) k
   start-next k = rw (starts-here line at e fits found, add-one k)
 
-pub run_made : (line : List ℕ) (at count next : ℕ) → first_run (words_left line at) ≡ count → start_at line at (first_run (words_left line at)) ≡ next
-    → record { count = count; next = next } ≡ run_at line at
+-- where no more word is equal, the run ends
+pub run_made : (line : List ℕ) (at count next : ℕ) (word : Word) → again_of word (words_left line next) ≡ 0 → first_run (words_left line at) ≡ count + again_of word (words_left line next)
+    → start_at line at (first_run (words_left line at)) ≡ start_at line next (again_of word (words_left line next)) → record { count = count; next = next } ≡ run_at line at
 unfolding run_at
-run_made line at count next e f = λ i. record { count = sym e i; next = sym f i }
+run_made line at count next word z e f =
+    let n : first_run (words_left line at) ≡ count = omega (arith, e, z) in
+    let g : start_at line at (first_run (words_left line at)) ≡ next = f ∙ ap (start_at line next) z ∙ start-zero line next in
+    λ i. record { count = sym n i; next = sym g i }
 
 -- ---- what follows a run
 

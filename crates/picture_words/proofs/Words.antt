@@ -18,10 +18,10 @@ words_parts line at = refl
 pub words_past : (line : List ℕ) (at : ℕ) → length line < at → words_left line at ≡ []
 words_past line at h = words_parts line at ∙ parts-past 9 line at h
 
-module _ (line : List ℕ) (at e : ℕ) (fits : at ≤ length line) (found : e ≡ word_end line at) where
-  pub word-ends : e ≤ length line
-  word-ends = find-le 9 line at e fits found
+pub end_within : (line : List ℕ) (at : ℕ) → at ≤ length line → word_end line at ≤ length line
+end_within line at fits = find-le 9 line at (word_end line at) fits refl
 
+module _ (line : List ℕ) (at e : ℕ) (fits : at ≤ length line) (found : e ≡ word_end line at) where
   pub words-next : words_left line at ≡ take (e - at) (drop at line) ∷ words_left line (e + 1)
   words-next = rw (words_parts line at, words_parts line (e + 1)) (parts_next 9 line at e fits found)
 

@@ -46,6 +46,7 @@ fn check_count(words: usize) -> Result<(), Fault>
 }
 
 // A row by itself is refused by 2 for a word that is neither dots nor a name, by 4 for too many words.
+#[tactic(auto, unfolding(sheet_forms::specs::Fields::row_fault))]
 pub fn check_row(line: &[u8]) -> Result<(), Fault>
     ensures { refused_by result ≡ row_fault (words_of line.now) }
 {

@@ -1,5 +1,5 @@
 // One word of a line: where it lies, and what it is.
-ghost use Rattle.std.specs.Prelude.{◌≡◌, eqb};
+ghost use Rattle.std.specs.Prelude.{◌≡◌, ◌≤◌, eqb, length};
 ghost use Rattle.std.specs.List.{list_all};
 ghost use Rattle.coordinates.specs.Refusals.{refused_by};
 ghost use Rattle.picture_rules.specs.Picture.{is_dots};
@@ -23,9 +23,11 @@ pub fn first_word(line: &[u8]) -> usize
     find(line, 0, TAB) + 1
 }
 
-// Where the word that starts at a place ends.
+// Where the word that starts at a place ends, which is in the line where the place is.
+#[tactic(auto, using(crate::proofs::Words::end_within))]
 pub fn word_end(line: &[u8], at: usize) -> usize
-    ensures { result ≡ word_end line.now at }
+    ensures place { result ≡ word_end line.now at }
+    ensures within { at ≤ length line.now → result ≤ length line.now }
 {
     find(line, at, TAB)
 }

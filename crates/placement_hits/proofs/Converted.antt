@@ -7,8 +7,6 @@ use native.Mathlib.Omega.{arith}
 use borrow.Author.Tests.{le-leb, lt-leb, lt-ltb, le-ltb}
 use lib.Dec.{leb}
 use lib.IntN.{ℤ, pos, negsuc}
-use mir.Syntax.{w32}
-use mir.Val.{SFits}
 use Rattle.coordinates.specs.Lines.{uncut}
 use Rattle.coordinates.proofs.Lines.{lt_or_ge, uncut_in, uncut_out}
 use Rattle.track_counts.specs.Counts.{tracks_of}
@@ -53,7 +51,3 @@ module _ (c : TrackCounts) (line : ℤ) where
           after : k ≤ m + n → cond (leb k (m + n)) (Some (m + n - k)) None ≡ place_in c (negsuc (k - suc n))
           after b = let z : m - suc (k - suc n) ≡ m + n - k = omega arith in
               rw (le-leb k (m + n) b, lt-ltb (k - suc n) m (omega arith), z)
-
--- a number of 32 bits that has no sign
-pub below_31 : (g : ℕ) (z : ℤ) → pos g ≡ z → SFits w32 z → g < 2147483648
-below_31 g z e f = (rw (← e) at f).sfits

@@ -1,6 +1,6 @@
 -- The tests of the code are document 02's: a placement is in a list exactly as Req 01 words it. Assumes nothing.
 use mathlib.Core.Path.{◌≡◌, refl, sym, ap, ◌∙◌}
-use mathlib.Core.Bool.{Bool, true, false, cond}
+use mathlib.Core.Bool.{Bool, true, false, cond, false≢true}
 use Prim.Native.Nat.{ℕ, ◌+◌, ◌≤◌, ◌<◌}
 use native.Mathlib.Omega.{arith}
 use borrow.Author.Tests.{le-leb, lt-ltb, le-ltb, leb-true, ltb-true, ltb-false}
@@ -17,7 +17,7 @@ use Rattle.placement_hits.specs.Steps.{nowhere, places_at, place_in, place_of, o
 use Rattle.std.specs.Prelude.{Option, Some, None}
 use Rattle.placement_hits.specs.declared.Places.{Places}
 use Rattle.placement_hits.proofs.GridLines.{one_place, found-place, place_found, line-not-0, placed-not-0, places-ordered, lines-ordered, lines_same, next_place, between-place}
-use Rattle.placement_hits.proofs.Tests.{never, both_hold}
+use Rattle.std.proofs.lemmas.Bool.{and_parts}
 
 -- whether there are places, and which
 is_there : Option Places → Bool
@@ -75,15 +75,15 @@ module _ (c : TrackCounts) where
       let f : j ≡ first = ap first_of r in let l : j + 1 ≡ last = ap last_of r in
       let n : k ≡ j = omega (arith, ltb-false j k x, ltb-false k j y) in
       (s, s +ℤ pos 1, one_track (lines_same c s e j p (rw n at q)), rw f at p, rw l at (next_place c s j p (ltb-true j (tracks_of c) z)))
-  ordered_lines s e j k first last p q false false false x y z r = never (sym (ap is_there r))
+  ordered_lines s e j k first last p q false false false x y z r = absurd (false≢true (ap is_there r))
 
   pub places-lines : (s e : ℤ) (first last : ℕ) → both_places (tracks_of c) (place_in c s) (place_in c e) ≡ places_at first last → FromLines s e first last
   unfolding ordered_places is_there
   places-lines s e first last r = go (place_in c s) (place_in c e) refl refl r
     where
       go : (x y : Option ℕ) → place_in c s ≡ x → place_in c e ≡ y → both_places (tracks_of c) x y ≡ places_at first last → FromLines s e first last
-      go None y p q r = never (sym (ap is_there r))
-      go (Some j) None p q r = never (sym (ap is_there r))
+      go None y p q r = absurd (false≢true (ap is_there r))
+      go (Some j) None p q r = absurd (false≢true (ap is_there r))
       go (Some j) (Some k) p q r =
           ordered_lines s e j k first last (found-place c s j p) (found-place c e k q) (ltb j k) (ltb k j) (ltb j (tracks_of c)) refl refl refl r
 
@@ -110,8 +110,8 @@ module _ (c : TrackCounts) where
     where
       go : (x y : Option ℕ) → end_place c r.first ≡ x → end_place c r.last ≡ y → both_places (tracks_of c) x y ≡ places_at first last
           → (o : OnGrid c r) × (o.first ≡ first) × (o.last ≡ last)
-      go None y d e q = never (sym (ap is_there q))
-      go (Some j) None d e q = never (sym (ap is_there q))
+      go None y d e q = absurd (false≢true (ap is_there q))
+      go (Some j) None d e q = absurd (false≢true (ap is_there q))
       go (Some j) (Some k) d e q =
           let s = line-end r.first j d in
           let f = line-end r.last k e in
@@ -144,9 +144,9 @@ module _ (c : TrackCounts) where
     within-inside to t = go (occupied_of c r) refl t
       where
         go : (x : Option Places) → occupied_of c r ≡ x → within_places below upto x ≡ true → LinesInside c Inside r
-        go None q t = never (sym t)
+        go None q t = absurd (false≢true t)
         go (Some p) q t =
-            let h = both_hold (leb below p.first) (ltb p.last upto) t in
+            let h = and_parts (leb below p.first) (ltb p.last upto) t in
             let f = found-on-grid r p.first p.last q in
             let o = f.0 in
             let a : below ≤ o.first = rw f.1 (leb-true below p.first h.0) in
@@ -172,10 +172,10 @@ module _ (c : TrackCounts) where
     around-between t = go (place_of c line) (occupied_of c r) refl refl t
       where
         go : (x : Option ℕ) (y : Option Places) → place_of c line ≡ x → occupied_of c r ≡ y → around_place x y ≡ true → LineBetween c line r
-        go None y e d t = never (sym t)
-        go (Some k) None e d t = never (sym t)
+        go None y e d t = absurd (false≢true t)
+        go (Some k) None e d t = absurd (false≢true t)
         go (Some k) (Some p) e d t =
-            let h = both_hold (ltb p.first k) (ltb k p.last) t in
+            let h = and_parts (ltb p.first k) (ltb k p.last) t in
             let f = found-on-grid r p.first p.last d in
             let o = f.0 in
             let q : AtPlace c (uncut c.explicit line) k = found-place c (uncut c.explicit line) k (sym (line-not-0 c line not-0) ∙ e) in

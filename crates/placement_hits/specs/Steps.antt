@@ -2,6 +2,7 @@
 use Rattle.std.specs.Prelude.{Bool, false, cond, ◌&&◌, List, [], ◌∷◌, ℕ, zero, suc, ◌+◌, ◌*◌, ◌-◌, eqb, leb, ltb, ℤ, pos, negsuc, nat_abs, length, get_or, set, Option, Some, None}
 use Rattle.std.proofs.lemmas.List.Edits.{sets}
 use Rattle.coordinates.specs.Axes.{axis_number}
+use Rattle.coordinates.specs.declared.axis.Axis.{Axis}
 use Rattle.coordinates.specs.Lines.{uncut}
 use Rattle.track_counts.specs.Counts.{tracks_of}
 use Rattle.track_counts.specs.declared.counts.TrackCounts.{TrackCounts}
@@ -109,10 +110,14 @@ same_number (pos a) (negsuc b) = false
 same_number (negsuc a) (pos b) = false
 same_number (negsuc a) (negsuc b) = eqb a b
 
+-- what is asked of the placements of an axis, by its number
+abbrev pub asked_of : Axis → TrackCounts → Question → Asked
+asked_of axis counts question = record { axis = pos (axis_number axis); counts = counts; question = question }
+
 -- placement i is one of the axis, and what is asked holds of it
 unfoldable pub is_hit : Asked → List ℤ → ℕ → Bool
 unfolding answers occupied_of ends_at
-is_hit a numbers i = same_number (number_at numbers i 1) (pos (axis_number a.axis)) && answers a.question (occupied_of a.counts (ends_at numbers i))
+is_hit a numbers i = same_number (number_at numbers i 1) a.axis && answers a.question (occupied_of a.counts (ends_at numbers i))
 
 -- ---- the list
 

@@ -7,7 +7,6 @@ pub mod member;
 pub mod occupied;
 pub mod place;
 
-use coordinates::Axis;
 use track_counts::counts::TrackCounts;
 
 // The places of the two lines that a placement lies between, each counted from 0 at the grid's first line.
@@ -39,10 +38,10 @@ pub enum Question {
     Around(Option<u32>),
 }
 
-// What is asked of a run of placements: of those of the axis whose tracks are counted.
+// What is asked of a run of placements: of those with that number for their axis, whose tracks are counted.
 #[derive(Clone, Copy, Debug, PartialEq, Eq)]
 pub struct Asked {
-    pub axis: Axis,
+    pub axis: i32,
     pub counts: TrackCounts,
     pub question: Question,
 }

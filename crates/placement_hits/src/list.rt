@@ -3,24 +3,18 @@ ghost use Rattle.std.specs.Prelude.{◌≡◌, ◌<◌, min};
 ghost use Rattle.placement_hits.specs.Steps.{Listed, is_hit, listed_of, one_listed, passing};
 
 use crate::Asked;
-use crate::member::{RUN_NUMBERS, is_hit};
+use crate::member::{Placement, RUN_NUMBERS};
 
 // The most placements of a list, which is as many as a panel holds.
 pub const MOST_HITS: usize = 256;
 
 // Writes a placement after those written so far where it is asked for; how many there are then.
-fn put_hit(
-    asked: Asked,
-    numbers: &[i32; RUN_NUMBERS],
-    index: u32,
-    written: u32,
-    hits: &mut [u32; MOST_HITS],
-) -> u32
-    requires { (index < 256) × (written < 256) }
-    ensures { record { count = result; hits = hits.new } ≡ one_listed (is_hit asked numbers.now index) index (record { count = written; hits = hits.old }) }
+fn put_hit(asked: Asked, placement: Placement, written: u32, hits: &mut [u32; MOST_HITS]) -> u32
+    requires { written < 256 }
+    ensures { record { count = result; hits = hits.new } ≡ one_listed (is_hit asked placement.entry.numbers.now placement.entry.index) placement.entry.index (record { count = written; hits = hits.old }) }
 {
-    if is_hit(asked, numbers, index) {
-        hits[written as usize] = index;
+    if placement.is_hit(asked) {
+        hits[written as usize] = placement.index;
         return written + 1;
     }
     written
@@ -38,7 +32,8 @@ pub fn write_hits(
     let held = count.min(MOST_HITS as u32);
     let mut written: u32 = 0;
     for index in 0..held {
-        written = put_hit(asked, numbers, index, written, hits);
+        let placement = Placement { numbers, index };
+        written = put_hit(asked, placement, written, hits);
     }
     written
 }

@@ -1,11 +1,11 @@
 // Whether a placement is in a list.
-ghost use Rattle.std.specs.Prelude.{◌≡◌, ◌<◌, pos};
-ghost use Rattle.coordinates.specs.Axes.{axis_number};
-ghost use Rattle.placement_hits.specs.Steps.{answers, within_places, around_place, end_by, end_of, ends_at, ends_by, is_hit, same_number};
+ghost use Rattle.std.specs.Prelude.{◌≡◌, ◌<◌};
+ghost use Rattle.placement_hits.specs.Steps.{answers, within_places, around_place, end_by, end_of, ends_at, ends_by, is_hit, asked_of};
 
 use crate::occupied::occupied;
 use crate::{Asked, Ends, Places, Question, SettledEnd};
 use coordinates::Axis;
+use track_counts::TrackCounts;
 
 // How many numbers a placement takes in a run.
 const PLACEMENT_NUMBERS: usize = 8;
@@ -60,39 +60,50 @@ pub fn settled_end(kind: i32, number: i32) -> SettledEnd
     }
 }
 
-// Both ends of a placement of a run.
-#[tactic(auto, unfolding(crate::specs::Steps::ends_at))]
-fn ends_at(numbers: &[i32; RUN_NUMBERS], index: u32) -> Ends
-    requires { index < 256 }
-    ensures { ends_by result ≡ ends_at numbers.now index }
-{
-    let place = PLACEMENT_NUMBERS * index as usize;
-    Ends {
-        start: settled_end(numbers[place + 2], numbers[place + 3]),
-        end: settled_end(numbers[place + 4], numbers[place + 5]),
+impl Asked {
+    // What is asked of the placements of an axis: a run has the number 0 for the columns and 1 for the rows.
+    pub fn of_axis(axis: Axis, counts: TrackCounts, question: Question) -> Asked
+        ensures { result ≡ asked_of axis counts question }
+    {
+        let axis = match axis {
+            Axis::Column => 0,
+            Axis::Row => 1,
+        };
+        Asked {
+            axis,
+            counts,
+            question,
+        }
     }
 }
 
-// Whether a number of a run is that of an axis: 0 the columns, 1 the rows.
-fn is_of_axis(number: i32, axis: Axis) -> bool
-    ensures { result ≡ same_number number (pos (axis_number axis)) }
-{
-    match axis {
-        Axis::Column => number == 0,
-        Axis::Row => number == 1,
-    }
+// A placement of a run, by its index.
+#[derive(Clone, Copy)]
+pub(crate) struct Placement<'a> {
+    pub numbers: &'a [i32; RUN_NUMBERS],
+    pub index: u32,
+    ghost in_run: { index < 256 },
 }
 
-// Whether a placement of a run is one of the axis, and what is asked holds of it.
-#[tactic(auto, unfolding(crate::specs::Steps::is_hit))]
-pub(crate) fn is_hit(asked: Asked, numbers: &[i32; RUN_NUMBERS], index: u32) -> bool
-    requires { index < 256 }
-    ensures { result ≡ is_hit asked numbers.now index }
-{
-    let axis = numbers[PLACEMENT_NUMBERS * index as usize + 1];
-    is_of_axis(axis, asked.axis)
-        && answers(
-            asked.question,
-            occupied(asked.counts, ends_at(numbers, index)),
-        )
+impl Placement<'_> {
+    // Both ends.
+    #[tactic(auto, unfolding(crate::specs::Steps::ends_at))]
+    fn ends(self) -> Ends
+        ensures { ends_by result ≡ ends_at self.entry.numbers.now self.entry.index }
+    {
+        let place = PLACEMENT_NUMBERS * self.index as usize;
+        Ends {
+            start: settled_end(self.numbers[place + 2], self.numbers[place + 3]),
+            end: settled_end(self.numbers[place + 4], self.numbers[place + 5]),
+        }
+    }
+
+    // Whether it is one of the axis, and what is asked holds of it.
+    #[tactic(auto, unfolding(crate::specs::Steps::is_hit))]
+    pub(crate) fn is_hit(self, asked: Asked) -> bool
+        ensures { result ≡ is_hit asked self.entry.numbers.now self.entry.index }
+    {
+        let axis = self.numbers[PLACEMENT_NUMBERS * self.index as usize + 1];
+        axis == asked.axis && answers(asked.question, occupied(asked.counts, self.ends()))
+    }
 }

@@ -8,7 +8,7 @@ use lib.Dec.{eqb, ltb}
 use native.Mathlib.Omega.{arith}
 use lib.ListN.{length, drop, replicate}
 use lib.Seq.{sets-eq}
-use borrow.Author.Tests.{ltb-true, ltb-false, lt-ltb, le-ltb, eq-eqb, ne_eqb, eqb-true}
+use borrow.Author.Tests.{ltb-false, lt-ltb, le-ltb, eq-eqb, ne_eqb, eqb-true, eqb-false}
 use Rattle.coordinates.specs.Refusals.{no_refusal, refusal_of, short, unread}
 use Rattle.text.specs.Split.{split}
 use Rattle.axis_tables.specs.Runs.{put_bytes, part_of}
@@ -27,14 +27,15 @@ use Rattle.sheet_rules.specs.declared.Overlap.{Overlap}
 use Rattle.sheet_rules.specs.declared.LineFault.{LineFault}
 use Rattle.sheet_rules.specs.declared.SheetFault.{SheetFault}
 use Rattle.sheet_rules.specs.declared.SheetFault.TheVariants.{Overlap as Overlaps, Line}
-use Rattle.sheet_rules.specs.Answers.{SheetAnswer, accepted_with, refused_with}
+use Rattle.sheet_rules.specs.Answers.{SheetAnswer, accepted_with, refused_with, TellsPair}
 use Rattle.sheet_rules.specs.Sheet.{Outcome, run, fold_of, broken_of, with_broken as outcome_with, display_of, no_overlap, overlap_of}
 use Rattle.sheet_rules.specs.Panels.{sized_state, sized_panel, Tables, tables_in, pasted, tables_of}
 use Rattle.sheet_rules.specs.Read.{SheetRead, short_stores, refused_sheet, refused_overlap, read_by, strict_by, read_sheet}
 use Rattle.sheet_rules.proofs.Fits.{empty_fits_sheet, display_fits}
 use Rattle.sheet_rules.proofs.Chosen.{none-overlap}
+use Rattle.sheet_rules.proofs.Former.{display-other}
 use Rattle.sheet.specs.Runs.{HeldRun, stopped, held_run, held_overlap, held_broken, held_after, held_sheet, with_broken, held_judged}
-use Rattle.sheet.specs.Steps.{fault_in, line_of, EndsAs, refused_answer, overlap_answer, judged_by, judgement, read_under}
+use Rattle.sheet.specs.Steps.{fault_in, line_of, EndsAsRun, refused_answer, overlap_answer, judged_by, judgement, read_under}
 use Rattle.sheet.proofs.Steps.{has_number}
 use Rattle.sheet.proofs.Follows.{held_sized, Follows, run_follows, overlap_follows, broken_follows}
 
@@ -179,7 +180,7 @@ pub start-zero : (p : Panel) (r : Reading) → p ≡ zero_panel → r ≡ zero_p
 start-zero p r e d = rw (e, d)
 
 -- a sheet that ended as the run into zeros did follows its outcome
-follows-end : (s : List ℕ) → length s ≤ 32768 → (end : Result (Unit {0}) LineFault) (h : PanelHeld) → EndsAs end h (held_judged s zero_held) → Follows (stopped (fault_in end) (line_of end) h) (display_of s)
+follows-end : (s : List ℕ) → length s ≤ 32768 → (end : Result (Unit {0}) LineFault) (h : PanelHeld) → EndsAsRun end h (held_judged s zero_held) → Follows (stopped (fault_in end) (line_of end) h) (display_of s)
 follows-end s few (Ok u) h e =
     let f = sheet_follows s few in
     record { fault = sym e.0 ∙ f.fault; line = λ y. absurd (y (sym f.fault ∙ e.0)); held = λ z. e.1 ∙ f.held z }
@@ -187,19 +188,20 @@ follows-end s few (Err g) h e =
     let f = sheet_follows s few in
     record { fault = e.0 ∙ f.fault; line = λ y. e.1 ∙ f.line y; held = λ z. absurd (has_number g.fault (e.0 ∙ f.fault ∙ z)) }
 
+-- the pair that was noted is the sheet's
+pub pair-noted : (s : List ℕ) → length s ≤ 32768 → (start : PanelHeld) → start ≡ zero_held → (o : Overlap) → o ≡ held_overlap 1 (split 10 s) start → o ≡ overlap_of s
+pair-noted s few start zero o e = e ∙ ap (held_overlap 1 (split 10 s)) zero ∙ sheet_overlap s few
+
 -- what was read into zeros, under one of the rules
-module _ (former : Bool) (s : List ℕ) (few : length s ≤ 32768) (end : Result (Unit {0}) LineFault) (h start : PanelHeld) (zero : start ≡ zero_held) (ends : EndsAs end h (held_judged s start)) (o : Overlap) (d₀ : o ≡ held_overlap 1 (split 10 s) start) where
+module _ (former : Bool) (s : List ℕ) (few : length s ≤ 32768) (end : Result (Unit {0}) LineFault) (h start : PanelHeld) (zero : start ≡ zero_held) (ends : EndsAsRun end h (held_judged s start)) (o : Overlap) (d₀ : o ≡ held_overlap 1 (split 10 s) start) where
   abbrev r : HeldRun
   r = stopped (fault_in end) (line_of end) h
 
   read-follows : Follows r (display_of s)
-  read-follows = follows-end s few end h (subst (λ (x : PanelHeld). EndsAs end h (held_judged s x)) zero ends)
-
-  d : o ≡ held_overlap 1 (split 10 s) zero_held
-  d = d₀ ∙ ap (held_overlap 1 (split 10 s)) zero
+  read-follows = follows-end s few end h (subst (λ (x : PanelHeld). EndsAsRun end h (held_judged s x)) zero ends)
 
   noted : o ≡ overlap_of s
-  noted = d ∙ sheet_overlap s few
+  noted = pair-noted s few start zero o d₀
 
   -- the rule on the overlap that was noted
   under : (t : Tables) → cond former (read_by o (display_of s) t) (strict_by o (display_of s) t) ≡ read_under former s t
@@ -295,3 +297,31 @@ no-pair-by p o t z = go (eqb p.later 0) (eqb o.fault 0) (short_stores t) z
 pub no-pair : (s : List ℕ) (t u : Tables) (p : Overlap) (panel : Panel) → record { answer = accepted_with p panel; tables = u } ≡ read_sheet s t → record { answer = accepted_with no_overlap panel; tables = u } ≡ read_sheet s t
 unfolding read_sheet
 no-pair s t u p panel e = ap unpaired e ∙ no-pair-by (overlap_of s) (display_of s) t (ap (λ (r : SheetRead). r.answer.refusal.number) (sym e))
+
+-- ---- no line is refused by 12
+
+by-other : (p : Overlap) (o : Outcome) (t : Tables) → (o.fault ≡ 12 → ⊥) → (read_by p o t).answer.refusal.number ≡ 12 → ⊥
+unfolding read_by
+by-other p o t h = go (eqb o.fault 0) (short_stores t)
+  where
+    go : (b c : Bool)
+        → (cond b (cond c (refused_sheet (refusal_of short) t) (record { answer = accepted_with p (sized_panel o.view); tables = tables_of o.view t })) (refused_sheet (record { number = o.fault; line = o.line }) t)).answer.refusal.number ≡ 12
+        → ⊥
+    go true true z = omega (arith, z)
+    go true false z = omega (arith, z)
+    go false c z = h z
+
+under-other : (former : Bool) (s : List ℕ) (t : Tables) → (read_under former s t).answer.refusal.number ≡ 12 → (read_under former s t).answer.later ≡ 0 → ⊥
+unfolding read_under read_sheet strict_by
+under-other true s t z l = by-other (overlap_of s) (display_of s) t (display-other s) z
+under-other false s t z l = go (eqb (overlap_of s).later 0) refl z l
+  where
+    go : (b : Bool) → eqb (overlap_of s).later 0 ≡ b → (cond b (read_by no_overlap (display_of s) t) (refused_overlap (overlap_of s) t)).answer.refusal.number ≡ 12
+        → (cond b (read_by no_overlap (display_of s) t) (refused_overlap (overlap_of s) t)).answer.later ≡ 0 → ⊥
+    go true e y m = by-other no_overlap (display_of s) t (display-other s) y
+    go false e y m = eqb-false (overlap_of s).later 0 e m
+
+-- a refusal by 12 has its pair
+pub tells_pair : (former : Bool) (s : List ℕ) (t u : Tables) (f : SheetFault) → record { answer = refused_with f; tables = u } ≡ read_under former s t → TellsPair f
+tells_pair former s t u (Overlaps p) e = tt
+tells_pair former s t u (Line g) e = λ z. under-other former s t (ap (λ (r : SheetRead). r.answer.refusal.number) (sym e) ∙ z) (ap (λ (r : SheetRead). r.answer.later) (sym e))

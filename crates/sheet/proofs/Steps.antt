@@ -25,7 +25,7 @@ use Rattle.panel_tables.specs.Regions.{axis_words_in, area_words_in, placement_w
 use Rattle.panel_tables.specs.Written.{PanelHeld, PanelStepped, panel_held_of}
 use Rattle.sheet_rules.specs.declared.Overlap.{Overlap}
 use Rattle.sheet_rules.specs.declared.LineFault.{LineFault}
-use Rattle.sheet_rules.specs.Answers.{noted, Numbered}
+use Rattle.sheet_rules.specs.Answers.{noted, NumberedPair}
 use Rattle.sheet_rules.specs.Sheet.{no_overlap}
 use Rattle.sheet_rules.specs.Contents.{Line, lines_from}
 use Rattle.sheet_forms.specs.Said.{Record, Fault, Axis as AxisLine, Area, Name, Track, Repeat, End, Spare, Extra, Item, Place, PictureRow}
@@ -39,7 +39,7 @@ use Rattle.sheet_faults.specs.Lines.{fault_before, shared_in, line_in, line_shar
 use Rattle.sheet_step.specs.declared.Draft.{Draft}
 use Rattle.sheet_step.specs.Drafts.{held_of}
 use Rattle.sheet.specs.Runs.{HeldRun, stopped, held_run, noted_at, or_else, held_overlap, broken_note, or_line, held_broken, ended_by, ended_panel, held_end, held_after, held_sheet, held_judged}
-use Rattle.sheet.specs.Steps.{EndsAs, at_line}
+use Rattle.sheet.specs.Steps.{EndsAsRun, at_line}
 
 -- there is always a part
 data HasPart (ps : List (List ℕ)) : Type 0 where
@@ -128,23 +128,23 @@ else_joined o p q = go (eqb o.later 0) refl
     go false e = sym (rw e)
 
 -- one that was noted stays
-module _ (o p : Option Overlap) (n : Numbered o) (r : Option Overlap) (e : r ≡ option_or o p) where
+module _ (o p : Option Overlap) (n : NumberedPair o) (r : Option Overlap) (e : r ≡ option_or o p) where
   pub noted-after : (q : Overlap) → noted p ≡ q → noted r ≡ or_else (noted o) q
   noted-after q d = ap noted e ∙ go o n ∙ ap (or_else (noted o)) d
     where
-      go : (o : Option Overlap) → Numbered o → noted (option_or o p) ≡ or_else (noted o) (noted p)
+      go : (o : Option Overlap) → NumberedPair o → noted (option_or o p) ≡ or_else (noted o) (noted p)
       go None n = refl
       go (Some x) n = sym (rw (ne_eqb x.later 0 (λ y. omega arith)))
 
-  pub numbered-after : Numbered p → Numbered r
+  pub numbered-after : NumberedPair p → NumberedPair r
   numbered-after m = rw e (go o n)
     where
-      go : (o : Option Overlap) → Numbered o → Numbered (option_or o p)
+      go : (o : Option Overlap) → NumberedPair o → NumberedPair (option_or o p)
       go None n = m
       go (Some x) n = n
 
 -- nothing is noted later
-pub settled : (o : Option Overlap) → Numbered o → or_else (noted o) no_overlap ≡ noted o
+pub settled : (o : Option Overlap) → NumberedPair o → or_else (noted o) no_overlap ≡ noted o
 settled None n = refl
 settled (Some x) n = rw (ne_eqb x.later 0 (λ y. omega arith))
 
@@ -237,19 +237,19 @@ module _ (s : List ℕ) (h : PanelHeld) where
   judged-sheet z = rw z
 
   -- a broken picture
-  pub ends-broken : (n : ℕ) (k : PanelHeld) → 0 < n → n ≡ held_broken 1 (split 10 s) h → EndsAs (Err (record { fault = Broken; line = n })) k (held_judged s h)
+  pub ends-broken : (n : ℕ) (k : PanelHeld) → 0 < n → n ≡ held_broken 1 (split 10 s) h → EndsAsRun (Err (record { fault = Broken; line = n })) k (held_judged s h)
   unfolding held_judged
   ends-broken n k p e = rw (← e, ne_eqb n 0 (λ y. omega arith)) (refl, refl)
 
   module _ (broken : held_broken 1 (split 10 s) h ≡ 0) where
     -- a refused line
-    pub ends-refused : (f : LineFault) (k l : PanelHeld) → record { fault = number_of f.fault; line = f.line; held = k } ≡ held_run 1 (split 10 s) h → EndsAs (Err f) l (held_judged s h)
+    pub ends-refused : (f : LineFault) (k l : PanelHeld) → record { fault = number_of f.fault; line = f.line; held = k } ≡ held_run 1 (split 10 s) h → EndsAsRun (Err f) l (held_judged s h)
     unfolding held_sheet held_after
     ends-refused f k l e = rw (judged-sheet broken, ← e, ne_eqb (number_of f.fault) 0 (has_number f.fault)) (refl, refl)
 
     -- none is refused, and then the end of both axes
     pub ends-after : (n : ℕ) (k : PanelHeld) → record { fault = 0; line = n; held = k } ≡ held_run 1 (split 10 s) h → (end : Result (Unit {0}) RefusedFor) (l : PanelHeld)
-        → record { fault = refused_by end; line = 0; held = l } ≡ held_end 0 k → EndsAs (at_line n end) l (held_judged s h)
+        → record { fault = refused_by end; line = 0; held = l } ≡ held_end 0 k → EndsAsRun (at_line n end) l (held_judged s h)
     unfolding held_sheet held_after
     ends-after n k e (Ok u) l d = rw (judged-sheet broken, ← e) (sym (ap (λ (r : HeldRun). r.fault) d), ap (λ (r : HeldRun). r.held) d)
     ends-after n k e (Err f) l d = rw (judged-sheet broken, ← e) (ap (λ (r : HeldRun). r.fault) d, refl)

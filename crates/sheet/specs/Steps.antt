@@ -59,9 +59,9 @@ at_line n (Ok u) = Ok u
 at_line n (Err fault) = Err (record { fault = fault; line = n })
 
 -- a sheet ends as a run does: refused at the same line, or not, with what the run holds
-abbrev pub EndsAs : Result (Unit {0}) LineFault → PanelHeld → HeldRun → Type 0
-EndsAs (Ok u) h r = (r.fault ≡ 0) × (h ≡ r.held)
-EndsAs (Err f) h r = (number_of f.fault ≡ r.fault) × (f.line ≡ r.line)
+abbrev pub EndsAsRun : Result (Unit {0}) LineFault → PanelHeld → HeldRun → Type 0
+EndsAsRun (Ok u) h r = (r.fault ≡ 0) × (h ≡ r.held)
+EndsAsRun (Err f) h r = (number_of f.fault ≡ r.fault) × (f.line ≡ r.line)
 
 -- ---- under the former rule, by which an overlap is no fault, or the new one
 

@@ -2,11 +2,11 @@
 ghost use Rattle.std.specs.Prelude.{◌≡◌, ◌≤◌, length};
 ghost use Rattle.text.specs.Split.{split};
 ghost use Rattle.coordinates.specs.Refusals.{refused_by};
-ghost use Rattle.sheet_rules.specs.Answers.{noted, Numbered};
+ghost use Rattle.sheet_rules.specs.Answers.{noted, NumberedPair};
 ghost use Rattle.sheet_end.specs.End.{answered_end};
 ghost use Rattle.sheet_step.specs.Drafts.{held_of};
 ghost use Rattle.sheet.specs.Runs.{held_end, held_overlap, held_judged};
-ghost use Rattle.sheet.specs.Steps.{ended_in, at_line, EndsAs};
+ghost use Rattle.sheet.specs.Steps.{ended_in, at_line, EndsAsRun};
 
 use crate::SheetRun;
 use crate::lines::read_lines;
@@ -14,7 +14,7 @@ use axis_tables::layout::AXIS_WORDS;
 use axis_tables::{AxisReading, AxisState};
 use coordinates::{Axis, Fault};
 use panel_tables::axis::{state_in, with_state};
-use panel_tables::region::first_word;
+use panel_tables::region::{PANEL_WORDS, first_word};
 use sheet_end::end_axis;
 use sheet_rules::LineFault;
 use sheet_step::{Draft, first_refusal};
@@ -24,10 +24,10 @@ fn end_in(
     axis: Axis,
     state: AxisState,
     reading: AxisReading,
-    words: &mut [u64],
+    words: &mut [u64; PANEL_WORDS],
 ) -> Result<AxisState, Fault>
-    requires { length words.old ≡ 25600 }
-    ensures { record { answer = answered_end state result; words = words.new } ≡ ended_in axis state reading words.old }
+    ensures ended { record { answer = answered_end state result; words = words.new } ≡ ended_in axis state reading words.old }
+    ensures length { length words.new ≡ 25600 }
 {
     let first = first_word(axis);
     let end = first + AXIS_WORDS;
@@ -62,9 +62,9 @@ fn at_line(end: Result<(), Fault>, line: u32) -> Result<(), LineFault>
 // The lines and the end of a sheet into the draft. A broken picture is refused by 14 at its last row: no line before that one is refused.
 pub(crate) fn read_panel(sheet: &[u8], draft: &mut Draft) -> SheetRun
     requires { length sheet.now ≤ 32768 }
-    ensures run { EndsAs result.end (held_of draft.new) (held_judged sheet.now (held_of draft.old)) }
+    ensures run { EndsAsRun result.end (held_of draft.new) (held_judged sheet.now (held_of draft.old)) }
     ensures overlap { noted result.overlap ≡ held_overlap 1 (split 10 sheet.now) (held_of draft.old) }
-    ensures numbered { Numbered result.overlap }
+    ensures numbered { NumberedPair result.overlap }
 {
     let lines = read_lines(sheet, draft);
     let overlap = lines.overlap;

@@ -2,7 +2,7 @@
 ghost use Rattle.std.specs.Prelude.{◌≡◌, ◌<◌, ◌≤◌, length, drop};
 ghost use Rattle.text.specs.Split.{split};
 ghost use Rattle.sheet_rules.specs.Contents.{lines_from};
-ghost use Rattle.sheet_rules.specs.Answers.{noted, Numbered};
+ghost use Rattle.sheet_rules.specs.Answers.{noted, NumberedPair};
 ghost use Rattle.panel_cells.specs.Steps.{area_number_of};
 ghost use Rattle.sheet_step.specs.Drafts.{held_of};
 ghost use Rattle.sheet.specs.Runs.{held_run, noted_at, held_overlap, broken_note, or_line, held_broken};
@@ -23,7 +23,7 @@ const LINE_FEED: u8 = 10;
 fn overlap_at(shared: Option<u32>, areas: u32, line: u32) -> Option<Overlap>
     requires { area_number_of shared ≤ 64 }
     ensures overlap { noted result ≡ noted_at (area_number_of shared) areas line }
-    ensures numbered { Numbered result }
+    ensures numbered { NumberedPair result }
 {
     let index = shared?;
     Some(Overlap {
@@ -58,7 +58,7 @@ pub(crate) fn read_lines(sheet: &[u8], draft: &mut Draft) -> LinesRead
     requires { length sheet.now ≤ 32768 }
     ensures lines { record { fault = fault_in result.end; line = stop_in result.end; held = held_of draft.new } ≡ held_run 1 (split 10 sheet.now) (held_of draft.old) }
     ensures overlap { noted result.overlap ≡ held_overlap 1 (split 10 sheet.now) (held_of draft.old) }
-    ensures numbered { Numbered result.overlap }
+    ensures numbered { NumberedPair result.overlap }
     ensures picture { line_or_none result.broken ≡ held_broken 1 (split 10 sheet.now) (held_of draft.old) }
     ensures positive { IsLine result.broken }
 {

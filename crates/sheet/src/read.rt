@@ -1,8 +1,9 @@
 // A sheet read as a whole.
-ghost use Rattle.std.specs.Prelude.{◌≡◌, IfOk};
+ghost use Rattle.std.specs.Prelude.{◌≡◌, IfOk, IfErr};
 ghost use Rattle.axis_tables.specs.Runs.{put_bytes, part_of};
-ghost use Rattle.sheet_rules.specs.Answers.{noted, Numbered, answered_sheet, answered_display};
+ghost use Rattle.sheet_rules.specs.Answers.{noted, NumberedPair, TellsPair, answered_sheet, answered_display};
 ghost use Rattle.sheet_rules.specs.Panels.{tables_in};
+ghost use Rattle.sheet_rules.specs.Sheet.{overlap_of};
 ghost use Rattle.sheet_rules.specs.Read.{SheetRead, read_sheet, DisplayRead, read_display};
 ghost use Rattle.sheet.specs.Steps.{fault_in, line_of, judged_by, judgement, answered_read, read_under};
 
@@ -29,7 +30,7 @@ fn whole_fault(fault: Fault) -> SheetFault
 
 // What a sheet is refused by: two areas that share a cell, but not under the former rule, else its own fault.
 fn judged(former: bool, run: SheetRun) -> Result<(), SheetFault>
-    requires { Numbered run.overlap }
+    requires { NumberedPair run.overlap }
     ensures { judgement result ≡ judged_by former (noted run.overlap) (fault_in run.end) (line_of run.end) }
 {
     match run.overlap {
@@ -56,7 +57,9 @@ fn read_tables(
     rowstore: &mut [u8],
 ) -> Result<ReadPanel, SheetFault>
     ensures read { record { answer = answered_read result; tables = tables_in words.new bytes.new columnstore.new rowstore.new } ≡ read_under former sheet.now (tables_in words.old bytes.old columnstore.old rowstore.old) }
-    ensures numbered { IfOk result (λ r. Numbered r.overlap) }
+    ensures pair { IfOk result (λ r. noted r.overlap ≡ overlap_of sheet.now) }
+    ensures numbered { IfOk result (λ r. NumberedPair r.overlap) }
+    ensures fault { IfErr result (λ f. TellsPair f) }
 {
     if SHEET_BYTES < sheet.len() {
         return Err(whole_fault(Fault::Unread));
@@ -95,7 +98,8 @@ pub fn read_sheet(
     columnstore: &mut [u8],
     rowstore: &mut [u8],
 ) -> Result<Panel, SheetFault>
-    ensures { record { answer = answered_sheet result; tables = tables_in words.new bytes.new columnstore.new rowstore.new } ≡ read_sheet sheet.now (tables_in words.old bytes.old columnstore.old rowstore.old) }
+    ensures read { record { answer = answered_sheet result; tables = tables_in words.new bytes.new columnstore.new rowstore.new } ≡ read_sheet sheet.now (tables_in words.old bytes.old columnstore.old rowstore.old) }
+    ensures fault { IfErr result (λ f. TellsPair f) }
 {
     let read = read_tables(false, sheet, words, bytes, columnstore, rowstore)?;
     Ok(read.panel)
@@ -111,7 +115,9 @@ pub fn display_sheet(
     rowstore: &mut [u8],
 ) -> Result<Display, SheetFault>
     ensures display { record { answer = answered_display result; tables = tables_in words.new bytes.new columnstore.new rowstore.new } ≡ read_display sheet.now (tables_in words.old bytes.old columnstore.old rowstore.old) }
-    ensures numbered { IfOk result (λ d. Numbered d.overlap) }
+    ensures pair { IfOk result (λ d. noted d.overlap ≡ overlap_of sheet.now) }
+    ensures numbered { IfOk result (λ d. NumberedPair d.overlap) }
+    ensures fault { IfErr result (λ f. TellsPair f) }
 {
     let read = read_tables(true, sheet, words, bytes, columnstore, rowstore)?;
     Ok(Display {

@@ -2,15 +2,27 @@
 ghost use Rattle.std.specs.Prelude.{◌≡◌, map, ◌≤◌, min, length, Ok};
 ghost use Rattle.std.proofs.lemmas.List.Edits.{sets};
 ghost use Rattle.template_rules.specs.Explicit.{answered_size};
-ghost use Rattle.name_template.specs.Writing.{entry_word, answered_names, names_written};
+ghost use Rattle.name_template.specs.Writing.{entry_word};
 ghost use Rattle.sheet_end.specs.End.{components_in, names_in, entries_by};
 
 use axis_tables::AxisState;
 use axis_tables::layout::{ENTRIES, NAMES, part_from};
 use coordinates::Fault;
-use name_template::count::count_written_names;
-use name_template::write_out::write_names;
+use name_template::TemplateNames;
 use template_rules::ExplicitSize;
+
+// The names of an axis's template, with the repetitions of its automatic repeat.
+fn names_of(state: AxisState, repetitions: u32, words: &[u64]) -> TemplateNames
+    ensures names { result.names.now ≡ names_in state words.now }
+    ensures components { result.components.now ≡ components_in state words.now }
+    ensures repetitions { result.repetitions ≡ repetitions }
+{
+    TemplateNames {
+        names: part_from(words, NAMES, state.room.names),
+        components: part_from(words, 0, state.room.template.components),
+        repetitions,
+    }
+}
 
 // How many entries an axis of that size has, held at 4,097: none where its template counts as none.
 #[tactic(auto, unfolding(crate::specs::End::entries_by))]
@@ -20,28 +32,7 @@ pub fn count_entries(state: AxisState, size: ExplicitSize, words: &[u64]) -> u32
     if size.template == 0 {
         return 0;
     }
-    count_written_names(
-        part_from(words, NAMES, state.room.names),
-        part_from(words, 0, state.room.template.components),
-        size.repetitions,
-    )
-}
-
-// Writes the entries of an axis into the first places of a table.
-fn write_entries(
-    state: AxisState,
-    repetitions: u32,
-    words: &[u64],
-    entries: &mut [u64; 4096],
-) -> Result<u32, Fault>
-    ensures { record { answer = answered_names result; entries = entries.new } ≡ names_written (names_in state words.now) (components_in state words.now) repetitions entries.old }
-{
-    write_names(
-        part_from(words, NAMES, state.room.names),
-        part_from(words, 0, state.room.template.components),
-        repetitions,
-        entries,
-    )
+    names_of(state, size.repetitions, words).count_names()
 }
 
 // Copies a table into the words from a place on, as far as they reach.
@@ -65,6 +56,6 @@ pub(crate) fn put_entries(state: AxisState, size: ExplicitSize, count: u32, word
         return;
     }
     let mut entries = [0u64; 4096];
-    let _ = write_entries(state, size.repetitions, words, &mut entries);
+    let _ = names_of(state, size.repetitions, words).write_names(&mut entries);
     copy_words(words, ENTRIES, part_from(&entries, 0, count));
 }

@@ -13,6 +13,14 @@ use panel_tables::area::has_area;
 use panel_tables::axis::reading_in;
 use sheet_forms::{Record, first_fault};
 
+// The areas that stand before a line: how many, their words, and the bytes of their names.
+#[derive(Clone, Copy)]
+pub struct AreasBefore<'a> {
+    pub count: u32,
+    pub words: &'a [u64],
+    pub bytes: &'a [u8],
+}
+
 // The fault of a line by itself.
 fn own(said: Result<Record, Fault>) -> Option<Fault>
     ensures { fault_number result ≡ fault_of (said_of said) }
@@ -35,10 +43,10 @@ fn axis_twice(reading: Reading, axis: Axis) -> Option<Fault>
 }
 
 // An area name again.
-fn area_twice(count: u32, areas: &[u64], areabytes: &[u8], name: &[u8]) -> Option<Fault>
-    ensures { fault_number result ≡ area_twice count areas.now areabytes.now name.now }
+fn area_twice(areas: AreasBefore<'_>, name: &[u8]) -> Option<Fault>
+    ensures { fault_number result ≡ area_twice areas.entry.count areas.entry.words.now areas.entry.bytes.now name.now }
 {
-    if has_area(count, areas, areabytes, name) {
+    if has_area(areas.count, areas.words, areas.bytes, name) {
         return Some(Fault::Twice);
     }
     None
@@ -46,18 +54,16 @@ fn area_twice(count: u32, areas: &[u64], areabytes: &[u8], name: &[u8]) -> Optio
 
 // An area name or axis record again, where a record's first name is `name`.
 fn twice(
-    count: u32,
+    areas: AreasBefore<'_>,
     reading: Reading,
-    areas: &[u64],
-    areabytes: &[u8],
     name: &[u8],
     said: Result<Record, Fault>,
 ) -> Option<Fault>
-    ensures { fault_number result ≡ twice_of count reading areas.now areabytes.now name.now (said_of said) }
+    ensures { fault_number result ≡ twice_of areas.entry.count reading areas.entry.words.now areas.entry.bytes.now name.now (said_of said) }
 {
     match said {
         Ok(Record::Axis(a)) => axis_twice(reading, a.axis),
-        Ok(Record::Area(_)) => area_twice(count, areas, areabytes, name),
+        Ok(Record::Area(_)) => area_twice(areas, name),
         _ => None,
     }
 }
@@ -101,17 +107,15 @@ fn late(reached: u32, said: Result<Record, Fault>) -> Option<Fault>
 
 // Of the faults that a record whose first name is `name` has before it is written, the one that comes first.
 pub fn fault_before(
-    count: u32,
+    areas: AreasBefore<'_>,
     reading: Reading,
-    areas: &[u64],
-    areabytes: &[u8],
     name: &[u8],
     said: Result<Record, Fault>,
 ) -> Option<Fault>
-    ensures { fault_number result ≡ before_of count reading areas.now areabytes.now name.now (said_of said) }
+    ensures { fault_number result ≡ before_of areas.entry.count reading areas.entry.words.now areas.entry.bytes.now name.now (said_of said) }
 {
     let first = own(said);
-    let again = twice(count, reading, areas, areabytes, name, said);
+    let again = twice(areas, reading, name, said);
     let after = late(reading.stage, said);
     first_fault(first, first_fault(again, after))
 }

@@ -2,7 +2,7 @@
 ghost use Rattle.std.specs.Prelude.{◌≡◌};
 ghost use Rattle.coordinates.specs.Refusals.{refused_by};
 ghost use Rattle.text.specs.Whole.{whole_of, index_in};
-ghost use Rattle.sheet_forms.specs.Answers.{kind_number, kind_said, integer_said, end_said, end_only};
+ghost use Rattle.sheet_forms.specs.Answers.{end_kind_number, kind_said, integer_said, end_said, end_where_read};
 ghost use Rattle.sheet_forms.specs.Fields.{count_of};
 ghost use Rattle.sheet_forms.specs.Ends.{end_kind, unused_name, end_name, index_field, span_field, unused_number, end_number, end_of};
 
@@ -40,7 +40,7 @@ fn unused_name(f: &[u8]) -> Result<(), Fault>
 // The name of an end: `named` and `nspan` use theirs.
 #[tactic(auto, unfolding(sheet_forms::specs::Ends::end_name))]
 fn end_name(kind: EndKind, f: &[u8]) -> Result<(), Fault>
-    ensures { refused_by result ≡ end_name (kind_number kind) f.now }
+    ensures { refused_by result ≡ end_name (end_kind_number kind) f.now }
 {
     match kind {
         EndKind::Named | EndKind::NamedSpan => check_name(f),
@@ -77,7 +77,7 @@ fn unused_number(f: &[u8]) -> Result<i32, Fault>
 // The number of an end: a line index of `line` and `named`, a span of `span` and `nspan`.
 #[tactic(auto, unfolding(sheet_forms::specs::Ends::end_number))]
 fn end_number(kind: EndKind, f: &[u8]) -> Result<i32, Fault>
-    ensures { integer_said result ≡ end_number (kind_number kind) f.now }
+    ensures { integer_said result ≡ end_number (end_kind_number kind) f.now }
 {
     match kind {
         EndKind::Auto => unused_number(f),
@@ -87,8 +87,9 @@ fn end_number(kind: EndKind, f: &[u8]) -> Result<i32, Fault>
 }
 
 // An end that three fields write.
+#[tactic(auto, unfolding(sheet_forms::specs::Ends::end_of, sheet_forms::specs::Faults::first_of), using(sheet_forms::proofs::Firsts::first_one, sheet_forms::proofs::Together::fault_number))]
 pub fn end(f: &[u8], name: &[u8], number: &[u8]) -> Result<PlaceEnd, Fault>
-    ensures { end_said result ≡ end_only (end_of f.now name.now number.now) }
+    ensures { end_said result ≡ end_where_read (end_of f.now name.now number.now) }
 {
     let Some(kind) = kind(f) else {
         return Err(Fault::Unread);

@@ -5,7 +5,7 @@ use Rattle.coordinates.specs.declared.refusal.Fault.{Fault as RefusedFor}
 use Rattle.coordinates.specs.Refusals.{number_of, refused_by}
 use Rattle.sheet_forms.specs.Faults.{first_of}
 use Rattle.sheet_forms.specs.Said.{Record, Fault}
-use Rattle.sheet_forms.specs.Answers.{both_of, end_only, EndField, AxisField}
+use Rattle.sheet_forms.specs.Answers.{both_of, end_where_read, EndField, AxisField}
 use Rattle.sheet_forms.specs.Records.{unless, made_place}
 use borrow.Author.Tests.{eq-eqb, eqb-true}
 use Rattle.sheet_forms.proofs.Firsts.{first_zero}
@@ -31,10 +31,10 @@ module _ {A B C D E : Type 0} (a : Result A RefusedFor) (b : Result B RefusedFor
   five_fault = both_fault a (both_of b (both_of c (both_of d e))) ∙ ap (first_of (refused_by a)) (four_fault b c d e)
 
 -- a placement has no use for what is beside a fault
-pub place_only : (a : AxisField) (s e : EndField) → made_place a (end_only s) (end_only e) ≡ made_place a s e
+pub place_only : (a : AxisField) (s e : EndField) → made_place a (end_where_read s) (end_where_read e) ≡ made_place a s e
 place_only a s e = go (eqb (first_of a.fault (first_of s.fault e.fault)) 0) refl
   where
-    go : (t : Bool) → eqb (first_of a.fault (first_of s.fault e.fault)) 0 ≡ t → made_place a (end_only s) (end_only e) ≡ made_place a s e
+    go : (t : Bool) → eqb (first_of a.fault (first_of s.fault e.fault)) 0 ≡ t → made_place a (end_where_read s) (end_where_read e) ≡ made_place a s e
     go false q = rw q refl
     go true q =
         let none = first_zero s.fault e.fault (first_zero a.fault (first_of s.fault e.fault) (eqb-true _ 0 q)).1 in

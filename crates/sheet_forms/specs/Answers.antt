@@ -110,16 +110,16 @@ repetition_said (Ok Fit) = record { fault = 0; kind = 2; number = 0 }
 repetition_said (Err fault) = record { fault = number_of fault; kind = 0; number = 0 }
 
 -- kinds of ends in the order of their words: `auto line named span nspan`
-abbrev pub kind_number : EndKind → ℕ
-kind_number Auto = 0
-kind_number Line = 1
-kind_number Named = 2
-kind_number Span = 3
-kind_number NamedSpan = 4
+abbrev pub end_kind_number : EndKind → ℕ
+end_kind_number Auto = 0
+end_kind_number Line = 1
+end_kind_number Named = 2
+end_kind_number Span = 3
+end_kind_number NamedSpan = 4
 
 -- a word that names none is unread
 abbrev pub kind_said : Option EndKind → Field
-kind_said (Some kind) = record { fault = 0; value = kind_number kind }
+kind_said (Some kind) = record { fault = 0; value = end_kind_number kind }
 kind_said None = record { fault = 1; value = 0 }
 
 -- kinds of sizes in the order of theirs: `len pct fr auto min max fitl fitp`
@@ -128,7 +128,7 @@ size_kind_said (Some kind) = record { fault = 0; value = number_of_kind kind }
 size_kind_said None = record { fault = 1; value = 0 }
 
 abbrev pub place_end : EndRead → PlaceEnd
-place_end e = record { kind = kind_number e.kind; number = e.number }
+place_end e = record { kind = end_kind_number e.kind; number = e.number }
 
 abbrev pub unwritten_end : PlaceEnd
 unwritten_end = record { kind = 0; number = pos 0 }
@@ -140,9 +140,9 @@ end_or_none (Err fault) = unwritten_end
 abbrev pub end_said : Result EndRead RefusedFor → EndField
 end_said r = record { fault = refused_by r; end = end_or_none r }
 
--- an end without what is beside a fault
-abbrev pub end_only : EndField → EndField
-end_only e = record { fault = e.fault; end = cond (eqb e.fault 0) e.end unwritten_end }
+-- an end where it was read, and nothing of it beside a fault
+abbrev pub end_where_read : EndField → EndField
+end_where_read e = record { fault = e.fault; end = cond (eqb e.fault 0) e.end unwritten_end }
 
 abbrev pub axis_record : AxisRead → AxisRecord
 axis_record a = record { axis = a.axis; definite = is_definite a.inner; inner = bits_said a.inner; rule = rule_number a.rule; gap = a.gap }

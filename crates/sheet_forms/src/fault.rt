@@ -1,34 +1,44 @@
 // Which of the faults of one line is named.
-ghost use Rattle.std.specs.Prelude.{◌≡◌};
-ghost use Rattle.coordinates.specs.Refusals.{number_of, fault_number};
+ghost use Rattle.std.specs.Prelude.{◌≡◌, Ok, IfOk};
+ghost use Rattle.coordinates.specs.Refusals.{number_of, fault_number, refused_by};
 ghost use Rattle.sheet_forms.specs.Faults.{rank_of, first_of};
 ghost use Rattle.sheet_forms.specs.Answers.{first_named, both_of};
 
 use coordinates::Fault;
+use coordinates::refusal::{
+    AREA, BROKEN, COUNT, CROWDED, LATE, NAME, OVERLAP, SHORT, TWICE, UNEQUAL, UNREAD, VALUE,
+    ZERO_LINE,
+};
 
-// A fault's place in the order in which the faults of one line are looked at: the lowest number first, but 12 before 8 and 10 last. A fault
-// that no line of a sheet has comes after all of these.
+// The place of a fault's number in the order in which the faults of one line are looked at: the lowest first, but 12 before 8 and 10 last. A
+// number that no line of a sheet has comes after all of these.
 #[tactic(auto, unfolding(crate::specs::Faults::rank_of))]
+pub fn rank_of_number(number: u32) -> u64
+    ensures { result ≡ rank_of number }
+{
+    match number {
+        UNREAD => 0,
+        NAME => 1,
+        VALUE => 2,
+        COUNT => 3,
+        AREA => 4,
+        TWICE => 5,
+        LATE => 6,
+        OVERLAP => 7,
+        CROWDED => 8,
+        ZERO_LINE => 9,
+        UNEQUAL => 10,
+        BROKEN => 11,
+        SHORT => 12,
+        _ => u64::from(number) + 13,
+    }
+}
+
+// A fault's place in that order.
 pub fn rank(fault: Fault) -> u64
     ensures { result ≡ rank_of (number_of fault) }
 {
-    match fault {
-        Fault::Unread => 0,
-        Fault::Name => 1,
-        Fault::Value => 2,
-        Fault::Count => 3,
-        Fault::Area => 4,
-        Fault::Twice => 5,
-        Fault::Late => 6,
-        Fault::Overlap => 7,
-        Fault::Crowded => 8,
-        Fault::ZeroLine => 9,
-        Fault::Unequal => 10,
-        Fault::Broken => 11,
-        Fault::Short => 12,
-        Fault::Indefinite => 24,
-        Fault::Unplaced => 28,
-    }
+    rank_of_number(u32::from(fault))
 }
 
 // The first of two faults.
@@ -51,8 +61,11 @@ pub fn first_fault(a: Option<Fault>, b: Option<Fault>) -> Option<Fault>
 }
 
 // Two parts of a line, or the first of their faults.
+#[tactic(auto, unfolding(crate::specs::Faults::first_of), using(crate::proofs::Together::number_first, crate::proofs::Together::fault_number))]
 pub fn both<A: Copy, B: Copy>(a: Result<A, Fault>, b: Result<B, Fault>) -> Result<(A, B), Fault>
-    ensures { result ≡ both_of a b }
+    ensures parts { result ≡ both_of a b }
+    ensures fault { refused_by result ≡ first_of (refused_by a) (refused_by b) }
+    ensures values { IfOk result (λ p. (a ≡ Ok p.0) × (b ≡ Ok p.1)) }
 {
     match (a, b) {
         (Ok(a), Ok(b)) => Ok((a, b)),

@@ -7,15 +7,15 @@ pub mod field;
 pub mod name;
 
 ghost use Rattle.std.specs.Prelude.{◌≡◌};
-ghost use Rattle.sheet_forms.specs.Answers.{kind_number};
+ghost use Rattle.sheet_forms.specs.Answers.{end_kind_number};
 
 use coordinates::{Axis, Fault};
-pub use fault::{both, first_fault, rank};
+pub use fault::{both, first_fault, rank, rank_of_number};
 pub use name::check_name;
 use template_rules::AutoRepeatStrategy;
 
 // An `axis` line: the bits of the inner size where it is definite; the rule, `max` or `min`; the gap's word.
-#[derive(Clone, Copy)]
+#[derive(Clone, Copy, Debug, PartialEq, Eq)]
 pub struct AxisRecord {
     pub axis: Axis,
     pub inner: Option<u32>,
@@ -51,7 +51,7 @@ pub enum EndKind {
 }
 
 impl From<EndKind> for u32 {
-    ghost from_gives = { λ kind number. number ≡ kind_number kind };
+    ghost from_gives = { λ kind number. number ≡ end_kind_number kind };
 
     // The number of a kind, in the order of the words.
     fn from(kind: EndKind) -> u32 {
@@ -75,7 +75,7 @@ pub struct PlaceEnd {
 // What a line says. A size is one word, its kind times 2^32 and its bits. Names stay in the line: field 1 of an `area`,
 // field 2 of a `name`, fields 3 and 6 of a `place`. A `repeat` whose count is outside its range still says its axis, since inside a repeat of
 // its axis it is unread before anything else. The words of a `row` are its fields from 1 on; the record says how many there are.
-#[derive(Clone, Copy)]
+#[derive(Clone, Copy, Debug, PartialEq, Eq)]
 pub enum Record {
     Axis(AxisRecord),
     Area(AreaRecord),

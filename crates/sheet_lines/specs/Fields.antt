@@ -19,16 +19,16 @@ pub record CutAs (text : List ℕ) (f : Fields) : Type 0 where
   pub starts : f.starts ≡ sets (replicate 15 0) 0 (starts_from 0 (split 9 text))
 
 -- the number of a kind of line in the order of `kind_words`, and their number where a line is of none
-abbrev pub kind_number : Option LineKind → ℕ
-kind_number (Some Axis) = 0
-kind_number (Some Area) = 1
-kind_number (Some Name) = 2
-kind_number (Some Track) = 3
-kind_number (Some Repeat) = 4
-kind_number (Some End) = 5
-kind_number (Some Spare) = 6
-kind_number (Some Extra) = 7
-kind_number (Some Item) = 8
-kind_number (Some Place) = 9
-kind_number (Some Row) = 10
-kind_number None = 11
+abbrev pub line_kind_number : Option LineKind → ℕ
+line_kind_number (Some Axis) = 0
+line_kind_number (Some Area) = 1
+line_kind_number (Some Name) = 2
+line_kind_number (Some Track) = 3
+line_kind_number (Some Repeat) = 4
+line_kind_number (Some End) = 5
+line_kind_number (Some Spare) = 6
+line_kind_number (Some Extra) = 7
+line_kind_number (Some Item) = 8
+line_kind_number (Some Place) = 9
+line_kind_number (Some Row) = 10
+line_kind_number None = 11

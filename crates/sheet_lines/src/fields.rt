@@ -9,6 +9,25 @@ use text::fields::STARTS;
 // What parts the fields of a line.
 const TAB: u8 = b'\t';
 
+// How many fields a line has, its kind with them; a row has one for each of its words.
+pub const AXIS_FIELDS: usize = 6;
+
+pub const AREA_FIELDS: usize = 6;
+
+pub const NAME_FIELDS: usize = 3;
+
+pub const SIZES_FIELDS: usize = 6;
+
+pub const REPEAT_FIELDS: usize = 3;
+
+pub const END_FIELDS: usize = 2;
+
+pub const EXTRA_FIELDS: usize = 4;
+
+pub const ITEM_FIELDS: usize = 3;
+
+pub const PLACE_FIELDS: usize = 8;
+
 // A line with the starts of its fields, and their number.
 #[derive(Clone, Copy)]
 pub struct Fields<'a> {
@@ -42,7 +61,7 @@ impl<'a> Fields<'a> {
 
     // Whether a line has so many fields.
     #[tactic(auto, using(text::proofs::Places::length_fields))]
-    pub fn are(&self, count: usize) -> bool
+    pub fn has_count(&self, count: usize) -> bool
         ensures { result ≡ eqb (length (fields_of self.now)) count }
     {
         self.count == count

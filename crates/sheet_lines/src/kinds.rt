@@ -2,7 +2,7 @@
 ghost use Rattle.std.specs.Prelude.{◌≡◌};
 ghost use Rattle.text.specs.Split.{index};
 ghost use Rattle.sheet_forms.specs.Words.{kind_words};
-ghost use Rattle.sheet_lines.specs.Fields.{kind_number};
+ghost use Rattle.sheet_lines.specs.Fields.{line_kind_number};
 
 // The kind of a line.
 #[derive(Clone, Copy, Debug, PartialEq, Eq)]
@@ -23,7 +23,7 @@ pub enum LineKind {
 // Which kind of line a first field names, if any, the commonest asked first.
 #[tactic(auto, unfolding(text::specs::Split::index, text::specs::Split::same))]
 pub fn kind(f: &[u8]) -> Option<LineKind>
-    ensures { kind_number result ≡ index f.now kind_words }
+    ensures { line_kind_number result ≡ index f.now kind_words }
 {
     match f {
         b"name" => Some(LineKind::Name),

@@ -17,7 +17,7 @@ use sheet_forms::Record;
 use text::Place;
 
 // What a line says, or its fault, and where its names lie in it: the empty place where there is none.
-#[derive(Clone, Copy)]
+#[derive(Clone, Copy, Debug, PartialEq, Eq)]
 pub struct LineRecord {
     pub said: Result<Record, Fault>,
     pub first: Place,

@@ -5,7 +5,7 @@ ghost use Rattle.sheet_forms.specs.Answers.{axis_said, end_said, number_said, sa
 ghost use Rattle.sheet_forms.specs.Records.{edges_of, made_area, area_line, made_name, name_line, made_extra, extra_line, made_item, item_line, made_place, place_line};
 ghost use Rattle.sheet_lines.specs.Fields.{fields_of};
 
-use crate::fields::Fields;
+use crate::fields::{AREA_FIELDS, EXTRA_FIELDS, Fields, ITEM_FIELDS, NAME_FIELDS, PLACE_FIELDS};
 use coordinates::{Axis, Fault};
 use sheet_fields::ends::end;
 use sheet_forms::field::{axis, count};
@@ -27,6 +27,7 @@ fn edges(rowstart: u32, rowend: u32, columnstart: u32, columnend: u32) -> Result
 }
 
 // An area of these parts.
+#[tactic(auto, unfolding(sheet_forms::specs::Faults::first_of), using(sheet_forms::proofs::Parts::unless_fault))]
 fn make_area(
     name: Result<(), Fault>,
     rowstart: Result<u32, Fault>,
@@ -49,7 +50,7 @@ fn make_area(
 pub(crate) fn area_line(fields: &Fields<'_>) -> Result<Record, Fault>
     ensures { said_of result ≡ area_line (fields_of fields.now) }
 {
-    if !fields.are(6) {
+    if !fields.has_count(AREA_FIELDS) {
         return Err(Fault::Unread);
     }
     make_area(
@@ -62,6 +63,7 @@ pub(crate) fn area_line(fields: &Fields<'_>) -> Result<Record, Fault>
 }
 
 // A name of these parts.
+#[tactic(auto, unfolding(sheet_forms::specs::Faults::first_of), using(sheet_forms::proofs::Parts::unless_fault))]
 fn make_name(axis: Result<Axis, Fault>, name: Result<(), Fault>) -> Result<Record, Fault>
     ensures { said_of result ≡ made_name (axis_said axis) (refused_by name) }
 {
@@ -74,13 +76,14 @@ fn make_name(axis: Result<Axis, Fault>, name: Result<(), Fault>) -> Result<Recor
 pub(crate) fn name_line(fields: &Fields<'_>) -> Result<Record, Fault>
     ensures { said_of result ≡ name_line (fields_of fields.now) }
 {
-    if !fields.are(3) {
+    if !fields.has_count(NAME_FIELDS) {
         return Err(Fault::Unread);
     }
     make_name(axis(fields.field(1)), check_name(fields.field(2)))
 }
 
 // Implicit tracks of these parts.
+#[tactic(auto, unfolding(sheet_forms::specs::Faults::first_of), using(sheet_forms::proofs::Parts::unless_fault))]
 fn make_extra(
     axis: Result<Axis, Fault>,
     negative: Result<u32, Fault>,
@@ -97,7 +100,7 @@ fn make_extra(
 pub(crate) fn extra_line(fields: &Fields<'_>) -> Result<Record, Fault>
     ensures { said_of result ≡ extra_line (fields_of fields.now) }
 {
-    if !fields.are(4) {
+    if !fields.has_count(EXTRA_FIELDS) {
         return Err(Fault::Unread);
     }
     make_extra(
@@ -108,6 +111,7 @@ pub(crate) fn extra_line(fields: &Fields<'_>) -> Result<Record, Fault>
 }
 
 // An item of these parts.
+#[tactic(auto, unfolding(sheet_forms::specs::Faults::first_of), using(sheet_forms::proofs::Parts::unless_fault))]
 fn make_item(axis: Result<Axis, Fault>, index: Result<u32, Fault>) -> Result<Record, Fault>
     ensures { said_of result ≡ made_item (axis_said axis) (number_said index) }
 {
@@ -120,13 +124,14 @@ fn make_item(axis: Result<Axis, Fault>, index: Result<u32, Fault>) -> Result<Rec
 pub(crate) fn item_line(fields: &Fields<'_>) -> Result<Record, Fault>
     ensures { said_of result ≡ item_line (fields_of fields.now) }
 {
-    if !fields.are(3) {
+    if !fields.has_count(ITEM_FIELDS) {
         return Err(Fault::Unread);
     }
     make_item(axis(fields.field(1)), count(fields.field(2), 0, 29999))
 }
 
 // A placement of these parts.
+#[tactic(auto, unfolding(sheet_forms::specs::Faults::first_of), using(sheet_forms::proofs::Parts::unless_fault))]
 fn make_place(
     axis: Result<Axis, Fault>,
     start: Result<PlaceEnd, Fault>,
@@ -143,7 +148,7 @@ fn make_place(
 pub(crate) fn place_line(fields: &Fields<'_>) -> Result<Record, Fault>
     ensures { said_of result ≡ place_line (fields_of fields.now) }
 {
-    if !fields.are(8) {
+    if !fields.has_count(PLACE_FIELDS) {
         return Err(Fault::Unread);
     }
     make_place(

@@ -5,7 +5,7 @@ ghost use Rattle.text.specs.Places.{part_at};
 ghost use Rattle.sheet_forms.specs.Answers.{said_of};
 ghost use Rattle.sheet_forms.specs.Names.{of_first, of_second, first_name, second_name};
 ghost use Rattle.sheet_forms.specs.Records.{row_line, fixed_kind, record_of};
-ghost use Rattle.sheet_lines.specs.Fields.{fields_of, kind_number};
+ghost use Rattle.sheet_lines.specs.Fields.{fields_of, line_kind_number};
 
 use crate::LineRecord;
 use crate::fields::Fields;
@@ -21,7 +21,7 @@ use text::fields::FIELDS;
 // A line of a kind; one of none is unread. The words of a row may be more than the fields that are kept.
 #[tactic(auto, unfolding(sheet_forms::specs::Records::fixed_kind))]
 fn by_kind(kind: Option<LineKind>, fields: &Fields<'_>) -> Result<Record, Fault>
-    ensures { said_of result ≡ cond (eqb (kind_number kind) 10) (row_line (split 9 fields.now.line.now)) (fixed_kind (kind_number kind) (fields_of fields.now)) }
+    ensures { said_of result ≡ cond (eqb (line_kind_number kind) 10) (row_line (split 9 fields.now.line.now)) (fixed_kind (line_kind_number kind) (fields_of fields.now)) }
 {
     match kind {
         Some(LineKind::Axis) => axis_line(fields),

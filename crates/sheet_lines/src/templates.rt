@@ -5,7 +5,7 @@ ghost use Rattle.sheet_forms.specs.Fields.{rule_of};
 ghost use Rattle.sheet_forms.specs.Records.{made_axis, axis_line, made_sizes, sizes_line, made_repeat, repeat_line, made_end, end_line};
 ghost use Rattle.sheet_lines.specs.Fields.{fields_of};
 
-use crate::fields::Fields;
+use crate::fields::{AXIS_FIELDS, END_FIELDS, Fields, REPEAT_FIELDS, SIZES_FIELDS};
 use coordinates::{Axis, Fault};
 use sheet_fields::repetition::repetition;
 use sheet_fields::size::{inner, size};
@@ -26,6 +26,7 @@ fn rule(f: &[u8]) -> Result<AutoRepeatStrategy, Fault>
 }
 
 // An axis of these parts.
+#[tactic(auto, unfolding(sheet_forms::specs::Faults::first_of), using(sheet_forms::proofs::Parts::unless_fault))]
 fn make_axis(
     axis: Result<Axis, Fault>,
     inner: Result<Option<u32>, Fault>,
@@ -48,7 +49,7 @@ fn make_axis(
 pub fn axis_line(fields: &Fields<'_>) -> Result<Record, Fault>
     ensures { said_of result ≡ axis_line (fields_of fields.now) }
 {
-    if !fields.are(6) {
+    if !fields.has_count(AXIS_FIELDS) {
         return Err(Fault::Unread);
     }
     make_axis(
@@ -60,6 +61,7 @@ pub fn axis_line(fields: &Fields<'_>) -> Result<Record, Fault>
 }
 
 // A track, or the track of the spare ones, of these parts.
+#[tactic(auto, unfolding(sheet_forms::specs::Faults::first_of), using(sheet_forms::proofs::Parts::unless_fault))]
 fn make_sizes(
     spare: bool,
     axis: Result<Axis, Fault>,
@@ -81,7 +83,7 @@ fn make_sizes(
 pub fn sizes_line(spare: bool, fields: &Fields<'_>) -> Result<Record, Fault>
     ensures { said_of result ≡ sizes_line spare (fields_of fields.now) }
 {
-    if !fields.are(6) {
+    if !fields.has_count(SIZES_FIELDS) {
         return Err(Fault::Unread);
     }
     make_sizes(
@@ -111,7 +113,7 @@ fn make_repeat(
 pub fn repeat_line(fields: &Fields<'_>) -> Result<Record, Fault>
     ensures { said_of result ≡ repeat_line (fields_of fields.now) }
 {
-    if !fields.are(3) {
+    if !fields.has_count(REPEAT_FIELDS) {
         return Err(Fault::Unread);
     }
     make_repeat(axis(fields.field(1)), repetition(fields.field(2)))
@@ -129,7 +131,7 @@ fn make_end(axis: Result<Axis, Fault>) -> Result<Record, Fault>
 pub fn end_line(fields: &Fields<'_>) -> Result<Record, Fault>
     ensures { said_of result ≡ end_line (fields_of fields.now) }
 {
-    if !fields.are(2) {
+    if !fields.has_count(END_FIELDS) {
         return Err(Fault::Unread);
     }
     make_end(axis(fields.field(1)))

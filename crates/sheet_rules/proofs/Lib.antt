@@ -8,6 +8,7 @@ pub mod Only
 pub mod KindTest
 pub mod LineRows
 pub mod LineTheorem
+pub mod Former
 pub mod Pictures
 pub mod Apart
 pub mod Theorem

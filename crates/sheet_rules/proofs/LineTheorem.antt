@@ -158,7 +158,7 @@ module _ (v : PanelView) (fs : List (List ℕ)) where
   record-rows (Place a s t) e = record-row (Place a s t) e tt
   record-rows (PictureRow n) e = record-row (PictureRow n) e tt
 
-  outcome-fault : (r : Record) → (record_outcome v fs r).fault ≡ record_fault v fs r
+  pub outcome-fault : (r : Record) → (record_outcome v fs r).fault ≡ record_fault v fs r
   outcome-fault r = go (eqb (record_fault v fs r) 0) _ _ refl
     where
       go : (t : Bool) (x y : PanelView) → eqb (record_fault v fs r) 0 ≡ t → (cond t (accepted x) (refused (record_fault v fs r) y)).fault ≡ record_fault v fs r

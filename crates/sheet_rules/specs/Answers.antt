@@ -1,7 +1,6 @@
 -- What reading a sheet answers, in this paper's numbers and values: a refusal with zeros, or the panel.
-use Rattle.std.specs.Prelude.{ℕ, Option, Some, None, Result, Ok, Err, ◌<◌}
-use Rattle.coordinates.specs.declared.refusal.Refusal.{Refusal}
-use Rattle.coordinates.specs.Refusals.{no_refusal, number_of, overlap}
+use Rattle.std.specs.Prelude.{ℕ, Option, Some, None, Result, Ok, Err, ◌<◌, ◌≡◌}
+use Rattle.coordinates.specs.Refusals.{Refusal, no_refusal, number_of, overlap}
 use Rattle.panel_tables.specs.declared.Grid.{Grid}
 use Rattle.panel_tables.specs.declared.Panel.{Panel}
 use Rattle.panel_tables.specs.Written.{zero_panel}
@@ -43,9 +42,9 @@ noted None = no_overlap
 noted (Some p) = p
 
 -- the later area of a pair has a number
-abbrev pub Numbered : Option Overlap → Type 0
-Numbered None = Unit {0}
-Numbered (Some p) = 0 < p.later
+abbrev pub NumberedPair : Option Overlap → Type 0
+NumberedPair None = Unit {0}
+NumberedPair (Some p) = 0 < p.later
 
 abbrev pub answered_sheet : Result Panel SheetFault → SheetAnswer
 answered_sheet (Ok panel) = accepted_with no_overlap panel
@@ -57,3 +56,8 @@ grid_only a = record { refusal = a.refusal; earlier = a.earlier; later = a.later
 abbrev pub answered_display : Result Display SheetFault → DisplayAnswer
 answered_display (Ok d) = record { refusal = no_refusal; earlier = (noted d.overlap).earlier; later = (noted d.overlap).later; grid = d.grid }
 answered_display (Err fault) = grid_only (refused_with fault)
+
+-- areas that share a cell are told by their pair alone: a fault at a line is none of theirs, which is 12
+abbrev pub TellsPair : SheetFault → Type 0
+TellsPair (Overlaps p) = Unit {0}
+TellsPair (Line f) = number_of f.fault ≡ overlap → ⊥

@@ -1,8 +1,7 @@
 -- The answer of reading a sheet, and what everything lent holds then (document 01, panel sheet and the table of refusals; document 02,
 -- requests 03 and 09; SHEET.md, Calls).
 use Rattle.std.specs.Prelude.{ℕ, Bool, cond, ◌||◌, List, eqb, ltb, length}
-use Rattle.coordinates.specs.declared.refusal.Refusal.{Refusal}
-use Rattle.coordinates.specs.Refusals.{no_refusal, refusal_of, overlap, short}
+use Rattle.coordinates.specs.Refusals.{Refusal, no_refusal, refusal_of, overlap, short}
 use Rattle.panel_tables.specs.Written.{zero_panel}
 use Rattle.sheet_rules.specs.declared.Overlap.{Overlap}
 use Rattle.sheet_rules.specs.Answers.{SheetAnswer, DisplayAnswer}

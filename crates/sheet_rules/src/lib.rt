@@ -28,7 +28,7 @@ pub enum SheetFault {
 }
 
 // A sheet for display: what answers are read from, and the first two areas that share a cell; nothing that an edit takes.
-#[derive(Clone, Copy)]
+#[derive(Clone, Copy, Debug, PartialEq, Eq)]
 pub struct Display {
     pub grid: Grid,
     pub overlap: Option<Overlap>,

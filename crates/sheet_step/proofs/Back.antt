@@ -85,6 +85,19 @@ part_kept s ys a n h e =
       length-drop a s,
     )
 
+-- where the part kept its length, so does the whole
+pub part_stays : (s ys : List ℕ) (a n : ℕ) → a + n ≤ length s → length ys ≡ length (take n (drop a s)) → length (with_part s a n ys) ≡ length s
+part_stays s ys a n h e =
+    omega (
+      arith,
+      length-append (take a s) (ys ++ drop n (drop a s)),
+      length-append ys (drop n (drop a s)),
+      length-take-le a s (omega arith),
+      length-take-le n (drop a s) (omega (arith, length-drop a s)),
+      length-drop n (drop a s),
+      length-drop a s,
+    )
+
 -- ---- the whole then holds what the parts say
 
 same : (p : Panel) (r : Reading) (cs rs : List ℕ) {c₀ c r₀ r₁ m₀ m o₀ o a₀ a x₀ x q₀ q y₀ y : List ℕ}

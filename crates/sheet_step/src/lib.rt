@@ -21,7 +21,7 @@ use axis_tables::layout::AXIS_BYTES;
 use coordinates::Fault;
 use panel_tables::region::{PANEL_BYTES, PANEL_WORDS, area_bytes, area_words};
 use panel_tables::{Panel, Reading};
-use sheet_faults::fault::{fault_before, stage};
+use sheet_faults::fault::{AreasBefore, fault_before, stage};
 use sheet_faults::overlap::{noted, shared};
 use sheet_forms::{Record, both, first_fault};
 use sheet_lines::read_record;
@@ -53,10 +53,7 @@ pub fn first_refusal<A: Copy, B: Copy>(
 ) -> Result<(), Fault>
     ensures { refused_by result ≡ first_of (refused_by a) (refused_by b) }
 {
-    match both(a, b) {
-        Ok(_) => Ok(()),
-        Err(fault) => Err(fault),
-    }
+    both(a, b).map(|_| ())
 }
 
 impl Draft {
@@ -64,14 +61,12 @@ impl Draft {
     fn fault_here(&self, name: &[u8], said: Result<Record, Fault>) -> Option<Fault>
         ensures { fault_number result ≡ before_of self.now.panel.grid.areas self.now.reading (area_words_in self.now.words) (area_bytes_in self.now.bytes) name.now (said_of said) }
     {
-        fault_before(
-            self.panel.grid.areas,
-            self.reading,
-            area_words(&self.words),
-            area_bytes(&self.bytes),
-            name,
-            said,
-        )
+        let areas = AreasBefore {
+            count: self.panel.grid.areas,
+            words: area_words(&self.words),
+            bytes: area_bytes(&self.bytes),
+        };
+        fault_before(areas, self.reading, name, said)
     }
 
     // The first area that shares a cell with a record's, before it is written.

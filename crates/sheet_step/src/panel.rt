@@ -21,7 +21,8 @@ use panel_tables::area::{AREA_BYTES, AREA_WORDS};
 use panel_tables::axis::{reading_in, state_in, with_state};
 use panel_tables::placement::{PLACEMENT_BYTES, PLACEMENT_WORDS, used_name};
 use panel_tables::region::{
-    AREA_NAMES_START, AREAS, PLACEMENT_NAMES_START, PLACEMENTS, first_mark, first_word,
+    AREA_NAMES_START, AREAS, PANEL_BYTES, PANEL_WORDS, PLACEMENT_NAMES_START, PLACEMENTS,
+    first_mark, first_word,
 };
 use panel_tables::{AreaEdges, Panel, PlacementEnd, Reading};
 use panel_writes::area_record::put_area;
@@ -46,14 +47,14 @@ fn on_axis(
     axis: Axis,
     panel: Panel,
     reading: Reading,
-    words: &mut [u64],
-    bytes: &mut [u8],
+    words: &mut [u64; PANEL_WORDS],
+    bytes: &mut [u8; PANEL_BYTES],
     store: &mut [u8],
     name: &[u8],
     said: Record,
 ) -> Result<AxisAfter, Fault>
-    requires { (length words.old ≡ 25600) × (length bytes.old ≡ 78432) }
-    ensures { record { answer = answered_axis (state_in panel axis) (reading_in reading axis) result; words = words.new; marks = bytes.new; bytes = store.new } ≡ on_axis axis panel reading words.old bytes.old store.old name.now (said_of (Ok said)) }
+    ensures written { record { answer = answered_axis (state_in panel axis) (reading_in reading axis) result; words = words.new; marks = bytes.new; bytes = store.new } ≡ on_axis axis panel reading words.old bytes.old store.old name.now (said_of (Ok said)) }
+    ensures lengths { (length words.new ≡ 25600) × (length bytes.new ≡ 78432) }
 {
     let first = first_word(axis);
     let mark = first_mark(axis);
@@ -72,68 +73,42 @@ fn on_axis(
     )
 }
 
-// Where the names of areas start in the bytes: a call, so that no proof counts up to it.
-pub(crate) fn area_names_start() -> usize
-    ensures { result ≡ 60000 }
-{
-    AREA_NAMES_START
-}
-
-// Where the names of placements start in the bytes, likewise.
-fn placement_names_start() -> usize
-    ensures { result ≡ 62048 }
-{
-    PLACEMENT_NAMES_START
-}
-
 // An area, written into the areas' parts of the words and of the bytes.
 fn on_areas(
     panel: Panel,
-    words: &mut [u64],
-    bytes: &mut [u8],
+    words: &mut [u64; PANEL_WORDS],
+    bytes: &mut [u8; PANEL_BYTES],
     name: &[u8],
     edges: AreaEdges,
 ) -> Result<Panel, Fault>
-    requires { (length words.old ≡ 25600) × (length bytes.old ≡ 78432) }
-    ensures { record { answer = answered_panel panel result; words = words.new; bytes = bytes.new } ≡ on_areas panel words.old bytes.old name.now edges }
+    ensures written { record { answer = answered_panel panel result; words = words.new; bytes = bytes.new } ≡ on_areas panel words.old bytes.old name.now edges }
+    ensures lengths { (length words.new ≡ 25600) × (length bytes.new ≡ 78432) }
 {
-    let first = AREAS;
-    let start = area_names_start();
-    let end = first + AREA_WORDS;
-    let last = start + AREA_BYTES;
-    put_area(
-        panel,
-        &mut words[first..end],
-        &mut bytes[start..last],
-        name,
-        edges,
-    )
+    let words = &mut words[AREAS..AREAS + AREA_WORDS];
+    let bytes = &mut bytes[AREA_NAMES_START..AREA_NAMES_START + AREA_BYTES];
+    put_area(panel, words, bytes, name, edges)
 }
 
 // A placement with its names, written into the placements' parts of the words and of the bytes; an unused name is empty.
 fn on_placements(
     panel: Panel,
-    words: &mut [u64],
-    bytes: &mut [u8],
+    words: &mut [u64; PANEL_WORDS],
+    bytes: &mut [u8; PANEL_BYTES],
     axis: Axis,
     start: PlaceEnd,
     first: &[u8],
     end: PlaceEnd,
     second: &[u8],
 ) -> Result<Panel, Fault>
-    requires { (length words.old ≡ 25600) × (length bytes.old ≡ 78432) }
-    ensures { record { answer = answered_panel panel result; words = words.new; bytes = bytes.new } ≡ on_placements panel words.old bytes.old axis (place_end start) first.now (place_end end) second.now }
+    ensures written { record { answer = answered_panel panel result; words = words.new; bytes = bytes.new } ≡ on_placements panel words.old bytes.old axis (place_end start) first.now (place_end end) second.now }
+    ensures lengths { (length words.new ≡ 25600) × (length bytes.new ≡ 78432) }
 {
-    let at = PLACEMENTS;
-    let name = placement_names_start();
-    let until = at + PLACEMENT_WORDS;
-    let last = name + PLACEMENT_BYTES;
     let from = placed(start);
     let to = placed(end);
     put_placement(
         panel,
-        &mut words[at..until],
-        &mut bytes[name..last],
+        &mut words[PLACEMENTS..PLACEMENTS + PLACEMENT_WORDS],
+        &mut bytes[PLACEMENT_NAMES_START..PLACEMENT_NAMES_START + PLACEMENT_BYTES],
         axis,
         from,
         used_name(from.kind, first),
@@ -147,7 +122,7 @@ impl Draft {
     fn on_columns(&mut self, name: &[u8], said: Record) -> Result<(), Fault>
         ensures { record { fault = refused_by result; held = held_of self.new } ≡ on_held (held_of self.old) Axis.Column (named name.now) (said_of (Ok said)) }
     {
-        let after = on_axis(
+        let columns = on_axis(
             Axis::Column,
             self.panel,
             self.reading,
@@ -156,7 +131,8 @@ impl Draft {
             &mut self.column_bytes,
             name,
             said,
-        )?;
+        );
+        let after = columns?;
         self.panel = with_state(self.panel, Axis::Column, after.state);
         self.reading.columns = after.reading;
         Ok(())
@@ -166,7 +142,7 @@ impl Draft {
     fn on_rows(&mut self, name: &[u8], said: Record) -> Result<(), Fault>
         ensures { record { fault = refused_by result; held = held_of self.new } ≡ on_held (held_of self.old) Axis.Row (named name.now) (said_of (Ok said)) }
     {
-        let after = on_axis(
+        let rows = on_axis(
             Axis::Row,
             self.panel,
             self.reading,
@@ -175,7 +151,8 @@ impl Draft {
             &mut self.row_bytes,
             name,
             said,
-        )?;
+        );
+        let after = rows?;
         self.panel = with_state(self.panel, Axis::Row, after.state);
         self.reading.rows = after.reading;
         Ok(())

@@ -8,11 +8,10 @@ ghost use Rattle.sheet_rules.specs.Steps.{stayed, width_fault, with_row, held_ro
 ghost use Rattle.sheet_step.specs.Drafts.{held_of};
 ghost use Rattle.sheet_step.specs.Regions.{on_drawing};
 
-use crate::panel::area_names_start;
 use crate::{Draft, first_refusal};
 use coordinates::Fault;
 use panel_tables::area::{AREA_BYTES, AREA_WORDS};
-use panel_tables::region::AREAS;
+use panel_tables::region::{AREA_NAMES_START, AREAS, PANEL_BYTES, PANEL_WORDS};
 use panel_tables::{Panel, PictureReading};
 use picture_areas::PictureAfter;
 use picture_rows::draw_row;
@@ -44,25 +43,17 @@ fn check_width(picture: PictureReading, width: u32) -> Result<(), Fault>
 // A row drawn into the areas' parts of the words and of the bytes.
 fn on_drawing(
     panel: Panel,
-    words: &mut [u64],
-    bytes: &mut [u8],
+    words: &mut [u64; PANEL_WORDS],
+    bytes: &mut [u8; PANEL_BYTES],
     line: &[u8],
     row: u32,
 ) -> Result<PictureAfter, Fault>
-    requires { (length words.old ≡ 25600) × (length bytes.old ≡ 78432) }
-    ensures { record { answer = answered_drawn panel result; words = words.new; bytes = bytes.new } ≡ on_drawing panel words.old bytes.old (words_of line.now) row }
+    ensures drawn { record { answer = answered_drawn panel result; words = words.new; bytes = bytes.new } ≡ on_drawing panel words.old bytes.old (words_of line.now) row }
+    ensures lengths { (length words.new ≡ 25600) × (length bytes.new ≡ 78432) }
 {
-    let first = AREAS;
-    let start = area_names_start();
-    let end = first + AREA_WORDS;
-    let last = start + AREA_BYTES;
-    draw_row(
-        panel,
-        &mut words[first..end],
-        &mut bytes[start..last],
-        line,
-        row,
-    )
+    let words = &mut words[AREAS..AREAS + AREA_WORDS];
+    let bytes = &mut bytes[AREA_NAMES_START..AREA_NAMES_START + AREA_BYTES];
+    draw_row(panel, words, bytes, line, row)
 }
 
 impl Draft {

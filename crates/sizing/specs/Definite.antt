@@ -7,6 +7,17 @@ use Rattle.sizing.specs.declared.Sizing.TheVariants.{Length, Percent, Fraction, 
 use Rattle.sizing.specs.declared.MinMax.{MinMax}
 use Rattle.sizing.specs.Words.{zero32}
 
+-- without an inner size a length alone is definite: there is nothing to take a percentage of
+abbrev pub length_alone : Sizing → Option Float
+length_alone (Length v) = Some v
+length_alone (Percent p) = None
+length_alone (Fraction v) = None
+length_alone Auto = None
+length_alone MinContent = None
+length_alone MaxContent = None
+length_alone (FitContentLength v) = None
+length_alone (FitContentPercent p) = None
+
 -- a length, or a percentage times the inner size (layer 2); no other kind has a definite size
 abbrev pub definite_of : Sizing → Float → Option Float
 definite_of (Length v) inner = Some v

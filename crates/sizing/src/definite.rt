@@ -1,13 +1,23 @@
 // What a size measures in a definite inner size.
 ghost use Rattle.std.specs.Prelude.{◌≡◌};
 ghost use Rattle.sizing.specs.Words.{sizing_of, min_max_of};
-ghost use Rattle.sizing.specs.Definite.{definite_of, raised_or, track_value_of, gap_of};
+ghost use Rattle.sizing.specs.Definite.{length_alone, definite_of, raised_or, track_value_of, gap_of};
 
 use crate::Sizing;
 use crate::word::{LARGEST_BITS, length_of, sizing_of};
 
 // The word of the largest length, 65,535.
 const LARGEST_LENGTH: u64 = LARGEST_BITS as u64;
+
+// A length; no other kind is definite where there is no inner size.
+pub fn length_alone(size: Sizing) -> Option<f32>
+    ensures { result ≡ length_alone size }
+{
+    let Sizing::Length(length) = size else {
+        return None;
+    };
+    Some(length)
+}
 
 // A length, or a percentage times the inner size; no other kind has a definite size.
 pub fn definite_value(size: Sizing, inner: f32) -> Option<f32>

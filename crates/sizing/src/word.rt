@@ -56,11 +56,18 @@ pub fn sizing_of(word: u64) -> Sizing
     sizing_of_kind((word / 0x1_0000_0000) as u32, (word % 0x1_0000_0000) as u32)
 }
 
+// The word of a kind's number and bits. Any two numbers give one.
+pub fn word_of_number(kind: u32, bits: u32) -> u64
+    ensures { result ≡ size_word_of kind bits }
+{
+    u64::from(kind) * 0x1_0000_0000 + u64::from(bits)
+}
+
 // The word of a kind and bits.
 pub fn size_word(kind: Kind, bits: u32) -> u64
     ensures { result ≡ size_word_of (number_of_kind kind) bits }
 {
-    u64::from(u32::from(kind)) * 0x1_0000_0000 + u64::from(bits)
+    word_of_number(u32::from(kind), bits)
 }
 
 // The bits of an f32, 0 for a NaN, which is no size.

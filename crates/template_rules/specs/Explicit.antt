@@ -1,7 +1,6 @@
 -- The explicit size of an axis (document 01, layer 3), over the list of its components.
 use Rattle.std.specs.Prelude.{ℕ, ◌+◌, ◌*◌, max, Bool, true, cond, not, ◌&&◌, ◌||◌, List, length, ◌==◌, nat_le, Float, Option, Some, None, Result, Ok, Err}
-use Rattle.coordinates.specs.Refusals.{no_refusal, refusal_of, number_of, value, count, crowded}
-use Rattle.coordinates.specs.declared.refusal.Refusal.{Refusal}
+use Rattle.coordinates.specs.Refusals.{Refusal, no_refusal, refusal_of, number_of, value, count, crowded}
 use Rattle.coordinates.specs.declared.refusal.Fault.{Fault}
 use Rattle.sizing.specs.Words.{zero32}
 use Rattle.sizing.specs.Ranges.{up_to, largest_length, sizing_in_range}

@@ -13,7 +13,7 @@ pub use fields::{Place, cut_parts, field, field_place, part_at};
 pub use hexadecimal::read_bits;
 pub use split::{find, part};
 pub use whole::{read_count, read_index};
-pub use words::{equal, find_part};
+pub use words::find_part;
 
 // Why a field is no whole number of a range: it is not spelt as one, or lies outside.
 #[derive(Clone, Copy, Debug, PartialEq, Eq)]

@@ -1,13 +1,6 @@
 // Which of several words a text is.
 ghost use Rattle.std.specs.Prelude.{◌≡◌};
-ghost use Rattle.text.specs.Split.{split, same, place_among};
-
-// Whether two texts are equal.
-pub fn equal(a: &[u8], b: &[u8]) -> bool
-    ensures { result ≡ same a.now b.now }
-{
-    a == b
-}
+ghost use Rattle.text.specs.Split.{split, place_among};
 
 // The place of f among the words, which the separator b parts; none where it is none of them.
 pub fn find_part(words: &[u8], b: u8, f: &[u8]) -> Option<usize>

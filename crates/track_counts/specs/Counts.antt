@@ -1,8 +1,7 @@
 -- What the calls on track counts answer (grid_track_counts.rs). A count above 10,000 is refused by 4, as is a line outside -10,000..10,000.
 use Rattle.std.specs.Prelude.{ℕ, ◌+◌, ◌*◌, Bool, cond, ◌||◌, ltb, ℤ, pos, negsuc, ◌+ℤ◌, ◌-ℤ◌, Option, Some, None, Result, Ok, Err}
-use Rattle.coordinates.specs.Refusals.{no_refusal, refusal_of, number_of, count}
+use Rattle.coordinates.specs.Refusals.{Refusal, no_refusal, refusal_of, number_of, count}
 use Rattle.coordinates.specs.Lines.{outside}
-use Rattle.coordinates.specs.declared.refusal.Refusal.{Refusal}
 use Rattle.coordinates.specs.declared.refusal.Fault.{Fault}
 use Rattle.coordinates.specs.Answers.{OriginZeroAnswer, CountAnswer, line_answer, refused_line, count_answer, refused_count}
 use Rattle.track_counts.specs.declared.counts.TrackCounts.{TrackCounts}

@@ -5,8 +5,8 @@ use mathlib.Core.Path.{◌≡◌, refl, sym, ap, ◌∙◌}
 use mathlib.Core.Logic.{⊎_elim}
 use mathlib.Core.Bool.{Bool, true, false, not, ◌||◌}
 use mathlib.Core.List.{List, [], ◌∷◌}
-use lib.ListN.{length, get_or, drop, drop_of_length-le}
-use lib.Seq.{drop-cons}
+use lib.ListN.{length, get_or}
+use Rattle.std.specs.List.{list_any}
 use Rattle.template_rules.specs.Template.{Component, component_of, with_tracks, template_of}
 use Rattle.track_rules.specs.declared.WrittenTrack.{WrittenTrack}
 use Rattle.track_rules.specs.declared.AxisTracks.{AxisTracks}
@@ -19,27 +19,11 @@ use Rattle.track_rules.proofs.Opened.{open_whole, not_fit}
 use Rattle.track_rules.proofs.AllTracks.{count_in, closed-negative, closed-explicit, closed-past, plan_of_lem}
 use Rattle.track_record.specs.Repeats.{repeated_of, has_fit}
 
--- ---- a turn of the search for one
-
-pub fit_none : has_fit [] ≡ false
+-- the search for one
+pub fit_any : (ws : List ℕ) → list_any (λ w. (repeated_of w).fit) ws ≡ has_fit ws
 unfolding has_fit
-fit_none = refl
-
-pub fit_past : (ws : List ℕ) (k : ℕ) → length ws ≤ k → has_fit (drop k ws) ≡ false
-fit_past ws k h = ap has_fit (drop_of_length-le ws {i = k} h) ∙ fit_none
-
-fit_cons : (w : ℕ) (ws : List ℕ) → has_fit (w ∷ ws) ≡ ((repeated_of w).fit || has_fit ws)
-unfolding has_fit
-fit_cons w ws = refl
-
-fit_drop : (ws : List ℕ) (k : ℕ) → k < length ws → has_fit (drop k ws) ≡ ((repeated_of (get_or ws k 0)).fit || has_fit (drop (suc k) ws))
-fit_drop ws k h = ap has_fit (drop-cons ws k 0 h) ∙ fit_cons (get_or ws k 0) (drop (suc k) ws)
-
-pub fit_found : (ws : List ℕ) (k : ℕ) (b : Bool) → k < length ws → b ≡ (repeated_of (get_or ws k 0)).fit → b ≡ true → true ≡ has_fit (drop k ws)
-fit_found ws k b h e t = sym (fit_drop ws k h ∙ ap (λ (x : Bool). x || has_fit (drop (suc k) ws)) (sym e ∙ t))
-
-pub fit_further : (ws : List ℕ) (k : ℕ) (b : Bool) → k < length ws → b ≡ (repeated_of (get_or ws k 0)).fit → b ≡ false → has_fit (drop (suc k) ws) ≡ has_fit (drop k ws)
-fit_further ws k b h e f = sym (fit_drop ws k h ∙ ap (λ (x : Bool). x || has_fit (drop (suc k) ws)) (sym e ∙ f))
+fit_any [] = refl
+fit_any (w ∷ ws) = ap (λ (b : Bool). (repeated_of w).fit || b) (fit_any ws)
 
 -- ---- no track of such a template collapses
 

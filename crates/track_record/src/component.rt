@@ -6,6 +6,7 @@ use crate::Repeated;
 use crate::cursor::{is_fit, source_of};
 
 // The tracks of a component.
+#[tactic(auto, unfolding(crate::specs::Repeats::repeated_of))]
 pub fn repeated_of(word: u64) -> Repeated
     ensures { result ≡ repeated_of word }
 {
@@ -22,10 +23,5 @@ pub fn repeated_of(word: u64) -> Repeated
 pub fn has_fit(components: &[u64]) -> bool
     ensures { result ≡ has_fit components.now }
 {
-    for word in components {
-        if repeated_of(*word).fit {
-            return true;
-        }
-    }
-    false
+    components.iter().any(|word| repeated_of(*word).fit)
 }

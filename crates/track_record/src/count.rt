@@ -7,10 +7,3 @@ pub fn before_end(end: u64, at: u64, left: usize) -> usize
 {
     end.saturating_sub(at).min(left as u64) as usize
 }
-
-// How far a place is past an end.
-pub fn past_end(end: u64, at: u64) -> u64
-    ensures { result ≡ at - end }
-{
-    at.saturating_sub(end)
-}

@@ -1,10 +1,10 @@
 // What is worked out once for all records of an axis.
-ghost use Rattle.std.specs.Prelude.{◌≡◌, not, ◌&&◌, ◌+◌, ◌≤◌, ◌<◌};
+ghost use Rattle.std.specs.Prelude.{◌≡◌, not, ◌&&◌, ◌≤◌, length};
 ghost use Rattle.coordinates.specs.Refusals.{fault_number};
 ghost use Rattle.template_rules.specs.Template.{components_of};
 ghost use Rattle.track_rules.specs.Records.{item_at, tracks_in, open_to, axis_refusal};
 ghost use Rattle.track_rules.specs.Steps.{word_totals, sum_of, written_count, plan_of};
-ghost use Rattle.track_record.specs.Plans.{open_in, closed_from};
+ghost use Rattle.track_record.specs.Plans.{closed_from};
 
 use crate::component::{has_fit, repeated_of};
 use crate::count::before_end;
@@ -63,58 +63,46 @@ pub fn written_count(components: &[u64], axis: AxisTracks) -> u32
     (explicit - left) as u32
 }
 
-// Of `count` tracks from `track` on, one past the last that holds an item, 0 where none does.
-fn last_item(items: &[u8], track: usize, count: usize) -> usize
-    requires { track + count < 4294967296 }
-    ensures { result ≡ open_to (λ j. not (item_at items.now (track + j))) count }
+// One past the last item, 0 where there is none.
+fn last_item(items: &[u8]) -> usize
+    ensures { result ≡ open_to (λ j. not (item_at items.now j)) (length items.now) }
 {
-    for before in (0..count).rev() {
-        if holds_item(items, (track + before) as u64) {
+    for before in (0..items.len()).rev() {
+        if items[before] != 0 {
             return before + 1;
         }
     }
     0
 }
 
-// Of so many tracks of a component, one past the last open one.
-fn open_count(items: &[u8], fit: bool, track: usize, count: usize) -> usize
-    requires { track + count < 4294967296 }
-    ensures { result ≡ open_to (λ j. fit && not (item_at items.now (track + j))) count }
+// Of so many tracks of a component, one past the last open one; `items` are those from its first track on.
+fn open_count(items: &[u8], fit: bool, count: usize) -> usize
+    ensures { result ≡ open_to (λ j. fit && not (item_at items.now j)) count }
 {
     if fit {
-        last_item(items, track, count)
+        last_item(items.get(..count).unwrap_or(items))
     } else {
         count
     }
 }
 
-// One past the last open track, where `count` tracks from `track` on follow.
-fn open_after(items: &[u8], fit: bool, opened: u64, track: usize, count: usize) -> u64
-    requires { track + count < 4294967296 }
-    ensures { result ≡ open_in (λ j. fit && not (item_at items.now (track + j))) opened track count }
+// Of the first `count` tracks of the template, one past the last open one; `items` are those from its first track on.
+fn open_end(template: Template, items: &[u8], repetitions: u32, count: usize) -> usize
+    requires { count ≤ sum_of (word_totals repetitions template.components.now) }
+    ensures { result ≡ open_to (closed_from (word_totals repetitions template.entry.components.now) (components_of template.entry) (item_at items.now) 0) count }
 {
-    let last = open_count(items, fit, track, count);
-    if last == 0 {
-        return opened;
-    }
-    (track + last) as u64
-}
-
-// One past the last open track, of `count` tracks of the template that follow `track` open ones.
-fn open_end(template: Template, items: &[u8], repetitions: u32, track: usize, count: usize) -> u64
-    requires count_bound { count ≤ sum_of (word_totals repetitions template.components.now) }
-    requires count_bound_2 { track + count < 4294967296 }
-    ensures { result ≡ open_to (closed_from (word_totals repetitions template.entry.components.now) (components_of template.entry) (item_at items.now) track) (track + count) }
-{
-    let mut opened = track as u64;
+    let mut opened = 0;
     let mut done: usize = 0;
     for word in template.components {
         if done == count {
             return opened;
         }
         let taken = before_end(total(*word, repetitions), 0, count - done);
-        let fit = repeated_of(*word).fit;
-        opened = open_after(items, fit, opened, track + done, taken);
+        let rest = items.get(done..).unwrap_or(&[]);
+        let last = open_count(rest, repeated_of(*word).fit, taken);
+        if last != 0 {
+            opened = done + last;
+        }
         done += taken;
     }
     opened
@@ -133,6 +121,10 @@ pub fn make_plan(template: Template, items: &[u8], axis: AxisTracks) -> Plan
             opened: tracks as u64,
         };
     }
-    let opened = open_end(template, items, axis.repetitions, before, written as usize);
-    Plan { written, opened }
+    let rest = items.get(before..).unwrap_or(&[]);
+    let opened = before + open_end(template, rest, axis.repetitions, written as usize);
+    Plan {
+        written,
+        opened: opened as u64,
+    }
 }

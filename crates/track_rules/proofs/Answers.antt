@@ -1,16 +1,12 @@
 -- The answer of the call for one record, case by case. Assumes nothing.
 use Prim.Native.Nat.{ℕ, ◌≤◌, ◌<◌}
-use native.Mathlib.Omega.{arith}
 use mathlib.Core.Path.{◌≡◌, sym, ap₂, ◌∙◌}
 use mathlib.Core.List.{List}
 use lib.Dec.{T}
 use lib.ListN.{length}
 use lib.Ieee.Bits.{is_true}
 use borrow.Author.Tests.{lt-ltb, le-ltb, le-leb, lt-leb, eq-eqb, ne_eqb}
-use Rattle.coordinates.specs.Refusals.{no_refusal, number_of, count, short}
-use Rattle.coordinates.specs.declared.refusal.Fault.{Fault}
-use Rattle.coordinates.specs.declared.refusal.Fault.TheVariants.{Unread, Name, Value, Count, Area, Twice, Late, Crowded, ZeroLine, Short, Indefinite, Overlap, Unequal, Broken, Unplaced}
-use Rattle.coordinates.specs.declared.refusal.Refusal.{Refusal}
+use Rattle.coordinates.specs.Refusals.{Refusal, no_refusal, count, short}
 use Rattle.sizing.specs.Ranges.{sizing_in_range}
 use Rattle.sizing.specs.declared.MinMax.{MinMax}
 use Rattle.template_rules.specs.Template.{Component}
@@ -24,24 +20,6 @@ use Rattle.track_rules.proofs.RecordList.{records-at}
 
 abbrev answer : Refusal → GridTrack → RecordAnswer
 answer x y = record { refusal = x; track = y }
-
--- a fault has a number
-pub fault_some : (fault : Fault) → number_of fault ≡ 0 → ⊥
-fault_some Unread e = omega (arith, e)
-fault_some Name e = omega (arith, e)
-fault_some Value e = omega (arith, e)
-fault_some Count e = omega (arith, e)
-fault_some Area e = omega (arith, e)
-fault_some Twice e = omega (arith, e)
-fault_some Late e = omega (arith, e)
-fault_some Crowded e = omega (arith, e)
-fault_some ZeroLine e = omega (arith, e)
-fault_some Short e = omega (arith, e)
-fault_some Indefinite e = omega (arith, e)
-fault_some Overlap e = omega (arith, e)
-fault_some Unequal e = omega (arith, e)
-fault_some Broken e = omega (arith, e)
-fault_some Unplaced e = omega (arith, e)
 
 -- an axis whose gap and counts are in range is not refused
 pub axis_unrefused : (a : AxisTracks) → T (sizing_in_range a.gap) → negative_of a ≤ 10000 → explicit_of a ≤ 10000 → positive_of a ≤ 10000 → axis_refusal a ≡ 0

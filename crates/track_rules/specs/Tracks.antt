@@ -1,7 +1,6 @@
 -- Track records (document 01, layer 5).
 use Rattle.std.specs.Prelude.{ℕ, Bool, true, false, Result, Ok, Err}
-use Rattle.coordinates.specs.Refusals.{no_refusal, refusal_of, number_of}
-use Rattle.coordinates.specs.declared.refusal.Refusal.{Refusal}
+use Rattle.coordinates.specs.Refusals.{Refusal, no_refusal, refusal_of, number_of}
 use Rattle.coordinates.specs.declared.refusal.Fault.{Fault}
 use Rattle.sizing.specs.Words.{zero32}
 use Rattle.sizing.specs.declared.MinMax.{MinMax}

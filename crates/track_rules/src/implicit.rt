@@ -36,6 +36,7 @@ pub fn no_track() -> WrittenTrack
 }
 
 // Spare size `index` of a list that repeats, auto where there is none.
+#[tactic(auto, using(crate::proofs::Words::spares_none, crate::proofs::Words::spares_get))]
 pub fn spare_at(spares: SpareSizes, index: u64) -> MinMax
     ensures { result ≡ spare_at (spares_of spares.entry.minimums.now spares.entry.maximums.now) index }
 {
@@ -47,6 +48,7 @@ pub fn spare_at(spares: SpareSizes, index: u64) -> MinMax
 }
 
 // Of `count` tracks before the grid, track `index`: the last takes the last spare size.
+#[tactic(auto, using(crate::proofs::Words::spares_none, crate::proofs::Words::spares_length))]
 pub fn negative_at(spares: SpareSizes, count: u16, index: u16) -> WrittenTrack
     ensures { result ≡ negative_at (spares_of spares.entry.minimums.now spares.entry.maximums.now) count index }
 {

@@ -10,8 +10,8 @@ use lib.Dec.{eqb, ltb}
 use lib.ListN.{length, get_or, set, take, drop, replicate, length-append, length-drop, drop_of_length-le, get_or-append}
 use Rattle.std.proofs.lemmas.List.{length-take-le}
 use lib.Seq.{drop-cons, set_at}
-use borrow.Author.Tests.{eqb-false, ltb-false, lt-ltb, le-ltb, eq-eqb, ne_eqb}
-use Rattle.std.specs.Prelude.{Ok, Err}
+use borrow.Author.Tests.{ltb-false, lt-ltb, le-ltb, eq-eqb, ne_eqb}
+use Rattle.std.specs.Prelude.{Err}
 use Rattle.coordinates.specs.Refusals.{no_refusal, short}
 use Rattle.coordinates.specs.declared.refusal.Fault.{Fault}
 use Rattle.sizing.specs.declared.MinMax.{MinMax}
@@ -26,7 +26,7 @@ use Rattle.track_rules.specs.Records.{listed, negative_of, explicit_of, tracks_i
 use Rattle.track_rules.specs.Steps.{totals_of, word_totals, cursor_of, next_of, cursor_at, plan_of, record_of}
 use Rattle.track_rules.specs.Lines.{Stands}
 use Rattle.track_rules.proofs.Lists.{lt_or_ge, length-listed, listed_same}
-use Rattle.track_rules.proofs.Answers.{fault_some}
+use Rattle.coordinates.proofs.Faults.{fault_some}
 use Rattle.track_rules.proofs.Words.{totals_words}
 use Rattle.track_rules.proofs.Cursors.{next-cursor}
 use Rattle.track_rules.proofs.RecordList.{record_same, records-length, record_of_lem}
@@ -100,19 +100,6 @@ module _ (a : AxisTracks) (cs : List Component) (sp : List MinMax) (item : ℕ �
 -- a refusal has count 0 beside it
 pub refused-none : (n : ℕ) → (refused_fill n).count ≡ 0
 refused-none n = refl
-
--- an accepted call counts the records that are written
-pub filled-count : (a : AxisTracks) (lent items n : ℕ) → answered_fill (Ok n) ≡ fill_answer_of a lent items → n ≡ fill_count a lent items
-unfolding fill_answer_of fill_count
-filled-count a lent items n e = go (eqb (axis_refusal a) 0) (ltb lent (records_in a)) (ltb items (tracks_in a)) (eqb-false (axis_refusal a) 0) e
-  where
-    go : (w x y : Bool) → (w ≡ false → axis_refusal a ≡ 0 → ⊥) →
-        answered_fill (Ok n) ≡ cond w (cond x (refused_fill short) (cond y (refused_fill short) (record { refusal = no_refusal; count = records_in a }))) (refused_fill (axis_refusal a)) →
-        n ≡ cond w (cond x 0 (cond y 0 (records_in a))) 0
-    go false x y h e = absurd (h refl (sym (ap (λ (u : FillAnswer). u.refusal.number) e)))
-    go true true y h e = let z : ◌≡◌ {A = ℕ} 0 10 = ap (λ (u : FillAnswer). u.refusal.number) e in omega (arith, z)
-    go true false true h e = let z : ◌≡◌ {A = ℕ} 0 10 = ap (λ (u : FillAnswer). u.refusal.number) e in omega (arith, z)
-    go true false false h e = ap (λ (u : FillAnswer). u.count) e
 
 -- a refused call leaves the run
 pub refused-run : (a : AxisTracks) (cs : List Component) (sp : List MinMax) (items : List ℕ) (run : List GridTrack) (fault : Fault) →

@@ -1,7 +1,6 @@
 -- The call that fills a lent run of records (document 01, layer 5 and the table of refusals).
 use Rattle.std.specs.Prelude.{ℕ, cond, List, ◌++◌, eqb, ltb, length, drop, replicate, Result, Ok, Err}
-use Rattle.coordinates.specs.Refusals.{no_refusal, refusal_of, number_of, short}
-use Rattle.coordinates.specs.declared.refusal.Refusal.{Refusal}
+use Rattle.coordinates.specs.Refusals.{Refusal, no_refusal, refusal_of, number_of, short}
 use Rattle.coordinates.specs.declared.refusal.Fault.{Fault}
 use Rattle.sizing.specs.declared.MinMax.{MinMax}
 use Rattle.template_rules.specs.Template.{Component}

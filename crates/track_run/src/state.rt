@@ -5,7 +5,7 @@ ghost use Rattle.track_rules.specs.Written.{spares_of};
 ghost use Rattle.track_rules.specs.Records.{item_at};
 ghost use Rattle.track_rules.specs.Steps.{word_totals};
 ghost use Rattle.track_run.specs.Run.{answered_fill, fill_answer_of};
-ghost use Rattle.track_run.specs.Steps.{state_at, state_record, advance_of};
+ghost use Rattle.track_run.specs.Steps.{fill_count, state_at, state_record, advance_of};
 
 use coordinates::Fault;
 use template_rules::Template;
@@ -13,9 +13,10 @@ use track_rules::{AxisTracks, GridTrack, SpareSizes, TrackWalk};
 
 // How many records are written: 2N + 1. Refuses a gap out of range by 3, a count out of range by 4, fewer records and fewer than N item bytes
 // by 10.
-#[tactic(auto, unfolding(crate::specs::Run::fill_answer_of))]
+#[tactic(auto, unfolding(crate::specs::Run::fill_answer_of, crate::specs::Steps::fill_count))]
 pub fn fill_count(lent: usize, items: usize, axis: AxisTracks) -> Result<u32, Fault>
-    ensures { answered_fill result ≡ fill_answer_of axis lent items }
+    ensures answered { answered_fill result ≡ fill_answer_of axis lent items }
+    ensures counted { (answered_fill result).count ≡ fill_count axis lent items }
 {
     if let Some(fault) = track_record::plan::axis_refusal(axis) {
         return Err(fault);

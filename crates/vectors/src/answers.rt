@@ -17,15 +17,7 @@ fn is_listed(at: AnswerLine, cut: bool) -> bool {
 // One line.
 fn seen_line<'a>(expected: Expected<'a>, shown: Shown, at: AnswerLine) -> Expected<'a> {
     let mut line = [0u8; 128];
-    let count = put_line(
-        &mut line,
-        shown.grid,
-        shown.words,
-        shown.bytes,
-        shown.columnstore,
-        shown.rowstore,
-        at,
-    );
+    let count = put_line(&mut line, shown.grid, shown.lent, at);
     expected.part(&line[..count])
 }
 
@@ -40,7 +32,7 @@ pub fn seen_answer<'a>(expected: Expected<'a>, cut: bool, shown: Shown) -> Expec
         if is_listed(at, cut) {
             seen = seen_line(seen, shown, at);
         }
-        at = next_line(shown.grid, shown.words, shown.bytes, at);
+        at = next_line(shown.grid, shown.lent.words, shown.lent.bytes, at);
     }
     seen
 }

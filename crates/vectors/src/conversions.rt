@@ -14,58 +14,51 @@ fn explicit_of(row: &[u8]) -> u16 {
     (number_of(field(row, 0)) % 65536) as u16
 }
 
-// The number of what an answer is refused by, 0 where it is not.
-fn refusal_of<T: Copy>(answer: Result<T, Fault>) -> u32 {
-    match answer {
-        Ok(_) => 0,
-        Err(fault) => u32::from(fault),
+// What a row writes of an answer: a value beside no refusal, or the number of a fault beside a zero; none where it is neither.
+fn written<T: Copy + Default + PartialEq>(number: u32, value: T) -> Option<Result<T, u32>> {
+    match number {
+        0 => Some(Ok(value)),
+        fault if value == T::default() => Some(Err(fault)),
+        _ => None,
     }
 }
 
-// The grid line of an origin-zero line, 0 where it is refused.
-fn line_back(line: OriginZeroLine, explicit: u16) -> i16 {
-    match line.into_grid_line(explicit) {
-        Ok(back) => back.0,
-        Err(_) => 0,
-    }
-}
-
-// Whether a field writes a mark.
-fn is_mark(held: bool, field: &[u8]) -> bool {
+// The mark that a field writes, where it writes one.
+fn mark_of(field: &[u8]) -> Option<bool> {
     match field {
-        b"y" => held,
-        b"n" => !held,
-        _ => false,
+        b"y" => Some(true),
+        b"n" => Some(false),
+        _ => None,
     }
 }
 
-// Whether a row of a grid line that is converted holds.
-fn is_converted(row: &[u8], there: MarkedLine) -> bool {
-    number_of(field(row, 2)) == 0
-        && there.line.0 == whole_of(field(row, 3))
-        && is_mark(there.held, field(row, 5))
-        && line_back(there.line, explicit_of(row)) == whole_of(field(row, 4))
+// What a row writes of an origin-zero line: its number and its mark.
+fn written_line(row: &[u8]) -> Option<Result<(i16, bool), u32>> {
+    let held = mark_of(field(row, 5))?;
+    written(number_of(field(row, 2)), (whole_of(field(row, 3)), held))
 }
 
-// Whether a row of a grid line that is refused holds.
-fn is_refused(row: &[u8], fault: Fault) -> bool {
-    number_of(field(row, 2)) == u32::from(fault)
-        && whole_of(field(row, 3)) == 0
-        && is_mark(false, field(row, 5))
+// Whether a grid line that is converted is, back again, the line that a field writes.
+fn is_back(there: Result<MarkedLine, Fault>, explicit: u16, field: &[u8]) -> bool {
+    match there {
+        Ok(there) => there.line.into_grid_line(explicit) == Ok(GridLine(whole_of(field))),
+        Err(_) => true,
+    }
 }
 
 // Whether a row of a grid line holds.
 fn is_right(row: &[u8]) -> bool {
-    let line = GridLine(whole_of(field(row, 1)));
-    match line.into_origin_zero_line(explicit_of(row)) {
-        Ok(there) => is_converted(row, there),
-        Err(fault) => is_refused(row, fault),
-    }
+    let explicit = explicit_of(row);
+    let there = GridLine(whole_of(field(row, 1))).into_origin_zero_line(explicit);
+    let answer = there
+        .map(|there| (there.line.0, there.held))
+        .map_err(u32::from);
+    written_line(row) == Some(answer) && is_back(there, explicit, field(row, 4))
 }
 
 // Whether an answer is the refusal and the count that two fields write.
 fn is_count(answer: Result<u32, Fault>, number: &[u8], count: &[u8]) -> bool {
-    refusal_of(answer) == number_of(number) && answer.unwrap_or(0) == number_of(count)
+    written(number_of(number), number_of(count)) == Some(answer.map_err(u32::from))
 }
 
 // Whether a row of an origin-zero line holds.
@@ -74,8 +67,11 @@ fn is_origin_right(row: &[u8]) -> bool {
     let line = OriginZeroLine(whole_of(field(row, 3)));
     let before = line.implied_negative_implicit_tracks();
     let after = line.implied_positive_implicit_tracks(explicit);
-    refusal_of(line.into_grid_line(explicit)) == number_of(field(row, 2))
-        && line_back(line, explicit) == whole_of(field(row, 4))
+    let back = line
+        .into_grid_line(explicit)
+        .map(|back| back.0)
+        .map_err(u32::from);
+    written(number_of(field(row, 2)), whole_of(field(row, 4))) == Some(back)
         && is_count(before, field(row, 5), field(row, 6))
         && is_count(after, field(row, 7), field(row, 8))
 }

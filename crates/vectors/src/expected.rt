@@ -1,5 +1,5 @@
 // An expected text that is compared part by part.
-use coordinates::{Axis, Fault, Refusal};
+use coordinates::{Axis, Fault};
 use sheet_rules::Overlap;
 
 // What is left of an expected text after the parts that it went on with; none once it went on otherwise.
@@ -54,8 +54,7 @@ impl<'a> Expected<'a> {
     // The line of a refusal: its fault, and the line of the sheet that has it, 0 for none.
     pub fn refused(self, fault: Fault, line: u32) -> Expected<'a> {
         let mut text = [0u8; 128];
-        let number = u32::from(fault);
-        let count = panel_text::refused_line(&mut text, Refusal { number, line });
+        let count = panel_text::refused_line(&mut text, u32::from(fault), line);
         self.part(&text[..count])
     }
 

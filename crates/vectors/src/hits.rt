@@ -40,14 +40,11 @@ pub fn seen_within<'a>(
     shown: Shown,
 ) -> Expected<'a> {
     let mut hits = [0u32; MOST_HITS];
-    let lent = shown.with_stores(lengths.stores);
+    let asked = shown.with_stores(lengths.stores);
     let found = placements_within(
-        lent.grid,
-        lent.words,
-        lent.bytes,
-        lent.columnstore,
-        lent.rowstore,
-        lent.items(span.axis, lengths.items),
+        asked.grid,
+        asked.lent,
+        asked.items(span.axis, lengths.items),
         span,
         &mut hits,
     );
@@ -62,14 +59,11 @@ pub fn seen_around<'a>(
     shown: Shown,
 ) -> Expected<'a> {
     let mut hits = [0u32; MOST_HITS];
-    let lent = shown.with_stores(lengths.stores);
+    let asked = shown.with_stores(lengths.stores);
     let found = placements_around(
-        lent.grid,
-        lent.words,
-        lent.bytes,
-        lent.columnstore,
-        lent.rowstore,
-        lent.items(around.axis, lengths.items),
+        asked.grid,
+        asked.lent,
+        asked.items(around.axis, lengths.items),
         around,
         &mut hits,
     );

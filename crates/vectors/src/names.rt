@@ -5,6 +5,7 @@ use crate::expected::Expected;
 use crate::tables::Shown;
 use coordinates::Axis;
 use panel_calls::size::line_count;
+use panel_names::LentNames;
 use panel_names::naming::line_name;
 
 // The most names of a line that are listed.
@@ -16,15 +17,12 @@ const MOST_LISTS: u64 = 10001;
 impl<'a> Shown<'a> {
     // A name of a line of an axis by its place, empty where there is none.
     fn name(self, axis: Axis, line: u32, place: u32) -> &'a [u8] {
-        line_name(
-            self.grid,
-            self.words,
-            self.columnstore,
-            self.rowstore,
-            axis,
-            line,
-            place,
-        )
+        let lent = LentNames {
+            words: self.lent.words,
+            columnstore: self.lent.columnstore,
+            rowstore: self.lent.rowstore,
+        };
+        line_name(self.grid, lent, axis, line, place)
     }
 }
 

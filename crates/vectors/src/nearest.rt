@@ -24,7 +24,13 @@ fn seen_signed(expected: Expected, number: i32) -> Expected {
 // The nearest line.
 pub fn seen_nearest<'a>(expected: Expected<'a>, cursor: Cursor, shown: Shown) -> Expected<'a> {
     let items = shown.items(cursor.axis, cursor.items);
-    let found = nearest_line(shown.grid, shown.words, cursor.axis, items, cursor.position);
+    let found = nearest_line(
+        shown.grid,
+        shown.lent.words,
+        cursor.axis,
+        items,
+        cursor.position,
+    );
     match found {
         Ok(line) => seen_signed(expected.part(b"nearest\t"), line).part(b"\n"),
         Err(fault) => expected.refused(fault, 0),

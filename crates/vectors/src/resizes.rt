@@ -6,7 +6,7 @@ use panel_resize::least_resize;
 
 // The least resize.
 pub fn seen_resize<'a>(expected: Expected<'a>, axis: Axis, shown: Shown) -> Expected<'a> {
-    match least_resize(shown.grid, shown.words, axis) {
+    match least_resize(shown.grid, shown.lent.words, axis) {
         Ok(Some(size)) => expected
             .part(b"resize\t")
             .number(u64::from(size))

@@ -4,7 +4,7 @@ ghost use Rattle.std.specs.Prelude.{◌≤◌, length};
 use coordinates::{Axis, Fault};
 use panel_names::entering::enter_name;
 use panel_tables::region::{PANEL_BYTES, PANEL_WORDS, marks};
-use panel_tables::{Grid, Panel};
+use panel_tables::{Grid, LentPanel, Panel};
 use sheet_rules::{Display, SheetFault};
 
 // The most bytes of a store that are lent.
@@ -38,10 +38,7 @@ pub struct Tables {
 #[derive(Clone, Copy)]
 pub struct Shown<'a> {
     pub grid: Grid,
-    pub words: &'a [u64; PANEL_WORDS],
-    pub bytes: &'a [u8; PANEL_BYTES],
-    pub columnstore: &'a [u8],
-    pub rowstore: &'a [u8],
+    pub lent: LentPanel<'a>,
 }
 
 // How many of the bytes that there are a number lends.
@@ -121,31 +118,32 @@ impl Tables {
 
     // A panel with these tables.
     pub fn shown(&self, grid: Grid) -> Shown<'_> {
-        Shown {
-            grid,
+        let lent = LentPanel {
             words: &self.words,
             bytes: &self.bytes,
             columnstore: &self.columnstore,
             rowstore: &self.rowstore,
-        }
+        };
+        Shown { grid, lent }
     }
 }
 
 impl<'a> Shown<'a> {
     // The same with so many bytes of both stores.
     pub fn with_stores(self, lengths: StoreLengths) -> Shown<'a> {
-        let columns = at_most(lengths.columns, self.columnstore.len());
-        let rows = at_most(lengths.rows, self.rowstore.len());
-        Shown {
-            columnstore: &self.columnstore[..columns],
-            rowstore: &self.rowstore[..rows],
-            ..self
-        }
+        let columns = at_most(lengths.columns, self.lent.columnstore.len());
+        let rows = at_most(lengths.rows, self.lent.rowstore.len());
+        let lent = LentPanel {
+            columnstore: &self.lent.columnstore[..columns],
+            rowstore: &self.lent.rowstore[..rows],
+            ..self.lent
+        };
+        Shown { lent, ..self }
     }
 
     // So many of the item bytes of an axis.
     pub fn items(self, axis: Axis, count: u32) -> &'a [u8] {
-        let items = marks(self.bytes, axis);
+        let items = marks(self.lent.bytes, axis);
         &items[..at_most(count, items.len())]
     }
 }

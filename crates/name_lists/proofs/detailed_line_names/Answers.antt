@@ -1,5 +1,4 @@
 use mathlib.Core.Path.{◌≡◌, sym}
-use native.Mathlib.Omega.{arith}
 use lib.ListN.{length}
 use borrow.Author.Rules.{rules}
 use Rattle.std.specs.Prelude.{Err}
@@ -13,11 +12,11 @@ returns-in_err-check_lists c =
     let h : c.from_residual.result ≡ Err fault = search rules in
     rw h (listed-refused a.explicit a.names.entries.now a.names.store.now a.words.now a.words.now fault c.in_err-check_lists.ensures)
 
-pub write_lists-requires : goal.write_lists-requires
-write_lists-requires c =
+pub invariant_of-write_lists : goal.invariant_of-write_lists
+invariant_of-write_lists c =
     let a = c.args in
     let u = unrefused a.explicit (length a.names.entries.now) (length a.names.store.now) (sym c.in_ok-check_lists.ensures) in
-    record { explicit_bound = u.0; entries_len_bound = u.1.0; entries_in_bounds = omega (arith, u) }
+    record { few_tracks = u.0; few_entries = u.1.0 }
 
 pub returns : goal.returns
 returns c =

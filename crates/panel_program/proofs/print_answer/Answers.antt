@@ -1,12 +1,27 @@
-use Rattle.std.proofs.Common.{◌≡◌, false, sym, ◌∙◌, arith}
+use Rattle.std.proofs.Common.{◌≡◌, true, false, sym, ap, ◌∙◌, arith, rules}
 use Rattle.panel_answer.specs.Walk.{is_end}
-use Rattle.panel_answer.proofs.Fills.{shorter, same_bytes}
+use Rattle.panel_answer.specs.Text.{text_from}
+use Rattle.panel_answer.proofs.Fills.{shorter, same_bytes, at-end}
+use Rattle.panel_answer.proofs.Text.{text-end}
+use Rattle.panel_program.specs.Printed.{zero_tables}
+use Rattle.panel_program.proofs.Bytes.{part_ok, none_ok, ok_whole}
 use Rattle.panel_program.proofs.print_answer.Goals as goal
 
-pub loop-words-smaller : goal.loop-words-smaller
-loop-words-smaller g c =
-    let e : is_end c.loop-words.next ≡ false = sym c.is_end.ensures ∙ c.loop-words-test.true in
-    shorter c.fill-filled.ensures e (omega (arith, c.loop-words.invariant))
+pub loop-lent-init : goal.loop-lent-init
+loop-lent-init g c = (search rules, none_ok _ _ _)
 
-pub loop-words-preserved : goal.loop-words-preserved
-loop-words-preserved g c = same_bytes c.fill-filled.ensures ∙ c.loop-words.invariant
+pub loop-lent-smaller : goal.loop-lent-smaller
+loop-lent-smaller g c =
+    let e : is_end c.loop-lent.next ≡ false = sym c.is_end.ensures ∙ c.loop-lent-test.true in
+    shorter c.fill-filled.ensures e (omega (arith, c.loop-lent.invariant.0))
+
+pub loop-lent-preserved : goal.loop-lent-preserved
+loop-lent-preserved g c =
+    let f = c.fill-filled.ensures in
+    (same_bytes f ∙ c.loop-lent.invariant.0, part_ok c.write_all.result (g.W.Write.contents c.write_all.new.self) f c.and-written.ensures c.loop-lent.invariant.1 c.write_all.ensures.bytes)
+
+pub returns-clause-printed : goal.returns-clause-printed
+unfolding zero_tables
+returns-clause-printed g c =
+    let e : is_end c.loop-lent.next ≡ true = sym c.is_end.ensures ∙ c.loop-lent-test.false in
+    ok_whole c.loop-lent.invariant.1 (ap (text_from _) (at-end c.loop-lent.next e) ∙ text-end _) c.begin_answer-begun.ensures.first_after

@@ -1,11 +1,15 @@
 use Rattle.std.proofs.Common.{◌≡◌, length}
-use Rattle.sheet_rules.specs.Panels.{tables_in}
+use Rattle.panel_answer.specs.Answer.{held_with}
 use Rattle.panel_answer.specs.Text.{text_from}
+use Rattle.panel_program.proofs.Bytes.{PrintedOk}
 use Rattle.panel_program.proofs.print_answer.Given as goal
 
-abbrev pub invariant-loop-words : goal.invariant-loop-words
-invariant-loop-words g l = length l.out ≡ 65536
+abbrev pub invariant-loop-lent : goal.invariant-loop-lent
+invariant-loop-lent g l =
+    (length l.out ≡ 65536)
+    × PrintedOk _ _ l.written (g.W.Write.contents l.initial.output) (g.W.Write.contents l.output)
+    (text_from (held_with l.begun.grid l.lent) l.next) (text_from (held_with l.begun.grid l.lent) l.initial.next)
 
 -- what is left of the text
-abbrev pub decreases-loop-words : goal.decreases-loop-words
-decreases-loop-words g l = length (text_from (record { grid = l.grid; tables = tables_in l.words l.bytes l.columnstore l.rowstore }) l.next)
+abbrev pub decreases-loop-lent : goal.decreases-loop-lent
+decreases-loop-lent g l = length (text_from (held_with l.begun.grid l.lent) l.next)

@@ -8,7 +8,7 @@ use Rattle.track_rules.specs.Written.{spares_of}
 use Rattle.track_rules.specs.Records.{item_at}
 use Rattle.track_rules.specs.Steps.{word_totals, record_of}
 use Rattle.track_run.specs.Steps.{fill_count, filled_to, state_record, advance_of}
-use Rattle.track_run.proofs.Filling.{filled_next, filled-part, filled-run, filled-count, refused-run, count-within, state-record, advanced}
+use Rattle.track_run.proofs.Filling.{filled_next, filled-part, filled-run, refused-run, count-within, state-record, advanced}
 use Rattle.track_run.proofs.initialize_grid_tracks.Goals as goal
 
 pub returns-in_err-count : goal.returns-in_err-count
@@ -17,16 +17,16 @@ returns-in_err-count c =
     let cs = template_of c.args.template.components.now c.args.template.minimums.now c.args.template.maximums.now in
     let sp = spares_of c.args.spares.minimums.now c.args.spares.maximums.now in
     let p = err_from_is_err_and c.from_residual.result c.from_residual.ensures.1 in
-    rw (p.1, p.2) (c.in_err-count.ensures, refused-run a cs sp c.args.items.now c.args.records.now _ c.in_err-count.ensures)
+    rw (p.1, p.2) (c.in_err-count.ensures.answered, refused-run a cs sp c.args.items.now c.args.records.now _ c.in_err-count.ensures.answered)
 
 pub slice_bounds-record-items-end : goal.slice_bounds-record-items-end
 slice_bounds-record-items-end c =
-    let n : c.in_ok-count.count ≡ fill_count c.args.axis (length c.args.records.now) (length c.args.items.now) = filled-count _ _ _ _ c.in_ok-count.ensures in
+    let n : c.in_ok-count.count ≡ fill_count c.args.axis (length c.args.records.now) (length c.args.items.now) = c.in_ok-count.ensures.counted in
     omega (arith, n, count-within c.args.axis (length c.args.records.now) (length c.args.items.now))
 
 pub slice_bounds-record-items-end-2 : goal.slice_bounds-record-items-end-2
 slice_bounds-record-items-end-2 c =
-    let n : c.in_ok-count.count ≡ fill_count c.args.axis (length c.args.records.now) (length c.args.items.now) = filled-count _ _ _ _ c.in_ok-count.ensures in
+    let n : c.in_ok-count.count ≡ fill_count c.args.axis (length c.args.records.now) (length c.args.items.now) = c.in_ok-count.ensures.counted in
     let within : c.in_ok-count.count ≤ length c.args.records.now = omega (arith, n, count-within c.args.axis (length c.args.records.now) (length c.args.items.now)) in
     sym (length-take-le c.in_ok-count.count c.args.records.now within)
 
@@ -54,10 +54,10 @@ returns c =
     let item = item_at c.args.items.now in
     let run = c.args.records.now in
     let count = c.in_ok-count.count in
-    let n : count ≡ fill_count a (length run) (length c.args.items.now) = filled-count _ _ _ _ c.in_ok-count.ensures in
+    let n : count ≡ fill_count a (length run) (length c.args.items.now) = c.in_ok-count.ensures.counted in
     let within : count ≤ length run = omega (arith, n, count-within a (length run) (length c.args.items.now)) in
     let all : c.loop-index.index ≡ count = omega (arith, c.loop-index-test.false, c.loop-index.auto.index-end, length-take-le count run within) in (
-      c.in_ok-count.ensures,
+      c.in_ok-count.ensures.answered,
       ap (λ (l : List GridTrack). l ++ drop count run) (c.loop-index.invariant.1 ∙ ap (λ (k : ℕ). filled_to a cs sp item k (take count run)) all)
           ∙ filled-part a cs sp item count run within ∙ ap (λ (k : ℕ). filled_to a cs sp item k run) n ∙ filled-run a cs sp c.args.items.now run,
     )

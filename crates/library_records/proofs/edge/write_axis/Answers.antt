@@ -6,14 +6,14 @@ use lib.Seq.{length-sets}
 use Rattle.track_rules.specs.Records.{item_at}
 use Rattle.axis_tables.specs.Runs.{part_of}
 use Rattle.panel_rules.specs.Calls.{axis_tracks, template_in, spares_in}
-use Rattle.library_records.proofs.Running.{head_fits, head_one, half_room, pairs_room, tail_one, tail_room, planned_count, axis-words}
+use Rattle.library_records.proofs.Running.{head_fits, head_one, pairs_room, tail_one, tail_room, planned_count, axis-words}
 use Rattle.library_records.proofs.edge.write_axis.Goals as goal
 
 pub returns : goal.returns
 returns c =
     let a = c.args in
     let head = c.head_count-head.result in
-    axis-words (axis_tracks a.grid) (template_in a.grid a.tables.now) (spares_in a.grid a.tables.now) a.items.now c.plan_on-plan.result c.plan_on-plan.ensures a.words.now c.write_edge.new.words c.write_pairs.new.words c.write_edge-2.new.words
+    axis-words (axis_tracks a.lent.grid) (template_in a.lent.grid a.lent.tables.now) (spares_in a.lent.grid a.lent.tables.now) a.lent.items.now c.plan_on-plan.result c.plan_on-plan.ensures a.words.now c.write_edge.new.words c.write_pairs.new.words c.write_edge-2.new.words
     a.first a.count head ((a.count - head) / 2) c.head_count-head.ensures refl c.write_edge.ensures c.write_pairs.ensures c.write_edge-2.ensures
 
 pub write_edge-requires-2 : goal.write_edge-requires-2
@@ -36,10 +36,9 @@ write_pairs-requires c =
     let p = c.requires in
     let head = c.head_count-head.result in
     let fits = head_fits a.first a.count head c.head_count-head.ensures in
-    let s = c.args.grid in
+    let s = c.args.lent.grid in
     let kept : length c.write_edge.new.words ≡ length a.words.now = ap length c.write_edge.ensures ∙ simp length-sets in record {
-      written_value = planned_count (axis_tracks s) (part_of a.tables.now 0 s.template.components) (part_of a.tables.now 64 s.template.tracks) (part_of a.tables.now 2112 s.template.tracks) (item_at a.items.now) c.plan_on-plan.result c.plan_on-plan.ensures;
-      count_bound = half_room a.first a.count head fits p.count_bound;
+      written_value = planned_count (axis_tracks s) (part_of a.lent.tables.now 0 s.template.components) (part_of a.lent.tables.now 64 s.template.tracks) (part_of a.lent.tables.now 2112 s.template.tracks) (item_at a.lent.items.now) c.plan_on-plan.result c.plan_on-plan.ensures;
       count_in_bounds = subst (λ (n : ℕ). 3 * head + 6 * ((a.count - head) / 2) ≤ n) (sym kept) (pairs_room (length a.words.now) a.count head fits p.count_in_bounds);
     }
 

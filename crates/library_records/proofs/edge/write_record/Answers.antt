@@ -7,5 +7,5 @@ pub returns : goal.returns
 returns c =
     let a = c.args in
     let r = c.carried_on-track.result in
-    record_written a.grid a.tables.now a.items.now a.plan a.index c.axis_tracks-axis.result c.template_on.result.components.now c.cursor_at-cursor.result r (kind_number r.kind) (source_number r.source) c.word_of.result c.word_of-2.result
-    a.words.now c.put_record.new.words a.place c.requires.plan_value c.axis_tracks-axis.ensures c.template_on.ensures.components c.cursor_at-cursor.ensures c.carried_on-track.ensures refl refl c.word_of.ensures c.word_of-2.ensures c.put_record.ensures
+    record_written a.lent.grid a.lent.tables.now a.lent.items.now a.plan a.index c.axis_tracks-axis.result c.template_on.result.components.now c.cursor_at-cursor.result r (kind_number r.kind) (source_number r.source) c.size_word.result c.size_word-2.result
+    a.words.now c.put_record.new.words a.place c.requires.plan_value c.axis_tracks-axis.ensures c.template_on.ensures.components c.cursor_at-cursor.ensures c.carried_on-track.ensures refl refl c.size_word.ensures c.size_word-2.ensures c.put_record.ensures

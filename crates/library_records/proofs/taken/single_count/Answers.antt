@@ -1,26 +1,25 @@
-use mathlib.Core.Path.{◌≡◌, ◌∙◌}
-use Rattle.library_records.proofs.Singles.{row-length, row-here, count-stops, count-on, count-end}
+use Rattle.std.proofs.Common.{◌∙◌, ◌+◌, ◌-◌, rules, tests, length, take, drop, refl, ap}
+use Rattle.std.proofs.lemmas.Iterator.{YieldsList-from_slice, YieldsList-from_range, YieldsList-from_zip}
+use Rattle.std.proofs.lemmas.Iterator.Consumers.{YieldsList-at, count_from_yields_List}
+use Rattle.std.proofs.lemmas.Iterator.Search.{YieldsList-from_take_while}
+use Rattle.std.proofs.lemmas.List.Folds.{length-prefix_len}
+use Rattle.std.specs.List.{zip, range_with_len}
+use Prim.Native.Nat.{ℕ}
+use mathlib.Core.List.{List}
+use lib.ListN.{length-drop}
+use lib.Seq.{take_all}
+use Rattle.library_records.specs.Parts.{single_at, singles_of}
+use Rattle.library_records.proofs.Singles.{singles_beside}
 use native.Mathlib.Omega.{arith}
 use Rattle.library_records.proofs.taken.single_count.Goals as goal
-
-pub returns-then-not-single_at : goal.returns-then-not-single_at
-returns-then-not-single_at c =
-    let a = c.args in
-    let l = c.loop-run in
-    let h = row-here a.components.now a.component a.left l.run c.before_end-most.result c.before_end-most.ensures c.loop-run-test.true in
-    count-stops a.components.now a.component a.first a.left l.run c.before_end-most.result c.single_at.result c.before_end-most.ensures h.0 (rw h.1 at c.single_at.ensures) c.if-not-single_at.true ∙ l.invariant
-
-pub loop-run-preserved : goal.loop-run-preserved
-loop-run-preserved c =
-    let a = c.args in
-    let l = c.loop-run in
-    let h = row-here a.components.now a.component a.left l.run c.before_end-most.result c.before_end-most.ensures c.loop-run-test.true in
-    count-on a.components.now a.component a.first a.left l.run c.before_end-most.result c.single_at.result c.before_end-most.ensures h.0 (rw h.1 at c.single_at.ensures) c.if-not-single_at.false ∙ l.invariant
 
 pub returns : goal.returns
 returns c =
     let a = c.args in
-    let l = c.loop-run in
-    let n = row-length a.components.now a.component a.left c.before_end-most.result c.before_end-most.ensures in
-    let e : c.before_end-most.result ≡ l.run = omega (arith, n, c.loop-run-test.false, l.auto.run-end) in
-    e ∙ count-end a.components.now a.component a.first a.left l.run c.before_end-most.result c.before_end-most.ensures (omega (arith, e)) (omega (arith, e)) ∙ l.invariant
+    let ws = a.components.now in
+    let words = take (length ws - a.component) (drop a.component ws) in
+    let road = YieldsList-from_zip (YieldsList-at c.zip.ensures.first (YieldsList-from_slice words c.iter.ensures.rest)) (YieldsList-at c.zip.ensures.second (YieldsList-from_range a.first (a.first + a.left) a.left refl (omega arith))) in
+    count_from_yields_List c.take_while.result c.count.result c.count.ensures.ran
+    (YieldsList-from_take_while _ (λ p. single_at p.1 p.0) (YieldsList-at c.take_while.ensures.source road) c.take_while.ensures.closure c.take_while.ensures.done (λ x b q k. search (rules, tests)))
+    ∙ length-prefix_len (λ p. single_at p.1 p.0) (zip words (range_with_len a.first a.left)) ∙ singles_beside a.first words a.left
+    ∙ ap (λ (l : List ℕ). singles_of a.first l a.left) (take_all (length ws - a.component) (drop a.component ws) (rw length-drop (omega arith)))

@@ -16,8 +16,8 @@ returns c =
     let k = c.read_sheet in
     let t : Tables = tables_in a.words.now a.bytes.now a.columnstore.now a.rowstore.now in
     let read : SheetRead = record { answer = answered_sheet k.result; tables = tables_in k.new.words k.new.bytes k.new.columnstore k.new.rowstore } in
-    let e : read ≡ read_sheet a.sheet.now t = k.ensures in
+    let e : read ≡ read_sheet a.sheet.now t = k.ensures.read in
     record {
-      first_after = ap₂ (λ (g : Grid) (x : AnswerLine). text_from (record { grid = g; tables = read.tables }) x) c.begun.ensures.grid c.begun.ensures.first ∙ begun_text read ∙ ap (λ (r : SheetRead). text_of (lines_of r)) e;
+      first_after = ap₂ (λ (g : Grid) (x : AnswerLine). text_from (record { grid = g; tables = read.tables }) x) c.begin_with.ensures.grid c.begin_with.ensures.first ∙ begun_text k.result read.tables ∙ ap (λ (r : SheetRead). text_of (lines_of r)) e;
       lent = ap (λ (r : SheetRead). r.tables) e;
     }

@@ -6,18 +6,17 @@ use native.Mathlib.Omega.{arith}
 use lib.ListN.{length, take, drop}
 use Rattle.sheet_rules.specs.Panels.{tables_in}
 use Rattle.panel_text.specs.Written.{WritesLine}
-use Rattle.panel_answer.specs.Answer.{GridHeld}
+use Rattle.panel_answer.specs.Answer.{GridHeld, held_with}
 use Rattle.panel_answer.specs.Walk.{is_end, line_text, line_after}
 use Rattle.panel_answer.specs.Text.{WritesUpTo}
 use Rattle.panel_answer.proofs.Text.{some-text}
 use Rattle.panel_answer.proofs.Fills.{rest-lent, rest_back, some_left, none_written, line-written, some_written, in_room}
-use Rattle.panel_answer.proofs.fill.fill.Invariants.{held}
 use Rattle.panel_answer.proofs.fill.fill.Goals as goal
 
 pub loop-grid-init : goal.loop-grid-init
 loop-grid-init c =
     let a = c.args in
-    let h = held a.grid a.words.now a.bytes.now a.columnstore.now a.rowstore.now in
+    let h = held_with a.grid a.lent in
     in_room a.out.now h a.at a.at a.out.now 0 (none_written a.out.now h a.at)
 
 pub returns-then-out-count-lt-LINE_BYTES : goal.returns-then-out-count-lt-LINE_BYTES
@@ -29,7 +28,7 @@ pub returns : goal.returns
 returns c =
     let a = c.args in
     let l = c.loop-grid in
-    let h : GridHeld = held a.grid a.words.now a.bytes.now a.columnstore.now a.rowstore.now in
+    let h : GridHeld = held_with a.grid a.lent in
     let (same, within, w) = l.invariant in
     let e : is_end l.next ≡ true = sym c.is_end.ensures ∙ c.loop-grid-test.false in
     record { written = w; some = λ (room : 128 ≤ length a.out.now) (g : is_end a.at ≡ false). some_written a.out.now h a.at l.out l.next l.count w e g }
@@ -39,7 +38,7 @@ unfolding tables_in
 loop-grid-preserved c =
     let a = c.args in
     let l = c.loop-grid in
-    let h : GridHeld = held a.grid a.words.now a.bytes.now a.columnstore.now a.rowstore.now in
+    let h : GridHeld = held_with a.grid a.lent in
     let (same, within, w) = l.invariant in
     let k = c.put_line-count in
     let e : is_end l.next ≡ false = sym c.is_end.ensures ∙ c.loop-grid-test.true in
@@ -53,7 +52,7 @@ pub loop-grid-smaller : goal.loop-grid-smaller
 loop-grid-smaller c =
     let a = c.args in
     let l = c.loop-grid in
-    let h : GridHeld = held a.grid a.words.now a.bytes.now a.columnstore.now a.rowstore.now in
+    let h : GridHeld = held_with a.grid a.lent in
     let (same, within, w) = l.invariant in
     let p = c.put_line-count.ensures in
     let e : is_end l.next ≡ false = sym c.is_end.ensures ∙ c.loop-grid-test.true in

@@ -6,7 +6,7 @@ use Rattle.panel_answer.proofs.line.put_line.Goals as goal
 
 pub returns-in-Refused : goal.returns-in-Refused
 unfolding tables_in
-returns-in-Refused c = rw c.in-Refused.is c.refused_line.ensures
+returns-in-Refused c = rw c.in-Refused.is c.put_refused.ensures
 
 pub returns-in-Size : goal.returns-in-Size
 unfolding tables_in
@@ -14,7 +14,7 @@ returns-in-Size c = rw c.in-Size.is c.put_size.ensures
 
 pub returns-in-Record : goal.returns-in-Record
 unfolding tables_in
-returns-in-Record c = let a = c.args in rw (c.in-Record.is, words_of c.in-Record.axis a.words.now, marks_of_lem c.in-Record.axis a.bytes.now) c.put_record.ensures
+returns-in-Record c = let a = c.args in rw (c.in-Record.is, words_of c.in-Record.axis a.lent.words.now, marks_of_lem c.in-Record.axis a.lent.bytes.now) c.put_record.ensures
 
 pub returns-in-Place : goal.returns-in-Place
 unfolding tables_in

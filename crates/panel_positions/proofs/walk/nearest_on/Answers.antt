@@ -1,6 +1,6 @@
 use mathlib.Core.Path.{refl}
 use Rattle.std.proofs.lemmas.Result.{err_from_is_err_and}
-use Rattle.track_rules.proofs.Answers.{fault_some}
+use Rattle.coordinates.proofs.Faults.{fault_some}
 use Rattle.panel_positions.proofs.Places.{handed_on}
 use Rattle.panel_positions.proofs.Answers.{nearest-refused, counts-small, place-small, nearest-found}
 use Rattle.panel_positions.proofs.walk.nearest_on.Goals as goal

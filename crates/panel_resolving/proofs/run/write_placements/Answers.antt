@@ -4,7 +4,7 @@ use Rattle.std.specs.Prelude.{Err}
 use mathlib.Core.Path.{sym, ap, ◌∙◌}
 use native.Mathlib.Nat.{le_of_lt}
 use native.Mathlib.Omega.{arith}
-use Rattle.panel_rules.specs.Calls.{area_table_in, name_tables_in, placement_table_in}
+use Rattle.panel_resolving.specs.Lent.{lent_areas, lent_names, lent_placements}
 use Rattle.panel_resolving.specs.Placements.{numbers_refusal}
 use Rattle.panel_resolving.proofs.Numbers.{unrefused, long_stores, few-written, run-refused, run-written}
 use Rattle.panel_resolving.proofs.run.write_placements.Goals as goal
@@ -14,7 +14,7 @@ returns-in_err-check_numbers c =
     let a = c.args in
     let fault = c.in_err-check_numbers.field-0.0 in
     let h : c.from_residual.result ≡ Err fault = search rules in
-    rw h (run-refused a.grid (name_tables_in a.words.now a.columnstore.now a.rowstore.now) (area_table_in a.words.now a.bytes.now) (placement_table_in a.words.now a.bytes.now) a.first a.numbers.now fault (c.in_err-check_numbers.ensures ∙ ap (λ (m : ℕ). numbers_refusal a.grid.placements m a.first) c.min-shorter.ensures))
+    rw h (run-refused a.grid (lent_names a.lent) (lent_areas a.lent) (lent_placements a.lent) a.first a.numbers.now fault (c.in_err-check_numbers.ensures ∙ ap (λ (m : ℕ). numbers_refusal a.grid.placements m a.first) c.min-shorter.ensures))
 
 pub numbers_count-count-requires : goal.numbers_count-count-requires
 numbers_count-count-requires c = let a = c.args in le_of_lt (unrefused a.grid.placements c.min-shorter.result a.first (sym c.in_ok-check_numbers.ensures))
@@ -29,5 +29,5 @@ write_numbers-requires c = let a = c.args in let e = c.numbers_count-count.ensur
 
 pub returns : goal.returns
 returns c = let a = c.args in
-    rw c.from.ensures (run-written a.grid (name_tables_in a.words.now a.columnstore.now a.rowstore.now) (area_table_in a.words.now a.bytes.now) (placement_table_in a.words.now a.bytes.now) a.first a.numbers.now c.numbers_count-count.result _
+    rw c.from.ensures (run-written a.grid (lent_names a.lent) (lent_areas a.lent) (lent_placements a.lent) a.first a.numbers.now c.numbers_count-count.result _
     (sym (c.in_ok-check_numbers.ensures ∙ ap (λ (m : ℕ). numbers_refusal a.grid.placements m a.first) c.min-shorter.ensures)) c.numbers_count-count.ensures.0 c.write_numbers.ensures)

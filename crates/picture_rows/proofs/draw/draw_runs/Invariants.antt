@@ -10,8 +10,7 @@ use Rattle.picture_rows.proofs.draw.draw_runs.Given as goal
 
 abbrev pub invariant-loop-at : goal.invariant-loop-at
 invariant-loop-at l =
-    (l.row ≤ 10000)
-    × (l.column + length (words_left l.line l.at) ≤ 10001)
+    (l.column + length (words_left l.line l.at) ≤ 10001)
     × (runs_in l.row 1 (runs_of (words_of l.line)) (started l.fn.panel l.initial.words l.initial.bytes)
     ≡ runs_in l.row l.column (runs_of (words_left l.line l.at)) (record { answer = answered_drawn l.fn.panel (Ok l.drawn); words = l.words; bytes = l.bytes }))
 

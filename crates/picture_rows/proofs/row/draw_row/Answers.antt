@@ -32,4 +32,4 @@ returns c =
     let words = c.words_in-width in
     row_taken a.panel a.words.now a.bytes.now (words_of a.line.now) a.row words.result words.ensures
     c.if-width-gt-MOST_WORDS.false c.if-row-gt-MOST_ROWS.false _ _ c.draw_runs.result c.draw_runs.ensures
-    c.in_ok-drawn.drawn c.in_ok-drawn.was c.picture_edges.result c.picture_edges.ensures c.spanned.result c.spanned.ensures
+    c.in_ok-drawn.drawn c.in_ok-drawn.was c.picture_edges-edges.result c.picture_edges-edges.ensures c.spanned.result c.spanned.ensures

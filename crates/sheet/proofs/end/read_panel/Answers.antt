@@ -1,12 +1,8 @@
-use Rattle.std.specs.Prelude.{ℕ, Result, Option}
-use mathlib.Core.Path.{◌≡◌, sym, ap, subst, ◌∙◌}
-use lib.Dec.{eqb}
-use Rattle.text.specs.Split.{split}
-use Rattle.panel_tables.specs.Written.{PanelHeld}
+use Rattle.std.specs.Prelude.{ℕ, Result}
+use mathlib.Core.Path.{sym, ap, subst, ◌∙◌}
 use Rattle.sheet_rules.specs.declared.LineFault.{LineFault}
 use Rattle.sheet_step.specs.Drafts.{held_of}
 use Rattle.sheet.specs.Steps.{line_or_none, IsLine}
-use Rattle.sheet.specs.Runs.{HeldRun, held_run, held_broken}
 use Rattle.sheet.specs.Steps.{fault_in, stop_in}
 use Rattle.sheet.proofs.Steps.{ends-broken, ends-refused, ends-after}
 use Rattle.sheet.proofs.end.read_panel.Goals as goal

@@ -10,7 +10,7 @@ use Rattle.coordinates.specs.declared.refusal.Fault.{Fault}
 use Rattle.coordinates.specs.Refusals.{number_of, fault_number}
 use Rattle.panel_tables.specs.Written.{PanelHeld, PanelStepped}
 use Rattle.sheet_rules.specs.declared.Overlap.{Overlap}
-use Rattle.sheet_rules.specs.Answers.{noted, Numbered}
+use Rattle.sheet_rules.specs.Answers.{noted, NumberedPair}
 use Rattle.sheet_rules.specs.Sheet.{no_overlap}
 use Rattle.sheet_faults.specs.Lines.{line_in}
 use Rattle.sheet_rules.specs.Contents.{lines_from}
@@ -67,7 +67,7 @@ returns-in-Some c =
     let z = has_number c.in-Some.fault in
     let note : noted c.or-overlap.result ≡ or_else (noted l.overlap) (noted_at (area_number_of k.result.shared) l.draft.panel.grid.areas l.line) =
     noted-after l.overlap c.overlap_at.result l.invariant.numbered c.or-overlap.result c.or-overlap.ensures _ c.overlap_at.ensures.overlap in
-    let numbered : Numbered c.or-overlap.result = numbered-after l.overlap c.overlap_at.result l.invariant.numbered c.or-overlap.result c.or-overlap.ensures c.overlap_at.ensures.numbered in record {
+    let numbered : NumberedPair c.or-overlap.result = numbered-after l.overlap c.overlap_at.result l.invariant.numbered c.or-overlap.result c.or-overlap.ensures c.overlap_at.ensures.numbered in record {
       lines = sym
           (l.invariant.lines
           ∙ ap (λ (ps : List (List ℕ)). held_run l.line ps h) parts

@@ -2,7 +2,7 @@ use Prim.Native.Nat.{◌+◌, ◌-◌, ◌≤◌}
 use mathlib.Core.Path.{◌≡◌}
 use lib.ListN.{length, drop}
 use Rattle.text.specs.Split.{split}
-use Rattle.sheet_rules.specs.Answers.{noted, Numbered}
+use Rattle.sheet_rules.specs.Answers.{noted, NumberedPair}
 use Rattle.sheet_step.specs.Drafts.{held_of}
 use Rattle.sheet.specs.Steps.{line_or_none, IsLine}
 use Rattle.sheet.specs.Runs.{held_run, or_else, held_overlap, or_line, held_broken}
@@ -17,7 +17,7 @@ invariant-loop-at l =
       line : l.line ≤ l.at + 1;
       lines : held_run 1 (split 10 l.sheet) (held_of l.initial.draft) ≡ held_run l.line (split 10 (drop l.at l.sheet)) (held_of l.draft);
       overlap : held_overlap 1 (split 10 l.sheet) (held_of l.initial.draft) ≡ or_else (noted l.overlap) (held_overlap l.line (split 10 (drop l.at l.sheet)) (held_of l.draft));
-      numbered : Numbered l.overlap;
+      numbered : NumberedPair l.overlap;
       picture : held_broken 1 (split 10 l.sheet) (held_of l.initial.draft) ≡ or_line (line_or_none l.broken) (held_broken l.line (split 10 (drop l.at l.sheet)) (held_of l.draft));
       positive : IsLine l.broken;
     }

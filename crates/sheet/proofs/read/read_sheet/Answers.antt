@@ -4,12 +4,12 @@ use Rattle.sheet.specs.Steps.{read_under}
 use Rattle.sheet.proofs.Answers.{no-pair}
 use Rattle.sheet.proofs.read.read_sheet.Goals as goal
 
-pub returns-in_err-read : goal.returns-in_err-read
+pub returns-in_err-read-clause-read : goal.returns-in_err-read-clause-read
 unfolding read_under
-returns-in_err-read c =
+returns-in_err-read-clause-read c =
     let p = err_from_is_err_and c.from_residual.result c.from_residual.ensures.1 in
     rw (p.1, p.2) c.in_err-read.ensures.read
 
-pub returns : goal.returns
+pub returns-clause-read : goal.returns-clause-read
 unfolding read_under
-returns c = no-pair _ _ _ (noted c.in_ok-read.read.overlap) _ c.in_ok-read.ensures.read
+returns-clause-read c = no-pair _ _ _ (noted c.in_ok-read.read.overlap) _ c.in_ok-read.ensures.read

@@ -13,9 +13,10 @@ returns c =
     let a = c.args in
     let p = c.requires in
     let o = c.if-count-eq0.false in
+    let n = c.names_of.ensures in
     let e = some-entries a.state a.words.now (answered_size (Ok a.size)) a.count p.0 o in
     c.copy_words.ensures
     ∙ ap (sets a.words.now 8384)
     (c.part_from.ensures
-    ∙ table-part _ _ _ _ _ _ c.write_entries.ensures a.count (p.0 ∙ ap length e) p.1 p.1
+    ∙ table-part _ _ _ _ _ _ (rw (n.names, n.components, n.repetitions) at c.write_names.ensures) a.count (p.0 ∙ ap length e) p.1 p.1
     ∙ sym (ap (map entry_word) e))

@@ -1,12 +1,12 @@
-use mathlib.Core.Path.{◌≡◌, refl, ap, ◌∙◌}
+use mathlib.Core.Path.{refl, ap, ◌∙◌}
 use native.Mathlib.Omega.{arith}
 use Rattle.coordinates.specs.Refusals.{refused_by}
 use Rattle.sheet_forms.specs.Faults.{first_of}
 use Rattle.picture_words.specs.Words.{words_of}
 use Rattle.panel_tables.specs.Axes.{PanelRead}
-use Rattle.panel_tables.specs.Written.{PanelStepped, panel_held_of}
+use Rattle.panel_tables.specs.Written.{panel_held_of}
 use Rattle.picture_areas.specs.Runs.{answered_drawn, InPicture}
-use Rattle.sheet_step.specs.Regions.{drawn_read, InPanel}
+use Rattle.sheet_step.specs.Regions.{drawn_read}
 use Rattle.sheet_step.proofs.Back.{picture-back}
 use Rattle.sheet_step.proofs.Pictures.{picture-late, picture-many, picture-drawn, drawn-answer}
 use Rattle.sheet_step.proofs.Draft.draw.Goals as goal
@@ -33,4 +33,4 @@ returns c =
     (ap (λ (z : PanelRead). record { fault = z.fault; held = panel_held_of z.panel z.reading k.new.words k.new.bytes d.column_bytes d.row_bytes }) q
     ∙ picture-back d.panel d.reading d.words d.bytes d.column_bytes d.row_bytes (omega arith) (omega arith) (words_of c.args.line.now) c.args.width
     (record { answer = drawn_read d.reading c.args.width x.answer; words = x.words; bytes = x.bytes })
-    (picture-drawn d.panel d.reading d.words d.bytes (words_of c.args.line.now) c.args.width c.late_at.result c.late_at.ensures c.if-late_at.false (omega arith) x k.ensures _ refl) (omega arith) (omega arith))
+    (picture-drawn d.panel d.reading d.words d.bytes (words_of c.args.line.now) c.args.width c.late_at.result c.late_at.ensures c.if-late_at.false (omega arith) x k.ensures.drawn _ refl) (omega arith) (omega arith))

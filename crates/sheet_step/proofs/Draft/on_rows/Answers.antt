@@ -13,19 +13,19 @@ pub returns-in_err-after : goal.returns-in_err-after
 returns-in_err-after c =
     let a = c.args in
     let d = a.self.now in
-    let k = c.on_axis in
+    let k = c.on_axis-rows in
     let p = err_from_is_err_and c.from_residual.result c.from_residual.ensures.1 in
     rw (p.1, p.2)
     (rows_back d.panel d.reading d.words d.bytes d.column_bytes d.row_bytes (omega arith) (omega arith) a.name.now a.name.now (said_of (Ok a.said))
     (record { answer = answered_axis (state_in d.panel Row) (reading_in d.reading Row) (Err c.in_err-after.field-0.0); words = k.new.words; marks = k.new.bytes; bytes = k.new.store })
-    c.in_err-after.ensures refl (omega arith) (omega arith))
+    c.in_err-after.ensures.written refl (omega arith) (omega arith))
 
 pub returns : goal.returns
 returns c =
     let a = c.args in
     let d = a.self.now in
-    let k = c.on_axis in
+    let k = c.on_axis-rows in
     rw c.with_state-self.ensures
     (rows_back d.panel d.reading d.words d.bytes d.column_bytes d.row_bytes (omega arith) (omega arith) a.name.now a.name.now (said_of (Ok a.said))
     (record { answer = answered_axis (state_in d.panel Row) (reading_in d.reading Row) (Ok c.in_ok-after.after); words = k.new.words; marks = k.new.bytes; bytes = k.new.store })
-    c.in_ok-after.ensures refl (omega arith) (omega arith))
+    c.in_ok-after.ensures.written refl (omega arith) (omega arith))

@@ -19,7 +19,7 @@ returns-in_err-self-in-Area c =
     rw (p.1, p.2, c.in-Ok.is, c.in-Area.is)
     (areas-back d.panel d.reading d.words d.bytes d.column_bytes d.row_bytes (omega arith) (omega arith) c.part_at-first.result.now (part_at a.line.now a.there.first) (edges_of c.in-Area.area)
     (record { answer = answered_panel d.panel (Err c.in_err-self-in-Area.field-0.0); words = c.on_areas.new.words; bytes = c.on_areas.new.bytes })
-    (c.in_err-self-in-Area.ensures ∙ ap (λ (z : AreaEdges). on_areas d.panel d.words d.bytes c.part_at-first.result.now z) c.edges_of-edges.ensures)
+    (c.in_err-self-in-Area.ensures.written ∙ ap (λ (z : AreaEdges). on_areas d.panel d.words d.bytes c.part_at-first.result.now z) c.edges_of-edges.ensures)
     c.part_at-first.ensures (omega arith) (omega arith))
 
 pub returns-in_ok-self-in-Area : goal.returns-in_ok-self-in-Area
@@ -29,7 +29,7 @@ returns-in_ok-self-in-Area c =
     rw (c.in-Ok.is, c.in-Area.is)
     (areas-back d.panel d.reading d.words d.bytes d.column_bytes d.row_bytes (omega arith) (omega arith) c.part_at-first.result.now (part_at a.line.now a.there.first) (edges_of c.in-Area.area)
     (record { answer = answered_panel d.panel (Ok c.in_ok-self-in-Area.field-0); words = c.on_areas.new.words; bytes = c.on_areas.new.bytes })
-    (c.in_ok-self-in-Area.ensures ∙ ap (λ (z : AreaEdges). on_areas d.panel d.words d.bytes c.part_at-first.result.now z) c.edges_of-edges.ensures)
+    (c.in_ok-self-in-Area.ensures.written ∙ ap (λ (z : AreaEdges). on_areas d.panel d.words d.bytes c.part_at-first.result.now z) c.edges_of-edges.ensures)
     c.part_at-first.ensures (omega arith) (omega arith))
 
 pub returns-in_err-self-in-Place : goal.returns-in_err-self-in-Place
@@ -41,7 +41,7 @@ returns-in_err-self-in-Place c =
     (placements-back d.panel d.reading d.words d.bytes d.column_bytes d.row_bytes (omega arith) (omega arith) c.in-Place.axis (place_end c.in-Place.start) c.part_at-first.result.now (part_at a.line.now a.there.first)
     (place_end c.in-Place.end) c.part_at-second.result.now (part_at a.line.now a.there.second)
     (record { answer = answered_panel d.panel (Err c.in_err-self-in-Place.field-0.0); words = c.on_placements.new.words; bytes = c.on_placements.new.bytes })
-    c.in_err-self-in-Place.ensures c.part_at-first.ensures c.part_at-second.ensures (omega arith) (omega arith))
+    c.in_err-self-in-Place.ensures.written c.part_at-first.ensures c.part_at-second.ensures (omega arith) (omega arith))
 
 pub returns-in_ok-self-in-Place : goal.returns-in_ok-self-in-Place
 returns-in_ok-self-in-Place c =
@@ -51,4 +51,4 @@ returns-in_ok-self-in-Place c =
     (placements-back d.panel d.reading d.words d.bytes d.column_bytes d.row_bytes (omega arith) (omega arith) c.in-Place.axis (place_end c.in-Place.start) c.part_at-first.result.now (part_at a.line.now a.there.first)
     (place_end c.in-Place.end) c.part_at-second.result.now (part_at a.line.now a.there.second)
     (record { answer = answered_panel d.panel (Ok c.in_ok-self-in-Place.field-0); words = c.on_placements.new.words; bytes = c.on_placements.new.bytes })
-    c.in_ok-self-in-Place.ensures c.part_at-first.ensures c.part_at-second.ensures (omega arith) (omega arith))
+    c.in_ok-self-in-Place.ensures.written c.part_at-first.ensures c.part_at-second.ensures (omega arith) (omega arith))

@@ -1,4 +1,4 @@
-use Prim.Native.Nat.{ℕ, ◌+◌, ◌-◌}
+use Prim.Native.Nat.{ℕ}
 use mathlib.Core.Path.{refl}
 use mathlib.Core.List.{List}
 use native.Mathlib.Omega.{arith}
@@ -7,17 +7,20 @@ use Rattle.panel_tables.specs.Areas.{answered_panel}
 use Rattle.panel_tables.specs.Regions.{placement_words_in, placement_bytes_in}
 use Rattle.sheet_faults.specs.Parts.{place_in}
 use Rattle.sheet_step.specs.Regions.{on_placements}
-use Rattle.sheet_step.proofs.Back.{parts-put}
+use Rattle.sheet_step.proofs.Back.{part_stays, parts-put}
 use Rattle.sheet_step.proofs.panel.on_placements.Goals as goal
 
 pub returns : goal.returns
 unfolding on_placements placement_words_in placement_bytes_in
 returns c =
     let a = c.args in
-    let g = c.placement_names_start-name in
-    let k = c.put_placement in
-    parts-put 25088 512 62048 16384 g.result 512 (g.result + 16384 - g.result) a.words.now a.bytes.now
-    (λ (w : List ℕ) (b : List ℕ). place_in a.panel w b a.axis (place_end a.start) a.first.now (place_end a.end) a.second.now)
-    (record { answer = answered_panel a.panel k.result; words = k.new.words; bytes = k.new.bytes })
-    g.ensures refl (omega arith)
-    (rw (c.used_name.ensures, c.used_name-2.ensures, c.placed-from.ensures, c.placed-to.ensures) at k.ensures)
+    let k = c.put_placement in record {
+      written = parts-put 25088 512 62048 16384 62048 512 16384 a.words.now a.bytes.now
+          (λ (w : List ℕ) (b : List ℕ). place_in a.panel w b a.axis (place_end a.start) a.first.now (place_end a.end) a.second.now)
+          (record { answer = answered_panel a.panel k.result; words = k.new.words; bytes = k.new.bytes }) refl refl refl
+          (rw (c.used_name.ensures, c.used_name-2.ensures, c.placed-from.ensures, c.placed-to.ensures) at k.ensures);
+      lengths = (
+        omega (arith, part_stays a.words.now k.new.words 25088 512 (omega arith) k.auto.words),
+        omega (arith, part_stays a.bytes.now k.new.bytes 62048 16384 (omega arith) k.auto.bytes),
+      );
+    }

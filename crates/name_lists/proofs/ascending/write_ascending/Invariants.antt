@@ -1,7 +1,0 @@
-use Rattle.name_lists.proofs.Boundary.{Boundary}
-use Rattle.name_lists.proofs.Lines.{Lines}
-use Rattle.name_lists.proofs.ascending.write_ascending.Given as goal
-
-abbrev pub invariant-loop-line : goal.invariant-loop-line
-invariant-loop-line l =
-    Boundary l.names.entries.now l.at l.line × Lines l.explicit l.names.entries.now l.names.store.now l.initial.words l.words l.count l.line

@@ -1,0 +1,20 @@
+use Prim.Native.Nat.{◌+◌, ◌≤◌}
+use native.Mathlib.Omega.{arith}
+use Rattle.name_lists.proofs.Lines.{lines-begin, lines-room, lines-turn, lines-done}
+use Rattle.name_lists.proofs.explicit.ExplicitNames.write_by_passes.Goals as goal
+
+pub loop-line-init : goal.loop-line-init
+loop-line-init c = let a = c.args in lines-begin a.self.explicit a.self.names.entries.now a.self.names.store.now a.words.now
+
+pub loop-line-preserved : goal.loop-line-preserved
+loop-line-preserved c = let a = c.args in let l = c.loop-line in
+    let less : l.line ≤ a.self.explicit + 1 = omega arith in
+    lines-turn a.self.explicit a.self.names.entries.now a.self.names.store.now a.words.now l.words l.count l.line l.invariant less _ c.write_line-count.result c.write_line-count.ensures
+
+pub returns : goal.returns
+returns c = let a = c.args in let l = c.loop-line in
+    lines-done a.self.explicit a.self.names.entries.now a.self.names.store.now a.words.now l.words l.count l.line l.invariant (omega arith)
+
+pub write_line-count-requires : goal.write_line-count-requires
+write_line-count-requires c = let a = c.args in let l = c.loop-line in
+    lines-room a.self.explicit a.self.names.entries.now a.self.names.store.now a.words.now l.words l.count l.line l.invariant (omega arith) (omega arith)

@@ -1,0 +1,2 @@
+-- What the contracts of the panel program cite.
+pub mod Printed
