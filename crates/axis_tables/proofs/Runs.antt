@@ -6,6 +6,7 @@ use native.Mathlib.Omega.{arith}
 use lib.ListN.{length, get_or, take, drop, length-append}
 use lib.Seq.{take_at, drop_at, drop-drop, drop-append-add}
 use Rattle.axis_tables.specs.Runs.{bytes_of, words_from, part_of}
+pub use Rattle.axis_tables.specs.Runs.{All}
 
 module _ {A : Type 0} (word : A → ℕ → ℕ) (name : A → List ℕ) where
   pub bytes-more : (xs : List A) (x : A) → bytes_of name (xs ++ (x ∷ [])) ≡ bytes_of name xs ++ name x
@@ -51,11 +52,6 @@ module _ {A : Type 0} (word : A → ℕ → ℕ) (name : A → List ℕ) where
   name-room [] k d h = absurd (omega arith)
   name-room (x ∷ xs) zero d h = omega (arith, length-append (name x) (bytes_of name xs))
   name-room (x ∷ xs) (suc k) d h = omega (arith, name-room xs k d (omega arith), length-append (name x) (bytes_of name xs), length-append (name x) (bytes_of name (take k xs)))
-
--- what holds of each
-abbrev pub All : {A : Type 0} → (A → Type 0) → List A → Type 0
-All P [] = Unit
-All P (x ∷ xs) = P x × All P xs
 
 pub all_append : {A : Type 0} (P : A → Type 0) (xs ys : List A) → All P xs → All P ys → All P (xs ++ ys)
 all_append P [] ys a b = b

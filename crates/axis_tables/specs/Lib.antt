@@ -2,6 +2,7 @@
 pub mod Lay
 pub mod Runs
 pub mod View
+pub mod Readings
 pub mod Store
 pub mod Written
 pub mod Reads

@@ -1,8 +1,13 @@
 -- What the words of an axis read as, whatever they are.
-use Rattle.std.specs.Prelude.{ℕ, ◌/◌, ◌%◌, List}
+use Rattle.std.specs.Prelude.{ℕ, ◌/◌, ◌%◌, List, cond, eqb, Option, Some, None}
+use Rattle.axis_tables.specs.declared.AxisSpace.{AxisSpace}
 use Rattle.axis_tables.specs.declared.NamePlace.{NamePlace}
 use Rattle.axis_tables.specs.Runs.{part_of}
 use Rattle.axis_tables.specs.View.{NameRecord}
+
+-- the bits of an inner size, where there is one
+abbrev pub inner_bits : AxisSpace → Option ℕ
+inner_bits s = cond (eqb s.definite 0) None (Some s.inner)
 
 -- a name's word taken apart
 unfoldable pub name_place : ℕ → NamePlace

@@ -25,3 +25,8 @@ part_of bytes offset length = take length (drop offset bytes)
 -- a list with others in the place of `length` from `offset` on
 abbrev pub with_part : List ℕ → ℕ → ℕ → List ℕ → List ℕ
 with_part s offset length others = take offset s ++ (others ++ drop length (drop offset s))
+
+-- what holds of each
+abbrev pub All : {A : Type 0} → (A → Type 0) → List A → Type 0
+All P [] = Unit
+All P (x ∷ xs) = P x × All P xs

@@ -9,9 +9,8 @@ use Rattle.axis_tables.specs.declared.ImplicitCounts.{ImplicitCounts}
 use Rattle.axis_tables.specs.declared.AxisGrid.{AxisGrid}
 use Rattle.axis_tables.specs.declared.AxisRoom.{AxisRoom}
 use Rattle.axis_tables.specs.declared.AxisState.{AxisState}
-use Rattle.axis_tables.specs.declared.AxisReading.{AxisReading}
-use Rattle.axis_tables.specs.declared.OpenRepeat.{OpenRepeat}
 use Rattle.axis_tables.specs.declared.AxisAfter.{AxisAfter}
+use Rattle.axis_tables.specs.Readings.{OpenRepeat, AxisReading, axis_reading}
 use Rattle.axis_tables.specs.View.{no_room, named_fault, repeat_kind}
 
 -- ---- words
@@ -120,7 +119,7 @@ put fault s r = record { fault = fault; state = s; reading = r }
 
 -- the number and the axis of what a call answers, of the axis as it came
 abbrev pub answered_axis : AxisState → AxisReading → Result AxisAfter Fault → AxisPut
-answered_axis s r (Ok after) = put 0 after.state after.reading
+answered_axis s r (Ok after) = put 0 after.state (axis_reading after.reading)
 answered_axis s r (Err fault) = put (number_of fault) s r
 
 -- ---- what a record leaves: its answer, with the words, the marks or the bytes

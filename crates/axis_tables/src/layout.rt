@@ -1,9 +1,12 @@
 // The words of an axis: where each region starts, and how they are packed.
 ghost use Rattle.std.specs.Prelude.{◌≡◌, get_or, take, drop};
 ghost use Rattle.axis_tables.specs.Store.{component_word, name_word};
+ghost use Rattle.axis_tables.specs.Readings.{count_kind, count_number};
 ghost use Rattle.axis_tables.specs.Reads.{name_place};
+ghost use Rattle.axis_tables.specs.Runs.{part_of};
 
-use crate::NamePlace;
+use crate::{ComponentPlace, NamePlace, TemplateCounts};
+use template_rules::{RepetitionCount, Template};
 
 // Components are the first 64 words.
 pub const AXIS_WORDS: usize = 12480;
@@ -39,16 +42,43 @@ pub fn part_from<T>(items: &[T], first: usize, length: u32) -> &[T]
     &rest[..rest.len().min(length as usize)]
 }
 
-// The word of a component.
-#[tactic(auto, unfolding(crate::specs::Store::component_word))]
-pub fn component_word(number: u32, kind: u32, first: u32, length: u32) -> u64
-    ensures { result ≡ component_word number kind first length }
+// The template of an axis with so many components and tracks, as parts of its words.
+pub fn template_in(words: &[u64], counts: TemplateCounts) -> Template
+    ensures components { result.components.now ≡ part_of words.now 0 counts.components }
+    ensures minimums { result.minimums.now ≡ part_of words.now 64 counts.tracks }
+    ensures maximums { result.maximums.now ≡ part_of words.now 2112 counts.tracks }
 {
-    let number = u64::from(number) % 0x1_0000;
-    let kind = u64::from(kind) % 4;
-    let first = u64::from(first) % 0x1_0000;
-    let length = u64::from(length) % 0x1_0000;
-    number + kind * 0x1_0000 + first * 0x1_0000_0000 + length * 0x1_0000_0000_0000
+    Template {
+        components: part_from(words, 0, counts.components),
+        minimums: part_from(words, MINIMUMS, counts.tracks),
+        maximums: part_from(words, MAXIMUMS, counts.tracks),
+    }
+}
+
+// The kind and the number of a count in the word of its component; `template_rules::component` reads them back.
+fn count_numbers(count: RepetitionCount) -> (u64, u64)
+    ensures { result ≡ (count_kind count, count_number count) }
+{
+    match count {
+        RepetitionCount::Single => (0, 0),
+        RepetitionCount::Count(number) => (1, number),
+        RepetitionCount::AutoFill => (2, 0),
+        RepetitionCount::AutoFit => (3, 0),
+    }
+}
+
+impl From<ComponentPlace> for u64 {
+    ghost from_gives = { λ component word. word ≡ component_word (count_number component.count) (count_kind component.count) component.first component.length };
+
+    // The word of a component.
+    #[tactic(auto, unfolding(crate::specs::Store::component_word))]
+    fn from(component: ComponentPlace) -> u64 {
+        let (kind, number) = count_numbers(component.count);
+        let number = number % 0x1_0000;
+        let first = u64::from(component.first) % 0x1_0000;
+        let length = u64::from(component.length) % 0x1_0000;
+        number + kind % 4 * 0x1_0000 + first * 0x1_0000_0000 + length * 0x1_0000_0000_0000
+    }
 }
 
 impl From<NamePlace> for u64 {

@@ -6,6 +6,11 @@ pub mod layout;
 pub mod name;
 pub mod write;
 
+ghost use Rattle.std.specs.Prelude.{◌≡◌};
+ghost use Rattle.axis_tables.specs.Reads.{inner_bits};
+
+use template_rules::RepetitionCount;
+
 // The space of an axis, as its `axis` record says it: whether it has an inner size, the bits of that, rule 0 `max` or 1 `min`, the
 // gap's word.
 #[repr(C)]
@@ -15,6 +20,15 @@ pub struct AxisSpace {
     pub inner: u32,
     pub rule: u32,
     pub gap: u64,
+}
+
+impl AxisSpace {
+    // The bits of the inner size, where the axis has one.
+    pub fn inner_bits(self) -> Option<u32>
+        ensures { result ≡ inner_bits self }
+    {
+        (self.definite != 0).then_some(self.inner)
+    }
 }
 
 // The components of a template, and their tracks.
@@ -72,23 +86,29 @@ pub struct AxisState {
     pub room: AxisRoom,
 }
 
-// What only reading needs: whether the `axis` record was seen, and the repeat that has no `end` yet.
+// What only reading needs: whether the `axis` record was seen, and the repeat that has no `end` yet, with its tracks so far.
 #[derive(Clone, Copy, Debug, PartialEq, Eq, Default)]
 pub struct AxisReading {
     pub seen: bool,
-    pub unended: Option<OpenRepeat>,
+    pub unended: Option<ComponentPlace>,
 }
 
-// A repeat that has no `end` yet: its kind and number as in the word of its component, the place of its first track and its tracks so far.
+// A component of a template: how often it is written out, the place of its first track, and how many tracks it has.
 #[derive(Clone, Copy, Debug, PartialEq, Eq)]
-pub struct OpenRepeat {
-    pub kind: u32,
-    pub number: u32,
+pub struct ComponentPlace {
+    pub count: RepetitionCount,
     pub first: u32,
     pub length: u32,
 }
 
-// An axis after a record, and what reading needs of it.
+// The sizes of a track, each a word.
+#[derive(Clone, Copy, Debug, PartialEq, Eq)]
+pub struct TrackSizes {
+    pub min: u64,
+    pub max: u64,
+}
+
+// An axis after the records so far, and what reading needs of it.
 #[derive(Clone, Copy, Debug, PartialEq, Eq)]
 pub struct AxisAfter {
     pub state: AxisState,

@@ -1,46 +1,29 @@
 // What `name` does to an axis.
-ghost use Rattle.std.specs.Prelude.{◌≡◌, ◌+◌, ◌%◌, ◌≤◌, cond, ltb, length};
-ghost use Rattle.std.proofs.lemmas.List.Edits.{sets};
+ghost use Rattle.std.specs.Prelude.{◌≡◌, ◌%◌, cond, ltb};
 ghost use Rattle.coordinates.specs.Refusals.{number_of};
 ghost use Rattle.axis_tables.specs.Store.{InNames, place_in, answered_axis, put_name};
+ghost use Rattle.axis_tables.specs.Readings.{axis_reading};
 ghost use Rattle.axis_tables.specs.View.{no_room, named_fault};
 ghost use Rattle.axis_tables.specs.Runs.{put_bytes};
 
-use crate::layout::NAMES;
-use crate::write::set_at;
-use crate::{AxisAfter, AxisReading, AxisState, NamePlace};
+use crate::layout::{AXIS_BYTES, NAMES};
+use crate::write::{copy_what_fits, copy_within, set_at};
+use crate::{AxisAfter, AxisReading, NamePlace};
 use coordinates::Fault;
 
 // The longest name, in bytes.
 pub const LONGEST_NAME: usize = 32;
 
-// The bytes of a name from `at` on.
-#[tactic(auto, using(crate::proofs::Sets::put_sets))]
-fn copy_bytes(store: &mut [u8], at: usize, name: &[u8])
-    requires { at + length name.now ≤ length store.old }
-    ensures { store.new ≡ sets store.old at name.now }
-{
-    store[at..at + name.len()].copy_from_slice(name);
-}
+// The most `name` records of an axis.
+const MOST_NAMES: u32 = 4096;
 
-// The same where the store has room for them, and else nothing.
+// The bytes of a name from `at` on, where the store has room for them, and else nothing.
 #[tactic(auto, unfolding(crate::specs::Runs::put_bytes))]
 pub fn put_bytes(store: &mut [u8], at: usize, name: &[u8])
     ensures { store.new ≡ put_bytes store.old at name.now }
 {
     if at <= store.len() && name.len() <= store.len() - at {
-        copy_bytes(store, at, name);
-    }
-}
-
-// The same as far as the store reaches.
-#[tactic(auto, using(crate::proofs::Sets::sets_past, crate::proofs::Sets::sets_cut))]
-fn copy_what_fits(store: &mut [u8], at: usize, name: &[u8])
-    ensures { store.new ≡ sets store.old at name.now }
-{
-    if at < store.len() {
-        let fitting = name.len().min(store.len() - at);
-        copy_bytes(store, at, &name[..fitting]);
+        copy_within(store, at, name);
     }
 }
 
@@ -51,7 +34,8 @@ pub fn no_room(most: u32, room: u32, names: u32, used: u32, length: usize) -> bo
     LONGEST_NAME < length || most <= names || (room as usize) < used as usize + length
 }
 
-// What is told beside a name of that length, faults being told by values of any type: `name` of more than 32 bytes, else the other.
+// The fault to tell where a name of that length stands beside another fault: `name` for more than 32 bytes, else the other. Callers choose
+// the type that tells a fault.
 pub fn beside_name<F: Copy>(length: usize, name: F, other: F) -> F
     ensures { result ≡ cond (ltb 32 length) name other }
 {
@@ -67,7 +51,7 @@ pub fn named_fault(length: usize, fault: Fault) -> Fault
 
 // Where a name stands, as a byte: 0 outside a repeat, one more than the tracks before it in the open repeat.
 fn place_in(reading: AxisReading) -> u32
-    ensures { result ≡ place_in reading % 256 }
+    ensures { result ≡ place_in (axis_reading reading) % 256 }
 {
     match reading.unended {
         None => 0,
@@ -78,33 +62,29 @@ fn place_in(reading: AxisReading) -> u32
 // A name: its word is the next, and its bytes follow those of the names before it. 2: more than 32 bytes; 8: it has no room.
 #[tactic(auto, unfolding(crate::specs::Store::put_name), using(crate::proofs::Sets::name_word_byte))]
 pub fn put_name(
-    state: AxisState,
-    reading: AxisReading,
+    axis: AxisAfter,
     words: &mut [u64],
     bytes: &mut [u8],
     name: &[u8],
 ) -> Result<AxisAfter, Fault>
-    ensures { record { answer = answered_axis state reading result; words = words.new; bytes = bytes.new } ≡ put_name state reading words.old bytes.old name.now }
+    ensures { record { answer = answered_axis axis.state (axis_reading axis.reading) result; words = words.new; bytes = bytes.new } ≡ put_name axis.state (axis_reading axis.reading) words.old bytes.old name.now }
 {
     let length = name.len();
-    let names = state.room.names;
-    let used = state.room.used;
-    if no_room(4096, 32768, names, used, length) {
+    let names = axis.state.room.names;
+    let used = axis.state.room.used;
+    if no_room(MOST_NAMES, AXIS_BYTES as u32, names, used, length) {
         return Err(named_fault(length, Fault::Crowded));
     }
     let word = u64::from(NamePlace {
-        component: state.room.template.components,
-        place: place_in(reading),
+        component: axis.state.room.template.components,
+        place: place_in(axis.reading),
         offset: used,
         length: length as u32,
     });
     set_at(words, NAMES + names as usize, word);
     copy_what_fits(bytes, used as usize, name);
-    let mut after = state;
-    after.room.names = names + 1;
-    after.room.used = used + length as u32;
-    Ok(AxisAfter {
-        state: after,
-        reading,
-    })
+    let mut after = axis;
+    after.state.room.names = names + 1;
+    after.state.room.used = used + length as u32;
+    Ok(after)
 }

@@ -11,7 +11,7 @@ use borrow.Author.Tests.{leb-true, ltb-true, le-leb, lt-ltb}
 use Rattle.coordinates.specs.declared.axis.Axis.{Axis}
 use Rattle.coordinates.specs.declared.axis.Axis.TheVariants.{Column, Row}
 use Rattle.cell_sides.specs.declared.Side.TheVariants.{Free, Fixed}
-use Rattle.coordinates.specs.declared.line.LinePair.{LinePair}
+use Rattle.coordinates.specs.Types.{LinePair}
 use Rattle.free_cells.specs.declared.Rectangle.{Rectangle}
 use Rattle.free_cells.specs.declared.Size.{Size}
 use Rattle.free_cells.specs.declared.Place.{Place}
@@ -61,7 +61,7 @@ same_rectangle q r e f =
 
 module _ (last : ℕ) (columns rows : LinePair) where
   abbrev fixed : Item
-  fixed = record { column = Fixed columns.start columns.end; row = Fixed rows.start rows.end }
+  fixed = record { column = Some (Fixed columns); row = Some (Fixed rows) }
 
 -- ---- lines across an axis
 
@@ -136,7 +136,7 @@ module _ (words : List ℕ) (count last from tracks : ℕ) (across : LinePair) w
 
 module _ (words : List ℕ) (count last : ℕ) (size : Size) (from : Place) where
   abbrev Anywhere : Rectangle → Type 0
-  Anywhere = Here words count last (record { column = Free size.columns; row = Free size.rows }) (λ q. AtOrAfter from (start_of q))
+  Anywhere = Here words count last (record { column = Some (Free size.columns); row = Some (Free size.rows) }) (λ q. AtOrAfter from (start_of q))
 
   is-area : (q : Rectangle) → Anywhere q → q ≡ area_at size (start_of q)
   is-area q h =

@@ -7,8 +7,9 @@ use native.Mathlib.Omega.{arith}
 use lib.Dec.{eqb, leb, ltb}
 use borrow.Author.Tests.{ltb-true, leb-true, eqb-true, eqb-false, lt-ltb, le-leb, eq-eqb, ne_eqb, not-true, not-false}
 use Rattle.cell_sides.specs.declared.Side.{Side}
-use Rattle.cell_sides.specs.declared.Side.TheVariants.{Outside, Free, Fixed}
-use Rattle.coordinates.specs.declared.line.LinePair.{LinePair}
+use Rattle.cell_sides.specs.declared.Side.TheVariants.{Free, Fixed}
+use Rattle.coordinates.specs.Types.{LinePair}
+use Rattle.std.specs.Prelude.{Option, Some, None}
 use Rattle.free_cells.specs.declared.Rectangle.{Rectangle}
 use Rattle.free_cells.specs.declared.Place.{Place}
 use Rattle.free_cells.specs.Free.{tracks_from, Before, AtOrAfter, last_row_line}
@@ -77,15 +78,15 @@ unfolding all_below
 all_from zero t f = refl
 all_from (suc n) t f = rw (f n (omega arith)) (all_from n t (λ j h. f j (omega arith)))
 
-keeps_to : (s : Side) (l : LinePair) → keeps s l ≡ true → Keeps s l
-keeps_to Outside l e = absurd (false≢true e)
-keeps_to (Free k) l e = eqb-true l.end (l.start + k) e
-keeps_to (Fixed a b) l e = let t = both (eqb l.start a) (eqb l.end b) e in (eqb-true l.start a t.0, eqb-true l.end b t.1)
+keeps_to : (s : Option Side) (l : LinePair) → keeps s l ≡ true → Keeps s l
+keeps_to None l e = absurd (false≢true e)
+keeps_to (Some (Free k)) l e = eqb-true l.end (l.start + k) e
+keeps_to (Some (Fixed own)) l e = let t = both (eqb l.start own.start) (eqb l.end own.end) e in (eqb-true l.start own.start t.0, eqb-true l.end own.end t.1)
 
-keeps_from : (s : Side) (l : LinePair) → Keeps s l → keeps s l ≡ true
-keeps_from Outside l h = absurd h
-keeps_from (Free k) l h = eq-eqb l.end (l.start + k) h
-keeps_from (Fixed a b) l h = both_from (eqb l.start a) (eqb l.end b) (eq-eqb l.start a h.0) (eq-eqb l.end b h.1)
+keeps_from : (s : Option Side) (l : LinePair) → Keeps s l → keeps s l ≡ true
+keeps_from None l h = absurd h
+keeps_from (Some (Free k)) l h = eq-eqb l.end (l.start + k) h
+keeps_from (Some (Fixed own)) l h = both_from (eqb l.start own.start) (eqb l.end own.end) (eq-eqb l.start own.start h.0) (eq-eqb l.end own.end h.1)
 
 on_test : (last : ℕ) (l : LinePair) → On last l → is_on last l ≡ true
 on_test last l o = ⊎_elim (λ e. e) (λ e. absurd (on_off last l e o)) (decided (is_on last l))
@@ -269,15 +270,15 @@ first_found t n (suc k) = go (t n) refl (first_found t (suc n) k)
     go false q (miss a d) = miss a (λ j h w. ⊎_elim (λ (l : n < j). d j l (omega arith)) (λ l. let z : j ≡ n = omega arith in rw z q) (order n j))
 
 -- where a side may start, and the lines that it then has
-start_in : (last : ℕ) (s : Side) (l : LinePair) → Keeps s l → On last l → (first_start s ≤ l.start) × (l.start < first_start s + starts last s)
-start_in last Outside l k o = absurd k
-start_in last (Free n) l k o = (o.first, omega (arith, o.order, o.final))
-start_in last (Fixed a b) l k o = (omega (arith, k.0), omega (arith, k.0))
+start_in : (last : ℕ) (s : Option Side) (l : LinePair) → Keeps s l → On last l → (first_start s ≤ l.start) × (l.start < first_start s + starts last s)
+start_in last None l k o = absurd k
+start_in last (Some (Free n)) l k o = (o.first, omega (arith, o.order, o.final))
+start_in last (Some (Fixed own)) l k o = (omega (arith, k.0), omega (arith, k.0))
 
-lines_at : (last : ℕ) (s : Side) (l : LinePair) → Keeps s l → On last l → l ≡ tracks_from l.start (tracks_in s)
-lines_at last Outside l k o = absurd k
-lines_at last (Free n) l k o = same_lines l (tracks_from l.start n) refl k
-lines_at last (Fixed a b) l k o = same_lines l (tracks_from l.start (b - a)) refl (omega (arith, k.0, k.1, o.order))
+lines_at : (last : ℕ) (s : Option Side) (l : LinePair) → Keeps s l → On last l → l ≡ tracks_from l.start (tracks_in s)
+lines_at last None l k o = absurd k
+lines_at last (Some (Free n)) l k o = same_lines l (tracks_from l.start n) refl k
+lines_at last (Some (Fixed own)) l k o = same_lines l (tracks_from l.start (own.end - own.start)) refl (omega (arith, k.0, k.1, o.order))
 
 module _ (packing : Packing) (last count : ℕ) (items : ℕ → Item) (lands : ℕ → Rectangle) (i : ℕ) where
   abbrev tried : Rectangle → Bool

@@ -5,8 +5,8 @@ use mathlib.Core.Logic.{⊎_elim}
 use Prim.Native.Nat.{ℕ, zero, suc, ◌+◌, ◌≤◌, ◌<◌}
 use native.Mathlib.Omega.{arith}
 use Rattle.cell_sides.specs.declared.Side.{Side}
-use Rattle.cell_sides.specs.declared.Side.TheVariants.{Outside, Free, Fixed}
-use Rattle.coordinates.specs.declared.line.LinePair.{LinePair}
+use Rattle.cell_sides.specs.declared.Side.TheVariants.{Free, Fixed}
+use Rattle.coordinates.specs.Types.{LinePair}
 use Rattle.free_cells.specs.declared.Rectangle.{Rectangle}
 use Rattle.free_cells.specs.declared.Place.{Place}
 use Rattle.free_cells.specs.Words.{rectangle_in}
@@ -15,7 +15,7 @@ use Rattle.free_cells.proofs.Places.{order}
 use Rattle.free_cells.proofs.Unique.{same_start}
 use Rattle.cell_placing.specs.declared.Item.{Item}
 use Rattle.cell_placing.specs.declared.Packing.{Packing}
-use Rattle.std.specs.Prelude.{Result, Err}
+use Rattle.std.specs.Prelude.{Option, Some, None, Result, Err}
 use Rattle.cell_placing.specs.Items.{group_of}
 use Rattle.cell_placing.specs.Css.{turn, Earlier, Keeps, On, start_of, First, AllLand, FirstStuck, Answers, placed, refused}
 use Rattle.cell_placing.proofs.Lands.{same_rectangle, same_lines}
@@ -23,10 +23,10 @@ use Rattle.cell_placing.proofs.Placed.{first-same, stuck-same, one-turn}
 
 -- ---- a cell has one land
 
-same_side : (s : Side) (l m : LinePair) → Keeps s l → Keeps s m → l.start ≡ m.start → l ≡ m
-same_side Outside l m f g e = absurd f
-same_side (Free k) l m f g e = same_lines l m e (f ∙ ap (λ (n : ℕ). n + k) e ∙ sym g)
-same_side (Fixed a b) l m f g e = same_lines l m e (f.1 ∙ sym g.1)
+same_side : (s : Option Side) (l m : LinePair) → Keeps s l → Keeps s m → l.start ≡ m.start → l ≡ m
+same_side None l m f g e = absurd f
+same_side (Some (Free k)) l m f g e = same_lines l m e (f ∙ ap (λ (n : ℕ). n + k) e ∙ sym g)
+same_side (Some (Fixed own)) l m f g e = same_lines l m e (f.1 ∙ sym g.1)
 
 module _ (packing : Packing) (last count : ℕ) (items : ℕ → Item) where
   -- the first candidate is one

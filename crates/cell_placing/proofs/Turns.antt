@@ -9,7 +9,7 @@ use Rattle.std.specs.Prelude.{Option, Some, None}
 use Rattle.coordinates.specs.declared.axis.Axis.TheVariants.{Column, Row}
 use Rattle.cell_sides.specs.declared.Side.{Side}
 use Rattle.cell_sides.specs.declared.Side.TheVariants.{Free, Fixed}
-use Rattle.coordinates.specs.declared.line.LinePair.{LinePair}
+use Rattle.coordinates.specs.Types.{LinePair}
 use Rattle.free_cells.specs.declared.Rectangle.{Rectangle}
 use Rattle.free_cells.specs.declared.Size.{Size}
 use Rattle.free_cells.specs.declared.Place.{Place}
@@ -27,15 +27,15 @@ use Rattle.cell_placing.proofs.Cursors.{start_row_to, start_row_from}
 
 -- ---- the groups
 
-pub group_both : (a b c d : ℕ) → group_of (record { column = Fixed a b; row = Fixed c d }) ≡ 0
+pub group_both : (columns rows : LinePair) → group_of (record { column = Some (Fixed columns); row = Some (Fixed rows) }) ≡ 0
 unfolding group_of
-group_both a b c d = refl
+group_both columns rows = refl
 
-pub group_row : (k c d : ℕ) → group_of (record { column = Free k; row = Fixed c d }) ≡ 1
+pub group_row : (k : ℕ) (rows : LinePair) → group_of (record { column = Some (Free k); row = Some (Fixed rows) }) ≡ 1
 unfolding group_of
-group_row k c d = refl
+group_row k rows = refl
 
-pub group_rest : (s : Side) (k : ℕ) → group_of (record { column = s; row = Free k }) ≡ 2
+pub group_rest : (s : Option Side) (k : ℕ) → group_of (record { column = s; row = Some (Free k) }) ≡ 2
 unfolding group_of
 group_rest s k = refl
 
@@ -137,19 +137,19 @@ module _ (packing : Packing) (last count : ℕ) (items placed : List ℕ) (i : �
   landing These (Some r) f to back = record { one = to r f.0; first = λ q c. f.1 q (back q c) }
   landing These None f to back = λ q c. f q (back q c)
 
-  pub both-land : (columns rows : LinePair) (land : Option Rectangle) → item_in items i ≡ record { column = Fixed columns.start columns.end; row = Fixed rows.start rows.end }
-      → FirstLand (Fits last (record { column = Fixed columns.start columns.end; row = Fixed rows.start rows.end })) land → Landing packing last count items placed i land
+  pub both-land : (columns rows : LinePair) (land : Option Rectangle) → item_in items i ≡ record { column = Some (Fixed columns); row = Some (Fixed rows) }
+      → FirstLand (Fits last (record { column = Some (Fixed columns); row = Some (Fixed rows) })) land → Landing packing last count items placed i land
   both-land columns rows land e f =
-      let g : group_of (item_in items i) ≡ 0 = ap group_of e ∙ group_both columns.start columns.end rows.start rows.end in
-      landing (Fits last (record { column = Fixed columns.start columns.end; row = Fixed rows.start rows.end })) land f
+      let g : group_of (item_in items i) ≡ 0 = ap group_of e ∙ group_both columns rows in
+      landing (Fits last (record { column = Some (Fixed columns); row = Some (Fixed rows) })) land f
       (λ r h. record { fits = rw e h; free = λ out. absurd (out g); past = past-both packing (group_of (item_in items i)) count (item_in items) (rectangle_in placed) i r g })
       (λ r c. rw e at c.fits)
 
-  pub row-lands : (tracks from : ℕ) (rows : LinePair) (land : Option Rectangle) → item_in items i ≡ record { column = Free tracks; row = Fixed rows.start rows.end }
+  pub row-lands : (tracks from : ℕ) (rows : LinePair) (land : Option Rectangle) → item_in items i ≡ record { column = Some (Free tracks); row = Some (Fixed rows) }
       → CursorColumn packing items placed i rows.start from
       → FirstLand (Here placed (length placed) last (item_along Column tracks rows) (λ q. from ≤ start_along Column q)) land → Landing packing last count items placed i land
   row-lands tracks from rows land e c f =
-      let g : group_of (item_in items i) ≡ 1 = ap group_of e ∙ group_row tracks rows.start rows.end in
+      let g : group_of (item_in items i) ≡ 1 = ap group_of e ∙ group_row tracks rows in
       landing (Here placed count last (item_along Column tracks rows) (λ q. from ≤ start_along Column q)) land (rw ready.going.whole at f)
       (λ r h.
       record {
@@ -165,11 +165,11 @@ module _ (packing : Packing) (last count : ℕ) (items placed : List ℕ) (i : �
         past = past_row (group_of (item_in items i)) rows.start from r g g c k.rows.0 d.past;
       })
 
-  pub column-lands : (columns : LinePair) (tracks from : ℕ) (cursor : Place) (land : Option Rectangle) → item_in items i ≡ record { column = Fixed columns.start columns.end; row = Free tracks }
+  pub column-lands : (columns : LinePair) (tracks from : ℕ) (cursor : Place) (land : Option Rectangle) → item_in items i ≡ record { column = Some (Fixed columns); row = Some (Free tracks) }
       → CursorPlace packing items placed i cursor → from ≡ start_row cursor columns.start
       → FirstLand (Here placed (length placed) last (item_along Row tracks columns) (λ q. from ≤ start_along Row q)) land → Landing packing last count items placed i land
   column-lands columns tracks from cursor land e c s f =
-      let g : group_of (item_in items i) ≡ 2 = ap group_of e ∙ group_rest (Fixed columns.start columns.end) tracks in
+      let g : group_of (item_in items i) ≡ 2 = ap group_of e ∙ group_rest (Some (Fixed columns)) tracks in
       landing (Here placed count last (item_along Row tracks columns) (λ q. from ≤ start_along Row q)) land (rw ready.going.whole at f)
       (λ r h.
       record {
@@ -185,13 +185,13 @@ module _ (packing : Packing) (last count : ℕ) (items placed : List ℕ) (i : �
         past = start_row_from cursor (start_of r) from (s ∙ ap (start_row cursor) (sym k.columns.0)) (past-rest (group_of (item_in items i)) cursor r g g c d.past);
       })
 
-  pub area-lands : (size : Size) (cursor : Place) (land : Option Rectangle) → item_in items i ≡ record { column = Free size.columns; row = Free size.rows }
+  pub area-lands : (size : Size) (cursor : Place) (land : Option Rectangle) → item_in items i ≡ record { column = Some (Free size.columns); row = Some (Free size.rows) }
       → CursorPlace packing items placed i cursor
-      → FirstLand (Here placed (length placed) last (record { column = Free size.columns; row = Free size.rows }) (λ q. AtOrAfter cursor (start_of q))) land
+      → FirstLand (Here placed (length placed) last (record { column = Some (Free size.columns); row = Some (Free size.rows) }) (λ q. AtOrAfter cursor (start_of q))) land
       → Landing packing last count items placed i land
   area-lands size cursor land e c f =
-      let g : group_of (item_in items i) ≡ 2 = ap group_of e ∙ group_rest (Free size.columns) size.rows in
-      landing (Here placed count last (record { column = Free size.columns; row = Free size.rows }) (λ q. AtOrAfter cursor (start_of q))) land (rw ready.going.whole at f)
+      let g : group_of (item_in items i) ≡ 2 = ap group_of e ∙ group_rest (Some (Free size.columns)) size.rows in
+      landing (Here placed count last (record { column = Some (Free size.columns); row = Some (Free size.rows) }) (λ q. AtOrAfter cursor (start_of q))) land (rw ready.going.whole at f)
       (λ r h.
       record {
         fits = rw e h.fits;

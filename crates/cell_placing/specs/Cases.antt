@@ -1,14 +1,21 @@
 -- Worked cases of automatic placing (CSS Grid Level 1, 8.5; document 02, Req 10): packing, columns, cells, and where they land.
-use Rattle.std.specs.Prelude.{ℕ, suc, ◌+◌, Bool, true, false, ◌&&◌, List, [], ◌∷◌, eqb, length, get_or}
+use Rattle.std.specs.Prelude.{ℕ, suc, ◌+◌, Bool, true, false, ◌&&◌, List, [], ◌∷◌, eqb, length, get_or, Option, Some, None}
 use Rattle.cell_sides.specs.declared.Side.{Side}
-use Rattle.cell_sides.specs.declared.Side.TheVariants.{Outside, Free, Fixed}
+use Rattle.cell_sides.specs.declared.Side.TheVariants.{Free, Fixed}
 use Rattle.free_cells.specs.declared.Rectangle.{Rectangle}
 use Rattle.cell_placing.specs.declared.Item.{Item}
 use Rattle.cell_placing.specs.declared.Packing.{Packing}
 use Rattle.cell_placing.specs.declared.Packing.TheVariants.{Sparse, Dense}
 use Rattle.cell_placing.specs.Plain.{Run, placing, stuck_at, plainly}
 
-abbrev pub cell : Side → Side → Item
+-- a side of so many tracks, and one between two lines
+abbrev pub free : ℕ → Option Side
+free k = Some (Free k)
+
+abbrev pub between : ℕ → ℕ → Option Side
+between a b = Some (Fixed (record { start = a; end = b }))
+
+abbrev pub cell : Option Side → Option Side → Item
 cell column row = record { column = column; row = row }
 
 -- a rectangle by its column lines and its row lines
@@ -30,19 +37,19 @@ abbrev pub is : Packing → ℕ → List Item → Expected → Case
 is p n cells e = record { packing = p; columns = n; cells = cells; expected = e }
 
 abbrev one : Item
-one = cell (Free 1) (Free 1)
+one = cell (free 1) (free 1)
 
 abbrev wide : ℕ → Item
-wide k = cell (Free k) (Free 1)
+wide k = cell (free k) (free 1)
 
 abbrev in_row : ℕ → ℕ → Item
-in_row row k = cell (Free k) (Fixed row (row + 1))
+in_row row k = cell (free k) (between row (row + 1))
 
 abbrev in_column : ℕ → Item
-in_column column = cell (Fixed column (column + 1)) (Free 1)
+in_column column = cell (between column (column + 1)) (free 1)
 
 abbrev fixed : ℕ → ℕ → ℕ → ℕ → Item
-fixed a b c d = cell (Fixed a b) (Fixed c d)
+fixed a b c d = cell (between a b) (between c d)
 
 unfoldable pub cases : List Case
 cases =
@@ -59,7 +66,7 @@ cases =
     -- cells with lines in both axes may overlap; automatic ones go around them, also where they come later in the sheet
     is Sparse 2 (fixed 1 2 1 2 ∷ fixed 1 3 1 2 ∷ []) (at (land 1 2 1 2 ∷ land 1 3 1 2 ∷ [])) ∷
     is Sparse 2 (one ∷ fixed 1 2 1 2 ∷ []) (at (land 2 3 1 2 ∷ land 1 2 1 2 ∷ [])) ∷
-    is Sparse 1 (cell (Free 1) (Free 2) ∷ fixed 1 2 2 3 ∷ []) (at (land 1 2 3 5 ∷ land 1 2 2 3 ∷ [])) ∷
+    is Sparse 1 (cell (free 1) (free 2) ∷ fixed 1 2 2 3 ∷ []) (at (land 1 2 3 5 ∷ land 1 2 2 3 ∷ [])) ∷
     -- cells fixed in their row come before the rest, and each first row has its own cursor
     is Sparse 2 (one ∷ in_row 1 1 ∷ []) (at (land 2 3 1 2 ∷ land 1 2 1 2 ∷ [])) ∷
     is Sparse 2 (in_row 1 1 ∷ in_row 2 1 ∷ in_row 1 1 ∷ in_row 2 1 ∷ []) (at (land 1 2 1 2 ∷ land 1 2 2 3 ∷ land 2 3 1 2 ∷ land 2 3 2 3 ∷ [])) ∷
@@ -68,18 +75,18 @@ cases =
     is Sparse 4 (fixed 2 3 1 2 ∷ in_row 1 2 ∷ in_row 1 1 ∷ []) (none 2) ∷
     is Dense 4 (fixed 2 3 1 2 ∷ in_row 1 2 ∷ in_row 1 1 ∷ []) (at (land 2 3 1 2 ∷ land 3 5 1 2 ∷ land 1 2 1 2 ∷ [])) ∷
     -- a cell that began in the row above does not move the cursor of a row
-    is Sparse 3 (fixed 1 2 1 2 ∷ cell (Free 1) (Fixed 1 3) ∷ in_row 2 1 ∷ []) (at (land 1 2 1 2 ∷ land 2 3 1 3 ∷ land 1 2 2 3 ∷ [])) ∷
+    is Sparse 3 (fixed 1 2 1 2 ∷ cell (free 1) (between 1 3) ∷ in_row 2 1 ∷ []) (at (land 1 2 1 2 ∷ land 2 3 1 3 ∷ land 1 2 2 3 ∷ [])) ∷
     -- a fixed column before the cursor's goes on in the next row, at the cursor's column it stays
     is Sparse 3 (in_column 2 ∷ one ∷ in_column 1 ∷ []) (at (land 2 3 1 2 ∷ land 3 4 1 2 ∷ land 1 2 2 3 ∷ [])) ∷
     is Sparse 3 (in_column 2 ∷ in_column 3 ∷ in_column 2 ∷ []) (at (land 2 3 1 2 ∷ land 3 4 1 2 ∷ land 2 3 2 3 ∷ [])) ∷
     is Dense 3 (in_column 2 ∷ one ∷ in_column 1 ∷ one ∷ []) (at (land 2 3 1 2 ∷ land 1 2 1 2 ∷ land 1 2 2 3 ∷ land 3 4 1 2 ∷ [])) ∷
     -- rows span too
-    is Sparse 2 (cell (Free 1) (Free 2) ∷ one ∷ one ∷ []) (at (land 1 2 1 3 ∷ land 2 3 1 2 ∷ land 2 3 2 3 ∷ [])) ∷
+    is Sparse 2 (cell (free 1) (free 2) ∷ one ∷ one ∷ []) (at (land 1 2 1 3 ∷ land 2 3 1 2 ∷ land 2 3 2 3 ∷ [])) ∷
     -- what fits nowhere: wider than the columns, past the last row, outside; of two the first in placing order
     is Dense 2 (one ∷ wide 3 ∷ []) (none 1) ∷
     is Sparse 1 (fixed 1 2 10000 10001 ∷ []) (at (land 1 2 10000 10001 ∷ [])) ∷
     is Sparse 1 (fixed 1 2 10001 10002 ∷ []) (none 0) ∷
-    is Sparse 1 (cell Outside (Free 1) ∷ fixed 1 3 1 2 ∷ []) (none 1) ∷
+    is Sparse 1 (cell None (free 1) ∷ fixed 1 3 1 2 ∷ []) (none 1) ∷
     is Sparse 1 (in_column 1 ∷ fixed 1 2 1 10001 ∷ []) (none 0) ∷
     []
 
@@ -101,7 +108,7 @@ agrees (stuck_at i) (at list) = false
 agrees (stuck_at i) (none j) = eqb i j
 
 abbrev pub case_holds : Case → Bool
-case_holds c = agrees (plainly c.packing (c.columns + 1) (length c.cells) (λ i. get_or c.cells i (cell Outside Outside))) c.expected
+case_holds c = agrees (plainly c.packing (c.columns + 1) (length c.cells) (λ i. get_or c.cells i (cell None None))) c.expected
 
 unfoldable pub all_hold : List Case → Bool
 all_hold [] = true

@@ -1,11 +1,11 @@
 -- CSS Grid Level 1, 8.5, grid item placement, row flow, as document 02, Req 10, asks it of cells: "columns fixed at the explicit count and rows
 -- growing up to 10,000". Cells are numbered in sheet order from 0; `items` has their sides (8.3.1), `lands` where they land, `last` is the
 -- last column line. Nothing here says how a place is found.
-use Rattle.std.specs.Prelude.{ℕ, zero, suc, ◌+◌, ◌*◌, ◌≤◌, ◌<◌, ◌≡◌, List, length, Result, Ok, Err}
+use Rattle.std.specs.Prelude.{ℕ, zero, suc, ◌+◌, ◌*◌, ◌≤◌, ◌<◌, ◌≡◌, List, length, Option, Some, None, Result, Ok, Err}
 use Rattle.std.proofs.lemmas.List.Edits.{sets}
 use Rattle.cell_sides.specs.declared.Side.{Side}
-use Rattle.cell_sides.specs.declared.Side.TheVariants.{Outside, Free, Fixed}
-use Rattle.coordinates.specs.declared.line.LinePair.{LinePair}
+use Rattle.cell_sides.specs.declared.Side.TheVariants.{Free, Fixed}
+use Rattle.coordinates.specs.Types.{LinePair}
 use Rattle.free_cells.specs.declared.Rectangle.{Rectangle}
 use Rattle.free_cells.specs.declared.Place.{Place}
 use Rattle.free_cells.specs.Words.{rectangle_in}
@@ -29,10 +29,10 @@ pub record Earlier (count : ℕ) (items : ℕ → Item) (j i : ℕ) : Type 0 whe
 -- ---- the rectangles that a cell may take
 
 -- a side's lines are kept: its two lines, or so many tracks
-abbrev pub Keeps : Side → LinePair → Type 0
-Keeps Outside l = ⊥
-Keeps (Free tracks) l = l.end ≡ l.start + tracks
-Keeps (Fixed start end) l = (l.start ≡ start) × (l.end ≡ end)
+abbrev pub Keeps : Option Side → LinePair → Type 0
+Keeps None l = ⊥
+Keeps (Some (Free tracks)) l = l.end ≡ l.start + tracks
+Keeps (Some (Fixed own)) l = (l.start ≡ own.start) × (l.end ≡ own.end)
 
 -- two lines, a track or more apart, among those of the axis
 pub record On (last : ℕ) (l : LinePair) : Type 0 where

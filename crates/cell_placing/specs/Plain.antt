@@ -1,9 +1,9 @@
 -- Where cells land by the plainest search: cell by cell in placing order, row by row, column by column, each place tried. It is here so that
 -- worked cases can be computed, and so that there is an answer for all cells (proofs/Plain.antt).
-use Rattle.std.specs.Prelude.{ℕ, zero, suc, ◌+◌, ◌-◌, ◌%◌, Bool, true, false, cond, not, ◌&&◌, ◌||◌, eqb, leb, ltb}
+use Rattle.std.specs.Prelude.{ℕ, zero, suc, ◌+◌, ◌-◌, ◌%◌, Bool, true, false, cond, not, ◌&&◌, ◌||◌, eqb, leb, ltb, Option, Some, None}
 use Rattle.cell_sides.specs.declared.Side.{Side}
-use Rattle.cell_sides.specs.declared.Side.TheVariants.{Outside, Free, Fixed}
-use Rattle.coordinates.specs.declared.line.LinePair.{LinePair}
+use Rattle.cell_sides.specs.declared.Side.TheVariants.{Free, Fixed}
+use Rattle.coordinates.specs.Types.{LinePair}
 use Rattle.free_cells.specs.declared.Rectangle.{Rectangle}
 use Rattle.free_cells.specs.declared.Place.{Place}
 use Rattle.free_cells.specs.Free.{tracks_from, last_row_line}
@@ -26,10 +26,10 @@ all_below (suc n) t = let rest = all_below n t in cond (t n) rest false
 abbrev pub implies : Bool → Bool → Bool
 implies a b = cond a b true
 
-abbrev pub keeps : Side → LinePair → Bool
-keeps Outside l = false
-keeps (Free k) l = eqb l.end (l.start + k)
-keeps (Fixed a b) l = eqb l.start a && eqb l.end b
+abbrev pub keeps : Option Side → LinePair → Bool
+keeps None l = false
+keeps (Some (Free k)) l = eqb l.end (l.start + k)
+keeps (Some (Fixed own)) l = eqb l.start own.start && eqb l.end own.end
 
 unfoldable pub fits : ℕ → Item → Rectangle → Bool
 fits last item r = (keeps item.column r.columns && keeps item.row r.rows) && (is_on last r.columns && is_on last_row_line r.rows)
@@ -72,20 +72,20 @@ first_from t n zero = 0
 first_from t n (suc k) = let rest = first_from t (suc n) k in cond (t n) n rest
 
 -- the tracks of a side, and the lines at which it may start: the first, and how many
-abbrev pub tracks_in : Side → ℕ
-tracks_in Outside = 0
-tracks_in (Free k) = k
-tracks_in (Fixed a b) = b - a
+abbrev pub tracks_in : Option Side → ℕ
+tracks_in None = 0
+tracks_in (Some (Free k)) = k
+tracks_in (Some (Fixed l)) = l.end - l.start
 
-abbrev pub first_start : Side → ℕ
-first_start Outside = 1
-first_start (Free k) = 1
-first_start (Fixed a b) = a
+abbrev pub first_start : Option Side → ℕ
+first_start None = 1
+first_start (Some (Free k)) = 1
+first_start (Some (Fixed l)) = l.start
 
-abbrev pub starts : ℕ → Side → ℕ
-starts last Outside = 0
-starts last (Free k) = last
-starts last (Fixed a b) = 1
+abbrev pub starts : ℕ → Option Side → ℕ
+starts last None = 0
+starts last (Some (Free k)) = last
+starts last (Some (Fixed l)) = 1
 
 abbrev pub rectangle_at : Item → ℕ → ℕ → Rectangle
 rectangle_at item row column = record { columns = tracks_from column (tracks_in item.column); rows = tracks_from row (tracks_in item.row) }

@@ -1,9 +1,9 @@
 -- What the code computes, and what it knows between its steps.
-use Rattle.std.specs.Prelude.{ℕ, ◌+◌, ◌≤◌, ◌<◌, ◌≡◌, Bool, true, false, cond, ◌&&◌, List, ◌⊎◌, eqb, leb, ltb, length, get_or, Option, Some, None, Result, Ok, Err}
+use Rattle.std.specs.Prelude.{ℕ, ◌+◌, ◌≤◌, ◌<◌, ◌≡◌, Bool, cond, ◌&&◌, List, ◌⊎◌, eqb, leb, ltb, length, get_or, Option, Some, None, Result, Ok, Err}
 use Rattle.coordinates.specs.declared.axis.Axis.{Axis}
 use Rattle.coordinates.specs.declared.axis.Axis.TheVariants.{Column, Row}
 use Rattle.cell_sides.specs.declared.Side.TheVariants.{Free, Fixed}
-use Rattle.coordinates.specs.declared.line.LinePair.{LinePair}
+use Rattle.coordinates.specs.Types.{LinePair}
 use Rattle.free_cells.specs.declared.Rectangle.{Rectangle}
 use Rattle.free_cells.specs.declared.Place.{Place}
 use Rattle.free_cells.specs.Words.{rectangle_of, rectangle_in}
@@ -31,8 +31,8 @@ last_across Row last = last
 
 -- a cell with lines across an axis and so many tracks along it
 abbrev pub item_along : Axis → ℕ → LinePair → Item
-item_along Column tracks across = record { column = Free tracks; row = Fixed across.start across.end }
-item_along Row tracks across = record { column = Fixed across.start across.end; row = Free tracks }
+item_along Column tracks across = record { column = Some (Free tracks); row = Some (Fixed across) }
+item_along Row tracks across = record { column = Some (Fixed across); row = Some (Free tracks) }
 
 abbrev pub start_along : Axis → Rectangle → ℕ
 start_along Column r = r.columns.start
@@ -105,12 +105,7 @@ Landing packing last count items placed i None = Stuck packing last count (item_
 
 -- ---- the passes
 
--- after the turn of cell i in a pass: on, or it is the first that is stuck
-pub data Turned (packing : Packing) (last count : ℕ) (items placed : List ℕ) (i time : ℕ) (on : Bool) : Type 0 where
-  goes : on ≡ true → Going packing last count items placed (time + 1) → Turned packing last count items placed i time on
-  stops : on ≡ false → FirstStuck packing last count (item_in items) i → Turned packing last count items placed i time on
-
--- after a pass: it came to the end, or to the first that is stuck
+-- after a turn or a pass: it came to a time, or to the first that is stuck
 abbrev pub Passed : Packing → ℕ → ℕ → List ℕ → List ℕ → ℕ → Result (Unit {0}) ℕ → Type 0
 Passed packing last count items placed time (Ok _) = Going packing last count items placed time
 Passed packing last count items placed time (Err i) = FirstStuck packing last count (item_in items) i

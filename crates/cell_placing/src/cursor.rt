@@ -54,7 +54,7 @@ pub(crate) fn rest_cursor(turn: Turn) -> Place
             return start_of(turn.placed[j]);
         }
     }
-    Place { row: 0, column: 0 }
+    Place::default()
 }
 
 // The first row for a cell with a fixed column: where that is before the cursor's column, the row past the cursor's.

@@ -1,5 +1,5 @@
 // Where a cell lands in its turn, beside those placed before.
-ghost use Rattle.std.specs.Prelude.{◌≡◌, ◌≤◌, ◌<◌, length};
+ghost use Rattle.std.specs.Prelude.{◌≡◌, ◌≤◌, ◌<◌, length, Some};
 ghost use Rattle.cell_sides.specs.declared.Side.TheVariants.{Free, Fixed};
 ghost use Rattle.free_cells.specs.Free.{AtOrAfter};
 ghost use Rattle.cell_placing.specs.Css.{Fits, start_of};
@@ -10,7 +10,7 @@ use crate::cursor::{rest_cursor, row_cursor, start_row};
 use crate::{Item, Packing, Turn};
 use cell_sides::Side;
 use coordinates::{Axis, LinePair};
-use free_cells::search::{LAST_ROW_LINE, along, free_line, free_place};
+use free_cells::search::{LAST_ROW_LINE, Placed, along};
 use free_cells::{Place, Rectangle, Size};
 
 // Whether two lines, a track or more apart, are on an axis.
@@ -24,25 +24,19 @@ fn is_on(last: u32, lines: LinePair) -> bool
 fn last_on(axis: Axis, last: u16) -> u32
     ensures { result ≡ last_on axis last }
 {
-    match axis {
-        Axis::Column => last as u32,
-        Axis::Row => LAST_ROW_LINE,
-    }
+    axis.of(u32::from(last), LAST_ROW_LINE)
 }
 
 // The last line of the other axis.
 fn last_across(axis: Axis, last: u16) -> u32
     ensures { result ≡ last_across axis last }
 {
-    match axis {
-        Axis::Column => LAST_ROW_LINE,
-        Axis::Row => last as u32,
-    }
+    axis.of(LAST_ROW_LINE, u32::from(last))
 }
 
 // The rectangle of a cell with lines in both axes.
 fn fixed_land(last: u16, columns: LinePair, rows: LinePair) -> Option<Rectangle>
-    ensures { FirstLand (Fits last (record { column = Fixed columns.start columns.end; row = Fixed rows.start rows.end })) result }
+    ensures { FirstLand (Fits last (record { column = Some (Fixed columns); row = Some (Fixed rows) })) result }
 {
     if !is_on(last as u32, columns) || !is_on(LAST_ROW_LINE, rows) {
         return None;
@@ -64,7 +58,11 @@ fn along_land(
     if tracks == 0 || !is_on(last_across(axis, last), across) {
         return None;
     }
-    let line = free_line(placed, axis, last_on(axis, last), from, tracks, across)?;
+    let placed = Placed {
+        words: placed,
+        last: last_on(axis, last),
+    };
+    let line = placed.free_line(axis, from, tracks, across)?;
     let lines = LinePair {
         start: line,
         end: line + tracks,
@@ -74,12 +72,16 @@ fn along_land(
 
 // The first free rectangle of a size, in row order, at or after a place.
 fn free_area(placed: &[u64], last: u16, size: Size, from: Place) -> Option<Rectangle>
-    ensures { FirstLand (Here placed.now (length placed.now) last (record { column = Free size.columns; row = Free size.rows }) (λ q. AtOrAfter from (start_of q))) result }
+    ensures { FirstLand (Here placed.now (length placed.now) last (record { column = Some (Free size.columns); row = Some (Free size.rows) }) (λ q. AtOrAfter from (start_of q))) result }
 {
     if size.columns == 0 || size.rows == 0 {
         return None;
     }
-    let place = free_place(placed, last as u32, size, from)?;
+    let placed = Placed {
+        words: placed,
+        last: u32::from(last),
+    };
+    let place = placed.free_place(size, from)?;
     let columns = LinePair {
         start: place.column,
         end: place.column + size.columns,
@@ -109,13 +111,13 @@ fn cursor_place(turn: Turn) -> Place
 {
     match turn.cells.packing {
         Packing::Sparse => rest_cursor(turn),
-        Packing::Dense => Place { row: 0, column: 0 },
+        Packing::Dense => Place::default(),
     }
 }
 
 // A cell that is fixed in its row.
 fn row_land(turn: Turn, tracks: u32, rows: LinePair) -> Option<Rectangle>
-    requires { IsReady turn × (item_at turn ≡ record { column = Free tracks; row = Fixed rows.start rows.end }) }
+    requires { IsReady turn × (item_at turn ≡ record { column = Some (Free tracks); row = Some (Fixed rows) }) }
     ensures { Lands turn.entry result }
 {
     let from = cursor_column(turn, rows.start);
@@ -131,7 +133,7 @@ fn row_land(turn: Turn, tracks: u32, rows: LinePair) -> Option<Rectangle>
 
 // A cell that is fixed in its column.
 fn column_land(turn: Turn, columns: LinePair, tracks: u32) -> Option<Rectangle>
-    requires { IsReady turn × (item_at turn ≡ record { column = Fixed columns.start columns.end; row = Free tracks }) }
+    requires { IsReady turn × (item_at turn ≡ record { column = Some (Fixed columns); row = Some (Free tracks) }) }
     ensures { Lands turn.entry result }
 {
     let cursor = cursor_place(turn);
@@ -148,47 +150,11 @@ fn column_land(turn: Turn, columns: LinePair, tracks: u32) -> Option<Rectangle>
 
 // A cell that is free in both axes.
 fn free_land(turn: Turn, size: Size) -> Option<Rectangle>
-    requires { IsReady turn × (item_at turn ≡ record { column = Free size.columns; row = Free size.rows }) }
+    requires { IsReady turn × (item_at turn ≡ record { column = Some (Free size.columns); row = Some (Free size.rows) }) }
     ensures { Lands turn.entry result }
 {
     let cursor = cursor_place(turn);
     free_area(turn.placed, turn.cells.last, size, cursor)
-}
-
-// A cell whose row is fixed.
-fn fixed_row(turn: Turn, column: Side, rows: LinePair) -> Option<Rectangle>
-    requires { IsReady turn × (item_at turn ≡ record { column = column; row = Fixed rows.start rows.end }) }
-    ensures { Lands turn.entry result }
-{
-    match column {
-        Side::Outside => None,
-        Side::Free(tracks) => row_land(turn, tracks, rows),
-        Side::Fixed(start, end) => {
-            let columns = LinePair { start, end };
-            fixed_land(turn.cells.last, columns, rows)
-        }
-    }
-}
-
-// A cell whose row is free.
-fn free_row(turn: Turn, column: Side, tracks: u32) -> Option<Rectangle>
-    requires { IsReady turn × (item_at turn ≡ record { column = column; row = Free tracks }) }
-    ensures { Lands turn.entry result }
-{
-    match column {
-        Side::Outside => None,
-        Side::Free(columns) => {
-            let size = Size {
-                columns,
-                rows: tracks,
-            };
-            free_land(turn, size)
-        }
-        Side::Fixed(start, end) => {
-            let columns = LinePair { start, end };
-            column_land(turn, columns, tracks)
-        }
-    }
 }
 
 // Where a cell lands in its turn; none where it is stuck.
@@ -197,13 +163,10 @@ pub(crate) fn land_of(turn: Turn) -> Option<Rectangle>
     ensures { Lands turn.entry result }
 {
     let item = Item::from(turn.cells.items[turn.index as usize]);
-    let column = item.column;
-    match item.row {
-        Side::Outside => None,
-        Side::Free(tracks) => free_row(turn, column, tracks),
-        Side::Fixed(start, end) => {
-            let rows = LinePair { start, end };
-            fixed_row(turn, column, rows)
-        }
+    match (item.column?, item.row?) {
+        (Side::Fixed(columns), Side::Fixed(rows)) => fixed_land(turn.cells.last, columns, rows),
+        (Side::Fixed(columns), Side::Free(tracks)) => column_land(turn, columns, tracks),
+        (Side::Free(tracks), Side::Fixed(rows)) => row_land(turn, tracks, rows),
+        (Side::Free(columns), Side::Free(rows)) => free_land(turn, Size { columns, rows }),
     }
 }

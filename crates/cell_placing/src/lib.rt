@@ -8,9 +8,10 @@ pub mod pass;
 pub mod words;
 
 use cell_sides::Side;
+use coordinates::line::MOST_PLACEMENTS;
 
 // The most cells of a call.
-pub const MOST_PLACED: usize = 256;
+pub const MOST_PLACED: usize = MOST_PLACEMENTS;
 
 // How cells are packed: in sparse packing no automatic cell lands before the one placed last, in dense packing each takes the first place.
 #[derive(Clone, Copy, Debug, PartialEq, Eq)]
@@ -27,11 +28,11 @@ pub enum Group {
     Rest,
 }
 
-// A cell by its sides.
+// A cell by its sides; none where an edge leaves the lines.
 #[derive(Clone, Copy, Debug, PartialEq, Eq)]
 pub struct Item {
-    pub column: Side,
-    pub row: Side,
+    pub column: Option<Side>,
+    pub row: Option<Side>,
 }
 
 // The cells of a call: the last column line, the words of their sides, and how they are packed.

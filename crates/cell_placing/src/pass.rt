@@ -3,19 +3,19 @@ ghost use Rattle.std.specs.Prelude.{◌≡◌, ◌+◌, ◌*◌, ◌≤◌, ◌<
 ghost use Rattle.std.proofs.lemmas.List.Edits.{sets};
 ghost use Rattle.cell_placing.specs.Items.{item_in, group_number};
 ghost use Rattle.cell_placing.specs.Css.{Answers};
-ghost use Rattle.cell_placing.specs.Steps.{Going, Turned, Passed};
+ghost use Rattle.cell_placing.specs.Steps.{Going, Passed};
 
 use crate::land::land_of;
 use crate::words::group_of;
 use crate::{Cells, Group, MOST_PLACED, Packing, Turn};
 
-// Places cell i in the pass of a group, where it is one of that; whether it isn't stuck.
-fn place_one(cells: Cells, group: Group, i: u32, placed: &mut [u64]) -> bool
+// Places cell i in the pass of a group, where it is one of that; refused by it where it is stuck.
+fn place_one(cells: Cells, group: Group, i: u32, placed: &mut [u64]) -> Result<(), u32>
     requires { (i < length cells.items.now) × Going cells.packing cells.last (length cells.items.now) cells.items.now placed.old (group_number group * 256 + i) }
-    ensures { Turned cells.entry.packing cells.entry.last (length cells.entry.items.now) cells.entry.items.now placed.new i (group_number group * 256 + i) result }
+    ensures { Passed cells.entry.packing cells.entry.last (length cells.entry.items.now) cells.entry.items.now placed.new (group_number group * 256 + i + 1) result }
 {
     if group_of(cells.items[i as usize]) != group {
-        return true;
+        return Ok(());
     }
     let turn = Turn {
         cells,
@@ -23,10 +23,10 @@ fn place_one(cells: Cells, group: Group, i: u32, placed: &mut [u64]) -> bool
         placed,
     };
     let Some(land) = land_of(turn) else {
-        return false;
+        return Err(i);
     };
     placed[i as usize] = u64::from(land);
-    true
+    Ok(())
 }
 
 // The pass of a group, refused by the first cell that is stuck.
@@ -35,9 +35,7 @@ fn place_group(cells: Cells, group: Group, placed: &mut [u64]) -> Result<(), u32
     ensures { Passed cells.entry.packing cells.entry.last (length cells.entry.items.now) cells.entry.items.now placed.new (group_number group * 256 + 256) result }
 {
     for i in 0..cells.items.len() as u32 {
-        if !place_one(cells, group, i, placed) {
-            return Err(i);
-        }
+        place_one(cells, group, i, placed)?;
     }
     Ok(())
 }

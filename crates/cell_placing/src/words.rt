@@ -11,14 +11,14 @@ use free_cells::word::lines_of;
 // The start that says "outside".
 const OUTSIDE: u32 = 65535;
 
-// A side from two lines. Any two give one.
-fn side_of(lines: LinePair) -> Side
+// A side from two lines. Any two give one, or that it is outside.
+fn side_of(lines: LinePair) -> Option<Side>
     ensures { result ≡ side_of lines }
 {
     match lines.start {
-        0 => Side::Free(lines.end),
-        OUTSIDE => Side::Outside,
-        start => Side::Fixed(start, lines.end),
+        0 => Some(Side::Free(lines.end)),
+        OUTSIDE => None,
+        _ => Some(Side::Fixed(lines)),
     }
 }
 
@@ -37,19 +37,19 @@ impl From<u64> for Item {
 }
 
 // The two lines that say a side.
-fn side_lines(side: Side) -> LinePair
+fn side_lines(side: Option<Side>) -> LinePair
     ensures { result ≡ side_lines side }
 {
     match side {
-        Side::Outside => LinePair {
+        None => LinePair {
             start: OUTSIDE,
             end: 0,
         },
-        Side::Free(tracks) => LinePair {
+        Some(Side::Free(tracks)) => LinePair {
             start: 0,
             end: tracks,
         },
-        Side::Fixed(start, end) => LinePair { start, end },
+        Some(Side::Fixed(lines)) => lines,
     }
 }
 
@@ -73,8 +73,8 @@ pub fn group_of(word: u64) -> Group
 {
     let item = Item::from(word);
     match (item.column, item.row) {
-        (_, Side::Free(_)) => Group::Rest,
-        (Side::Free(_), _) => Group::FixedInRow,
+        (_, Some(Side::Free(_))) => Group::Rest,
+        (Some(Side::Free(_)), _) => Group::FixedInRow,
         _ => Group::FixedInBoth,
     }
 }

@@ -16,9 +16,8 @@ use Rattle.name_rules.proofs.CssOrder.{ordered_exist, ordered_unique}
 use Rattle.cell_sides.specs.Css.{End, auto, line, span, end_of, Extent, between, automatic, CssExtent, two_lines_lem, span_ahead, span_back, start_alone, end_alone, two_spans, start_span, end_span, nothing, Among, SideOf, inside, leaves, anywhere, CssSide}
 use Rattle.cell_sides.specs.Steps.{line_up_to, line_back, tracks_of, end_in, side_ahead, side_back, ordered_side, side_by}
 use Rattle.cell_sides.specs.declared.Side.{Side}
-use Rattle.cell_sides.specs.declared.Side.TheVariants.{Outside, Fixed}
-use Rattle.cell_sides.specs.declared.CellEnd.{CellEnd}
-use Rattle.cell_sides.specs.declared.CellEnd.TheVariants.{Auto, Line, Span}
+use Rattle.cell_sides.specs.Types.{CellEnd, fixed}
+use Rattle.coordinates.specs.declared.line.GenericGridPlacement.TheVariants.{Auto, Line, Span}
 
 pos-same : (a b : ℕ) → pos a ≡ pos b → a ≡ b
 pos-same a b e = cc
@@ -83,17 +82,17 @@ module _ (last : ℕ) where
   ahead : (a k : ℕ) → 1 ≤ a → a ≤ last → 1 ≤ k → SideOf last (between (pos a) (pos a +ℤ pos k)) (side_ahead last a k)
   ahead a k h w g = rw (le-ltb last a w) (go (ltb (last - a) k) refl)
     where
-      go : (t : Bool) → ltb (last - a) k ≡ t → SideOf last (between (pos a) (pos (a + k))) (cond t Outside (Fixed a (a + k)))
+      go : (t : Bool) → ltb (last - a) k ≡ t → SideOf last (between (pos a) (pos (a + k))) (cond t None (Some (fixed a (a + k))))
       go true q = leaves (λ x y m. omega (arith, ltb-true (last - a) k q, pos-same y (a + k) m.high, m.final))
       go false q = inside {a = a} {b = a + k} (record { low = refl; high = refl; first = h; order = omega arith; final = omega (arith, ltb-false (last - a) k q) })
 
-  ahead-off : (l hi : ℤ) → Off last l → SideOf last (between l hi) Outside
+  ahead-off : (l hi : ℤ) → Off last l → SideOf last (between l hi) None
   ahead-off l hi off = leaves (λ x y m. off x m.low m.first (omega (arith, m.order, m.final)))
 
   back : (a k : ℕ) → a ≤ last → 1 ≤ k → SideOf last (between (pos a -ℤ pos k) (pos a)) (side_back k a)
   back a k w g = go (ltb k a) refl
     where
-      go : (t : Bool) → ltb k a ≡ t → SideOf last (between (pos a -ℤ pos k) (pos a)) (cond t (Fixed (a - k) a) Outside)
+      go : (t : Bool) → ltb k a ≡ t → SideOf last (between (pos a -ℤ pos k) (pos a)) (cond t (Some (fixed (a - k) a)) None)
       go true q =
           let h : k < a = ltb-true k a q in
           inside {a = a - k} {b = a} (record { low = minus_at a k (omega arith); high = refl; first = omega arith; order = omega arith; final = w })
@@ -108,7 +107,7 @@ module _ (last : ℕ) where
               at : k ≤ a → ⊥
               at u = omega (arith, ltb-false k a q, pos-same x (a - k) (m.low ∙ sym (minus_at a k u)), m.first)
 
-  back-off : (lo l : ℤ) → Off last l → SideOf last (between lo l) Outside
+  back-off : (lo l : ℤ) → Off last l → SideOf last (between lo l) None
   back-off lo l off = (leaves {lo = lo} {hi = l} (λ x y m. off y m.high (omega (arith, m.first, m.order)) m.final))
 
   -- both of two lines are among the lines where their extent is
@@ -122,7 +121,7 @@ module _ (last : ℕ) where
   end-among (swapped h) m off = off _ m.low m.first (omega (arith, m.order, m.final))
   end-among (one_track h) m off = off _ (m.low ∙ h) m.first (omega (arith, m.order, m.final))
 
-  abbrev pub Answer : End → End → Side → Type 0
+  abbrev pub Answer : End → End → Option Side → Type 0
   Answer s e side = (x : Extent) × CssExtent s e x × SideOf last x side
 
   two : (a b : ℕ) → 1 ≤ a → a ≤ last → 1 ≤ b → b ≤ last → Answer (line (pos a)) (line (pos b)) (ordered_side last a b)
@@ -130,7 +129,7 @@ module _ (last : ℕ) where
       go (ltb a b) (ltb b a) refl refl
     where
       go : (t u : Bool) → ltb a b ≡ t → ltb b a ≡ u
-          → Answer (line (pos a)) (line (pos b)) (cond t (Fixed a b) (cond u (Fixed b a) (side_ahead last a 1)))
+          → Answer (line (pos a)) (line (pos b)) (cond t (Some (fixed a b)) (cond u (Some (fixed b a)) (side_ahead last a 1)))
       go true u p q = let o : a < b = ltb-true a b p in
           (between (pos a) (pos b), two_lines_lem (in_order (record { lt = lt→ltb a b o })), inside (record { low = refl; high = refl; first = h; order = o; final = v }))
       go false true p q = let o : b < a = ltb-true b a q in
@@ -138,10 +137,10 @@ module _ (last : ℕ) where
       go false false p q = let o : a ≡ b = omega (arith, ltb-false a b p, ltb-false b a q) in
           (between (pos a) (pos a +ℤ pos 1), two_lines_lem (one_track (ap pos o)), ahead a 1 h w (omega arith))
 
-  start-off : (s e : ℤ) → Off last s → Answer (line s) (line e) Outside
+  start-off : (s e : ℤ) → Off last s → Answer (line s) (line e) None
   start-off s e off = let o = ordered_exist s e in (between o.0 o.1, two_lines_lem o.2, leaves (λ x y m. start-among o.2 m off))
 
-  end-off : (s e : ℤ) → Off last e → Answer (line s) (line e) Outside
+  end-off : (s e : ℤ) → Off last e → Answer (line s) (line e) None
   end-off s e off = let o = ordered_exist s e in (between o.0 o.1, two_lines_lem o.2, leaves (λ x y m. end-among o.2 m off))
 
   pub sides : {s e : End} {c d : Option CellEnd} → Read last s c → Read last e d → Answer s e (side_by last c d)
@@ -180,16 +179,16 @@ extent_unique start_span start_span = refl
 extent_unique end_span end_span = refl
 extent_unique nothing nothing = refl
 
-among_unique : {last : ℕ} {lo hi : ℤ} {a b x y : ℕ} → Among last lo hi a b → Among last lo hi x y → Fixed a b ≡ Fixed x y
+among_unique : {last : ℕ} {lo hi : ℤ} {a b x y : ℕ} → Among last lo hi a b → Among last lo hi x y → Some (fixed a b) ≡ Some (fixed x y)
 among_unique {a = a} {b} {x} {y} m k = let p = pos-same a x (m.low ∙ sym k.low) in let q = pos-same b y (m.high ∙ sym k.high) in cc (p, q)
 
-side_of_unique : {last : ℕ} {x : Extent} {s t : Side} → SideOf last x s → SideOf last x t → s ≡ t
+side_of_unique : {last : ℕ} {x : Extent} {s t : Option Side} → SideOf last x s → SideOf last x t → s ≡ t
 side_of_unique (inside m) (inside k) = among_unique m k
 side_of_unique (inside m) (leaves h) = absurd (h _ _ m)
 side_of_unique (leaves h) (inside m) = absurd (h _ _ m)
 side_of_unique (leaves h) (leaves k) = refl
 side_of_unique anywhere anywhere = refl
 
-pub side_unique : (n last : ℕ) (r : ResolvedEnds) (s t : Side) → CssSide n last r s → CssSide n last r t → s ≡ t
+pub side_unique : (n last : ℕ) (r : ResolvedEnds) (s t : Option Side) → CssSide n last r s → CssSide n last r t → s ≡ t
 side_unique n last r s t a b =
     side_of_unique a.is (rw (extent_unique b.lies a.lies) at b.is)

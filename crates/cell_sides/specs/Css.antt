@@ -1,11 +1,12 @@
 -- CSS Grid Level 1, 8.3.1, conflicts between the two ends of an item, for a cell of document 02, Req 10: where it lies in one axis, from its
 -- settled ends. An axis has n explicit tracks; its lines are numbered from 1 to the last that a cell may reach. Nothing here says how an
 -- end is settled (name_rules), nor where a cell without a line goes (cell_placing).
-use Rattle.std.specs.Prelude.{◌≡◌, ℕ, zero, suc, ◌+◌, ◌≤◌, ◌<◌, max, ℤ, pos, negsuc, ◌+ℤ◌, ◌-ℤ◌}
+use Rattle.std.specs.Prelude.{◌≡◌, ℕ, zero, suc, ◌+◌, ◌≤◌, ◌<◌, max, ℤ, pos, negsuc, ◌+ℤ◌, ◌-ℤ◌, Option, Some, None}
 use Rattle.name_rules.specs.Css.{Resolved, free, at_line, spanning, ResolvedEnds}
 use Rattle.name_rules.specs.CssOrder.{OrderedLines}
 use Rattle.cell_sides.specs.declared.Side.{Side}
-use Rattle.cell_sides.specs.declared.Side.TheVariants.{Outside, Free, Fixed}
+use Rattle.cell_sides.specs.declared.Side.TheVariants.{Free}
+use Rattle.cell_sides.specs.Types.{fixed}
 
 -- 8.3: an end of an item is auto, a line or a span
 pub data End : Type 0 where
@@ -52,14 +53,14 @@ pub record Among (last : ℕ) (lo hi : ℤ) (a b : ℕ) : Type 0 where
   pub order : a < b
   pub final : b ≤ last
 
--- the side of an extent: its two lines, where they are among the axis's lines; else it is outside
-pub data SideOf (last : ℕ) : Extent → Side → Type 0 where
-  inside : {lo hi : ℤ} {a b : ℕ} → Among last lo hi a b → SideOf last (between lo hi) (Fixed a b)
-  leaves : {lo hi : ℤ} → ((a b : ℕ) → Among last lo hi a b → ⊥) → SideOf last (between lo hi) Outside
-  anywhere : {k : ℕ} → SideOf last (automatic k) (Free k)
+-- the side of an extent: its two lines, where they are among the axis's lines; else there is none
+pub data SideOf (last : ℕ) : Extent → Option Side → Type 0 where
+  inside : {lo hi : ℤ} {a b : ℕ} → Among last lo hi a b → SideOf last (between lo hi) (Some (fixed a b))
+  leaves : {lo hi : ℤ} → ((a b : ℕ) → Among last lo hi a b → ⊥) → SideOf last (between lo hi) None
+  anywhere : {k : ℕ} → SideOf last (automatic k) (Some (Free k))
 
 -- the side of a cell from its settled ends
-pub record CssSide (n last : ℕ) (r : ResolvedEnds) (side : Side) : Type 0 where
+pub record CssSide (n last : ℕ) (r : ResolvedEnds) (side : Option Side) : Type 0 where
   pub extent : Extent
   pub lies : CssExtent (end_of n r.first) (end_of n r.last) extent
   pub is : SideOf last extent side

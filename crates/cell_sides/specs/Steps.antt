@@ -2,9 +2,9 @@
 use Rattle.std.specs.Prelude.{cond, ℕ, ◌+◌, ◌-◌, eqb, leb, ltb, pos, negsuc, Option, Some, None}
 use Rattle.name_rules.specs.Css.{Resolved, free, at_line, spanning}
 use Rattle.cell_sides.specs.declared.Side.{Side}
-use Rattle.cell_sides.specs.declared.Side.TheVariants.{Outside, Free, Fixed}
-use Rattle.cell_sides.specs.declared.CellEnd.{CellEnd}
-use Rattle.cell_sides.specs.declared.CellEnd.TheVariants.{Auto, Line, Span}
+use Rattle.cell_sides.specs.declared.Side.TheVariants.{Free}
+use Rattle.cell_sides.specs.Types.{CellEnd, fixed}
+use Rattle.coordinates.specs.declared.line.GenericGridPlacement.TheVariants.{Auto, Line, Span}
 
 -- ---- the end
 
@@ -15,6 +15,7 @@ line_up_to last number = cond (leb number last) (Some (Line number)) None
 abbrev pub line_back : ℕ → ℕ → ℕ → Option CellEnd
 line_back n last back = cond (leb back n) (line_up_to last (n + 1 - back)) None
 
+-- line 0 counts as auto
 abbrev pub end_ahead : ℕ → ℕ → Option CellEnd
 end_ahead last line = cond (eqb line 0) (Some Auto) (line_up_to last line)
 
@@ -29,40 +30,40 @@ end_in n last (spanning k) = Some (Span (tracks_of k))
 
 -- ---- the side
 
-abbrev pub side_ahead : ℕ → ℕ → ℕ → Side
+abbrev pub side_ahead : ℕ → ℕ → ℕ → Option Side
 side_ahead last start tracks =
-    cond (ltb last start) Outside
-    (cond (ltb (last - start) tracks) Outside
-    (Fixed start (start + tracks)))
+    cond (ltb last start) None
+    (cond (ltb (last - start) tracks) None
+    (Some (fixed start (start + tracks))))
 
-abbrev pub side_back : ℕ → ℕ → Side
-side_back tracks end = cond (ltb tracks end) (Fixed (end - tracks) end) Outside
+abbrev pub side_back : ℕ → ℕ → Option Side
+side_back tracks end = cond (ltb tracks end) (Some (fixed (end - tracks) end)) None
 
-abbrev pub ordered_side : ℕ → ℕ → ℕ → Side
-ordered_side last start end = cond (ltb start end) (Fixed start end) (cond (ltb end start) (Fixed end start) (side_ahead last start 1))
+abbrev pub ordered_side : ℕ → ℕ → ℕ → Option Side
+ordered_side last start end = cond (ltb start end) (Some (fixed start end)) (cond (ltb end start) (Some (fixed end start)) (side_ahead last start 1))
 
-abbrev pub line_side : ℕ → ℕ → CellEnd → Side
+abbrev pub line_side : ℕ → ℕ → CellEnd → Option Side
 line_side last start Auto = side_ahead last start 1
 line_side last start (Line end) = ordered_side last start end
 line_side last start (Span tracks) = side_ahead last start tracks
 
-abbrev pub from_span : ℕ → CellEnd → Side
-from_span start Auto = Free start
+abbrev pub from_span : ℕ → CellEnd → Option Side
+from_span start Auto = Some (Free start)
 from_span start (Line end) = side_back start end
-from_span start (Span tracks) = Free start
+from_span start (Span tracks) = Some (Free start)
 
-abbrev pub from_auto : CellEnd → Side
-from_auto Auto = Free 1
+abbrev pub from_auto : CellEnd → Option Side
+from_auto Auto = Some (Free 1)
 from_auto (Line end) = side_back 1 end
-from_auto (Span tracks) = Free tracks
+from_auto (Span tracks) = Some (Free tracks)
 
-abbrev pub side_in : ℕ → CellEnd → CellEnd → Side
+abbrev pub side_in : ℕ → CellEnd → CellEnd → Option Side
 side_in last Auto e = from_auto e
 side_in last (Line s) e = line_side last s e
 side_in last (Span k) e = from_span k e
 
 -- an end whose line is not among the lines leaves no side
-abbrev pub side_by : ℕ → Option CellEnd → Option CellEnd → Side
+abbrev pub side_by : ℕ → Option CellEnd → Option CellEnd → Option Side
 side_by last (Some s) (Some e) = side_in last s e
-side_by last (Some s) None = Outside
-side_by last None e = Outside
+side_by last (Some s) None = None
+side_by last None e = None

@@ -4,18 +4,14 @@
 
 pub mod cell;
 
-// A cell in one axis: an edge leaves the lines, it has so many tracks and no line, or it lies between two lines.
+use coordinates::{GenericGridPlacement, LinePair};
+
+// A cell in one axis that stays among the lines: it has so many tracks and no line, or it lies between two lines.
 #[derive(Clone, Copy, Debug, PartialEq, Eq)]
 pub enum Side {
-    Outside,
     Free(u32),
-    Fixed(u32, u32),
+    Fixed(LinePair),
 }
 
 // A settled end: no line, a line by its number, or so many tracks.
-#[derive(Clone, Copy, Debug, PartialEq, Eq)]
-pub enum CellEnd {
-    Auto,
-    Line(u32),
-    Span(u32),
-}
+pub type CellEnd = GenericGridPlacement<u32, u32>;

@@ -1,5 +1,4 @@
 -- The faults of the table have numbers. Assumes nothing.
-use Prim.Native.Nat.{ℕ}
 use native.Mathlib.Omega.{arith}
 use mathlib.Core.Path.{◌≡◌}
 use Rattle.coordinates.specs.Refusals.{number_of}

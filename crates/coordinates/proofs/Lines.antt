@@ -6,9 +6,9 @@ use native.Mathlib.Decide.{dec_lt}
 use native.Mathlib.Omega.{arith}
 use mathlib.Core.Bool.{true, false}
 use borrow.Author.Tests.{ltb-true, ltb-false}
-use lib.Dec.{T, leb→le, le→leb}
-use lib.Signed.{◌≤ℤ◌, le_z}
-use lib.IntN.{ℤ, pos, negsuc, ◌+ℤ◌, ◌-ℤ◌, sub_ℕ}
+use lib.Dec.{leb→le, le→leb}
+use lib.Signed.{◌≤ℤ◌}
+use lib.IntN.{ℤ, pos, negsuc}
 use Rattle.coordinates.specs.Lines.{held, Within, outside, uncut, to_origin_zero, to_grid_line, SameSide, SameLine}
 use Rattle.coordinates.proofs.Integers.{sub_le, sub_lt}
 

@@ -1,11 +1,12 @@
 -- What the calls of layer 1 answer: a refusal with zeros beside it, or the line or count.
-use Rattle.std.specs.Prelude.{ℕ, zero, suc, ◌+◌, ◌-◌, Bool, true, false, cond, ltb, ℤ, pos, negsuc, Result, Ok, Err}
+use Rattle.std.specs.Prelude.{ℕ, zero, suc, ◌+◌, ◌-◌, Bool, false, cond, ltb, ℤ, pos, negsuc, Result, Ok, Err}
 use Rattle.coordinates.specs.Refusals.{Refusal, no_refusal, refusal_of, number_of, count, zero_line}
 use Rattle.coordinates.specs.Lines.{held, outside, uncut, to_grid_line}
 use Rattle.coordinates.specs.declared.line.OriginZeroLine.{OriginZeroLine}
 use Rattle.coordinates.specs.declared.line.GridLine.{GridLine}
-use Rattle.coordinates.specs.declared.line.MarkedLine.{MarkedLine}
+use Rattle.coordinates.specs.Types.{MarkedLine}
 use Rattle.coordinates.specs.declared.refusal.Fault.{Fault}
+use Rattle.coordinates.specs.declared.refusal.Fault.TheVariants.{Count}
 
 -- ---- answers in this paper's numbers and values: a refusal, and beside it zeros
 
@@ -90,6 +91,10 @@ implied_negative_answer l = cond (outside l) (refused_count count) (count_answer
 unfoldable pub implied_positive_answer : ℕ → ℤ → CountAnswer
 implied_positive_answer n l = cond (ltb 10000 n) (refused_count count) (cond (outside l) (refused_count count) (count_answer (implied_positive n l)))
 
+-- a guard: 4 where a number is outside its range
+abbrev pub count_check : Bool → Result (Unit {0}) Fault
+count_check b = cond b (Err Count) (Ok tt)
+
 -- ---- the numbers and values of what a call answers
 
 abbrev pub answered_line : Result OriginZeroLine Fault → OriginZeroAnswer
@@ -97,7 +102,7 @@ answered_line (Ok l) = line_answer l.0
 answered_line (Err fault) = refused_line (number_of fault)
 
 abbrev pub answered_conversion : Result MarkedLine Fault → ConvertedLine
-answered_conversion (Ok m) = record { refusal = no_refusal; line = m.line; held = m.held }
+answered_conversion (Ok m) = record { refusal = no_refusal; line = m.value; held = m.held }
 answered_conversion (Err fault) = refused_conversion (number_of fault)
 
 abbrev pub answered_grid_line : Result GridLine Fault → GridLineAnswer

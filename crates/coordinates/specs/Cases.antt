@@ -1,5 +1,5 @@
 -- M1, M2 and M3 of document 01, with three explicit tracks, on the definitions that the contracts cite: one list, one test.
-use Rattle.std.specs.Prelude.{ℕ, Bool, true, false, ◌&&◌, List, [], ◌∷◌, T, eqb, ℤ, pos, negsuc}
+use Rattle.std.specs.Prelude.{Bool, true, false, ◌&&◌, List, [], ◌∷◌, T, eqb, ℤ, pos, negsuc}
 use Rattle.coordinates.specs.Answers.{origin_zero_answer, grid_line_answer}
 
 -- a grid line, the origin-zero line that it is, and the grid line that this is again

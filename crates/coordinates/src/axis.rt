@@ -1,6 +1,6 @@
 // The two axes of a panel: `c` and `r` in a sheet.
 ghost use Rattle.std.specs.Prelude.{◌≡◌};
-ghost use Rattle.coordinates.specs.Axes.{axis_number, axis_of};
+ghost use Rattle.coordinates.specs.Axes.{axis_number, axis_of, of_axis};
 
 #[derive(Clone, Copy, Debug, PartialEq, Eq)]
 pub enum Axis {
@@ -8,15 +8,24 @@ pub enum Axis {
     Row,
 }
 
+impl Axis {
+    // Of a value for the columns and one for the rows, that of the axis.
+    pub fn of<T: Copy>(self, columns: T, rows: T) -> T
+        ensures { result ≡ of_axis self columns rows }
+    {
+        match self {
+            Axis::Column => columns,
+            Axis::Row => rows,
+        }
+    }
+}
+
 impl From<Axis> for u32 {
     ghost from_gives = { λ axis number. number ≡ axis_number axis };
 
     // The number of an axis: 0 the columns, 1 the rows.
     fn from(axis: Axis) -> u32 {
-        match axis {
-            Axis::Column => 0,
-            Axis::Row => 1,
-        }
+        axis as u32
     }
 }
 

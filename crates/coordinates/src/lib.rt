@@ -6,8 +6,9 @@
 pub mod axis;
 pub mod line;
 pub mod refusal;
-pub mod signed;
 
 pub use axis::Axis;
-pub use line::{GridLine, LinePair, MarkedLine, OriginZeroLine};
+pub use line::{
+    GenericGridPlacement, GridLine, Line, LinePair, Marked, MarkedLine, OriginZeroLine,
+};
 pub use refusal::Fault;

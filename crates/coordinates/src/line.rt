@@ -1,15 +1,19 @@
 // Lines in the two numberings, and what a line asks of the grid.
-ghost use Rattle.std.specs.Prelude.{◌≡◌};
+ghost use Rattle.std.specs.Prelude.{◌≡◌, false, ltb};
 ghost use Rattle.coordinates.specs.Lines.{outside};
-ghost use Rattle.coordinates.specs.Signed.{integer_of, sixteen_bits};
-ghost use Rattle.coordinates.specs.Answers.{clamped_of, held_line, answered_conversion, origin_zero_answer, answered_grid_line, grid_line_answer, answered_count, implied_negative_answer, implied_positive_answer};
+ghost use Rattle.coordinates.specs.Held.{HeldAs};
+ghost use Rattle.coordinates.specs.Answers.{count_check, clamped_of, answered_conversion, origin_zero_answer, answered_grid_line, grid_line_answer, answered_count, implied_negative_answer, implied_positive_answer};
 
 use crate::refusal::Fault;
-use crate::signed;
-use crate::signed::Signed;
 
 // The most explicit tracks.
 pub const MOST_TRACKS: u16 = 10000;
+
+// The most placements of a panel.
+pub const MOST_PLACEMENTS: usize = 256;
+
+// The line that is farthest from the first explicit one, at either side.
+pub const FARTHEST_LINE: i64 = 10000;
 
 // A grid line as CSS numbers them: 1 at the start edge, -1 at the end edge. There is no line 0.
 #[derive(Clone, Copy, Debug, PartialEq, Eq)]
@@ -19,40 +23,66 @@ pub struct GridLine(pub i16);
 #[derive(Clone, Copy, Debug, PartialEq, Eq)]
 pub struct OriginZeroLine(pub i16);
 
-// Two lines of an axis: the tracks between them.
+// What an axis has at a start and at an end.
 #[derive(Clone, Copy, Debug, PartialEq, Eq)]
-pub struct LinePair {
-    pub start: u32,
-    pub end: u32,
+pub struct Line<T> {
+    pub start: T,
+    pub end: T,
 }
 
-// An origin-zero line, and its mark: whether it was held at an end.
+// Two lines of an axis: the tracks between them.
+pub type LinePair = Line<u32>;
+
+// A value, and its mark: whether a step on the way to it was held at an end.
 #[derive(Clone, Copy, Debug, PartialEq, Eq)]
-pub struct MarkedLine {
-    pub line: OriginZeroLine,
+pub struct Marked<T> {
+    pub value: T,
     pub held: bool,
+}
+
+// An origin-zero line, and whether it was held at an end.
+pub type MarkedLine = Marked<OriginZeroLine>;
+
+// An end of a placement without a name: auto, a line, or a span.
+#[derive(Clone, Copy, Debug, PartialEq, Eq)]
+pub enum GenericGridPlacement<L, S> {
+    Auto,
+    Line(L),
+    Span(S),
+}
+
+impl<T> Marked<T> {
+    // A value with no mark.
+    pub fn unmarked(value: T) -> Marked<T>
+        ensures value { result.value ≡ value }
+        ensures held { result.held ≡ false }
+    {
+        Marked { value, held: false }
+    }
+}
+
+// Whether a number lies outside -10,000..10,000.
+#[tactic(auto, using(crate::proofs::Integers::outside_by_size))]
+fn lies_outside(number: i64) -> bool
+    ensures { result ≡ outside number }
+{
+    FARTHEST_LINE.unsigned_abs() < number.unsigned_abs()
 }
 
 // Whether a line lies outside -10,000..10,000.
 pub fn is_outside(line: OriginZeroLine) -> bool
     ensures { result ≡ outside line.0 }
 {
-    let number = line.0;
-    match signed::split_16_bits(number) {
-        Signed::NonNegative(n) => 10000 < n,
-        Signed::Negative(k) => 9999 < k,
-    }
+    lies_outside(i64::from(line.0))
 }
 
-// The line of a number by its sign, held, with its mark.
-fn marked_line(number: Signed) -> MarkedLine
-    ensures { answered_conversion (Ok result) ≡ held_line (integer_of number) }
+// Refused by 4: more than 10,000 explicit tracks.
+pub fn check_explicit(explicit: u16) -> Result<(), Fault>
+    ensures { result ≡ count_check (ltb 10000 explicit) }
 {
-    let held = signed::hold(number);
-    let within = held.line;
-    MarkedLine {
-        line: OriginZeroLine(signed::joined(within)),
-        held: held.held,
+    match explicit {
+        0..=MOST_TRACKS => Ok(()),
+        _ => Err(Fault::Count),
     }
 }
 
@@ -62,24 +92,42 @@ impl GridLine {
     pub fn into_origin_zero_line(self, explicit: u16) -> Result<MarkedLine, Fault>
         ensures { answered_conversion result ≡ origin_zero_answer explicit self.0 }
     {
-        let number = self.0;
-        match signed::split_16_bits(number) {
-            _ if MOST_TRACKS < explicit => Err(Fault::Count),
-            Signed::NonNegative(0) => Err(Fault::ZeroLine),
-            Signed::NonNegative(_) => Ok(marked_line(signed::minus(number, 1))),
-            Signed::Negative(_) => Ok(marked_line(signed::plus(number, explicit + 1))),
+        check_explicit(explicit)?;
+        let number = i64::from(self.0);
+        match number {
+            0 => Err(Fault::ZeroLine),
+            1.. => Ok(OriginZeroLine::hold(number - 1)),
+            _ => Ok(OriginZeroLine::hold(number + i64::from(explicit) + 1)),
         }
     }
 }
 
 impl OriginZeroLine {
+    // The line of a number, held within -10,000..10,000, with its mark.
+    pub fn hold(number: i64) -> MarkedLine
+        ensures { HeldAs number result }
+    {
+        Marked {
+            value: OriginZeroLine(number.clamp(-FARTHEST_LINE, FARTHEST_LINE) as i16),
+            held: lies_outside(number),
+        }
+    }
+
     // The line of a number, held within -10,000..10,000.
     pub fn clamped(line: i32) -> OriginZeroLine
         ensures { result ≡ clamped_of line }
     {
-        let held = signed::hold(signed::split(line));
-        let within = held.line;
-        OriginZeroLine(signed::joined(within))
+        OriginZeroLine::hold(i64::from(line)).value
+    }
+
+    // Refused by 4: a line outside -10,000..10,000.
+    pub fn check_within(self) -> Result<(), Fault>
+        ensures { result ≡ count_check (outside self.0) }
+    {
+        if is_outside(self) {
+            return Err(Fault::Count);
+        }
+        Ok(())
     }
 
     // The grid line. Refused by 4: more than 10,000 explicit tracks, and a line outside -10,000..10,000.
@@ -87,18 +135,15 @@ impl OriginZeroLine {
     pub fn into_grid_line(self, explicit: u16) -> Result<GridLine, Fault>
         ensures { answered_grid_line result ≡ grid_line_answer explicit self.0 }
     {
-        if MOST_TRACKS < explicit {
-            return Err(Fault::Count);
-        }
-        if is_outside(self) {
-            return Err(Fault::Count);
-        }
-        let number = self.0;
-        let line = match signed::split_16_bits(number) {
-            Signed::NonNegative(_) => signed::plus(number, 1),
-            Signed::Negative(_) => signed::minus(number, explicit + 1),
+        check_explicit(explicit)?;
+        self.check_within()?;
+        let line = i32::from(self.0);
+        let number = if line < 0 {
+            line - i32::from(explicit) - 1
+        } else {
+            line + 1
         };
-        Ok(GridLine(signed::joined(line)))
+        Ok(GridLine(number as i16))
     }
 
     // The tracks there must be before the grid if an item starts at this line. Refused by 4: a line outside -10,000..10,000.
@@ -106,13 +151,8 @@ impl OriginZeroLine {
     pub fn implied_negative_implicit_tracks(self) -> Result<u32, Fault>
         ensures { answered_count result ≡ implied_negative_answer self.0 }
     {
-        if is_outside(self) {
-            return Err(Fault::Count);
-        }
-        match signed::split_16_bits(self.0) {
-            Signed::NonNegative(_) => Ok(0),
-            Signed::Negative(k) => Ok(k + 1),
-        }
+        self.check_within()?;
+        Ok(self.0.min(0).unsigned_abs().into())
     }
 
     // The tracks there must be after the grid if an item ends at this line. Refused by 4: more than 10,000 explicit tracks, and a
@@ -121,15 +161,9 @@ impl OriginZeroLine {
     pub fn implied_positive_implicit_tracks(self, explicit: u16) -> Result<u32, Fault>
         ensures { answered_count result ≡ implied_positive_answer explicit self.0 }
     {
-        if MOST_TRACKS < explicit {
-            return Err(Fault::Count);
-        }
-        if is_outside(self) {
-            return Err(Fault::Count);
-        }
-        match signed::split_16_bits(self.0) {
-            Signed::NonNegative(l) => Ok(l.saturating_sub(u32::from(explicit))),
-            Signed::Negative(_) => Ok(0),
-        }
+        check_explicit(explicit)?;
+        self.check_within()?;
+        let past = i32::from(self.0) - i32::from(explicit);
+        Ok(past.max(0).unsigned_abs())
     }
 }

@@ -1,4 +1,5 @@
 -- The count of repetitions in steps is layer 3's, and one walk gathers the whole of a template. Assumes nothing.
+use Rattle.std.proofs.lemmas.Bool.{and_parts}
 use Rattle.std.specs.Prelude.{Option, Some, None}
 use Prim.Native.Nat.{ℕ, ◌*◌, ◌^◌, ◌≤◌, ◌<◌, min, max}
 use mathlib.Core.Path.{◌≡◌, refl, sym, ◌∙◌}
@@ -20,9 +21,9 @@ use Rattle.template_rules.specs.declared.AutoRepeatStrategy.{AutoRepeatStrategy}
 use Rattle.template_rules.specs.declared.TemplateSummary.{TemplateSummary}
 use Rattle.template_rules.proofs.FirstPart.{first_part_all, most-steps}
 use Rattle.template_rules.proofs.Held.{room-some, room_most}
-use Rattle.template_rules.proofs.Tests.{and_parts, above_test}
+use Rattle.template_rules.proofs.Tests.{above_test}
 use Rattle.explicit_size.specs.Repeat.{gathered_of, asks_of}
-use Rattle.explicit_size.specs.Steps.{spaces_by, count_by}
+use Rattle.explicit_size.specs.Steps.{spaces_by, most_of, count_by}
 
 -- ---- the walk
 module _ (words minimums maximums : List ℕ) where
@@ -85,11 +86,11 @@ one_automatic false b c d e h = absurd (true≢false (sym e))
 module _ (s : TemplateSummary) (h : Gathered 64 s) where
   -- layer 3's count
   pub counted : (inner : Option Float) (strategy : AutoRepeatStrategy) (gap : Sizing) (g : Float)
-      → (template_size_of inner strategy gap s).repetitions ≡ min (wanted_of inner strategy gap s) (spaces_by s g).most
+      → (template_size_of inner strategy gap s).repetitions ≡ min (wanted_of inner strategy gap s) (most_of (spaces_by s g))
   unfolding template_size_of spaces_by repetitions_of
   counted inner strategy gap g = go (valid_of s) refl (eqb s.automatic 0) refl
     where
-      go : (v : Bool) → valid_of s ≡ v → (z : Bool) → eqb s.automatic 0 ≡ z → (template_size_of inner strategy gap s).repetitions ≡ min (wanted_of inner strategy gap s) (spaces_by s g).most
+      go : (v : Bool) → valid_of s ≡ v → (z : Bool) → eqb s.automatic 0 ≡ z → (template_size_of inner strategy gap s).repetitions ≡ min (wanted_of inner strategy gap s) (most_of (spaces_by s g))
       go false e z f = rw e (none_of _)
       go true e true f = let n = eqb-true s.automatic 0 f in rw (e, f) (rw n (none_of _))
       go true e false f =
@@ -102,6 +103,6 @@ module _ (s : TemplateSummary) (h : Gathered 64 s) where
   unfolding count_by spaces_by fitting_of
   counted-at x strategy gap = counted (Some x) strategy gap (gap_of gap x) ∙ go (asks_of s) refl
     where
-      go : (t : Bool) → asks_of s ≡ t → min (wanted_of (Some x) strategy gap s) (spaces_by s (gap_of gap x)).most ≡ count_by strategy x (spaces_by s (gap_of gap x))
+      go : (t : Bool) → asks_of s ≡ t → min (wanted_of (Some x) strategy gap s) (most_of (spaces_by s (gap_of gap x))) ≡ count_by strategy x (spaces_by s (gap_of gap x))
       go true e = rw e
-      go false e = rw e (sym (none_of _) ∙ none_of _)
+      go false e = rw e (sym (none_of _))

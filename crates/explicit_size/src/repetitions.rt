@@ -1,16 +1,17 @@
 // How often the automatic repeat of a template is written out.
-ghost use Rattle.std.specs.Prelude.{◌≡◌, ◌+◌, ◌-◌, ◌*◌, ◌≤◌, ◌<◌, min};
+ghost use Rattle.std.specs.Prelude.{◌≡◌, ◌+◌, ◌-◌, ◌*◌, ◌≤◌, ◌<◌, min, is_some, IfSome};
 ghost use Rattle.template_rules.specs.Space.{whole32};
-ghost use Rattle.template_rules.specs.Repetitions.{first_space, further_space, whole_of, fitting_of, held_of, repetitions_of};
+ghost use Rattle.template_rules.specs.Repetitions.{first_space, further_space, whole_of, held_of};
 ghost use Rattle.explicit_size.specs.Steps.{fit_by};
+ghost use Rattle.explicit_size.specs.Repeat.{asks_of};
 
-use sizing::Sizing;
-use sizing::definite::gap_value;
+use crate::size::is_valid;
+use template_rules::gathered::GatheredTemplate;
 use template_rules::whole::{ceiling_to_u32, floor_to_u32};
 use template_rules::{AutoRepeatStrategy, TemplateSummary};
 
 // The most tracks of an axis.
-pub(crate) const MOST_TRACKS: u64 = 10000;
+pub(crate) const MOST_TRACKS: u64 = coordinates::line::MOST_TRACKS as u64;
 
 // What is gathered of a template whose automatic repeat has tracks.
 #[derive(Clone, Copy)]
@@ -18,6 +19,18 @@ pub(crate) struct AutomaticRepeat {
     pub summary: TemplateSummary,
     // As many as a word can write.
     ghost tracks: { (0 < summary.repeated) × (summary.repeated ≤ 65535) },
+}
+
+// The automatic repeat of a template, where the template counts and has one.
+pub(crate) fn automatic_repeat(gathered: GatheredTemplate) -> Option<AutomaticRepeat>
+    ensures asked { is_some result ≡ asks_of gathered.summary }
+    ensures kept { IfSome result (λ r. r.summary ≡ gathered.summary) }
+{
+    let summary = gathered.summary;
+    if is_valid(summary) && summary.automatic == 1 {
+        return Some(AutomaticRepeat { summary });
+    }
+    None
 }
 
 // Floor by rule max, ceiling by rule min.
@@ -64,20 +77,10 @@ impl AutomaticRepeat {
         self.summary.once + self.summary.repeated as f32 * gap
     }
 
-    // The repetitions that an inner size asks for.
-    #[tactic(auto, unfolding(template_rules::specs::Repetitions::fitting_of))]
-    fn repetitions_that_fit(self, strategy: AutoRepeatStrategy, inner: f32, gap: f32) -> u32
-        ensures { result ≡ fitting_of strategy inner gap self.summary }
-    {
-        let first = self.first_repetition_space(gap);
-        let further = self.further_repetition_space(gap);
-        fit_in(strategy, inner, first, further)
-    }
-
-    // Held to the repetitions that begin within 10,000 tracks, and to 1; 0 where the tracks before the repeat fill the grid.
+    // The most repetitions: those that begin within 10,000 tracks, and at least 1; 0 where the tracks before the repeat fill the grid.
     #[tactic(auto, unfolding(template_rules::specs::Repetitions::held_of))]
-    pub(crate) fn held_repetitions(self, repetitions: u64) -> u64
-        ensures { (result ≡ held_of self.summary.before self.summary.repeated repetitions) × (result ≤ 10000) }
+    pub(crate) fn held_repetitions(self) -> u32
+        ensures { result ≡ held_of self.summary.before self.summary.repeated 10000 }
     {
         let before = self.summary.before;
         let repeated = self.summary.repeated;
@@ -85,26 +88,6 @@ impl AutomaticRepeat {
             return 0;
         }
         let room = (MOST_TRACKS - before + repeated - 1) / repeated;
-        repetitions.min(room).max(1)
-    }
-
-    // The repetitions of a valid template with one automatic repeat: without an inner size, 1.
-    #[tactic(auto, unfolding(template_rules::specs::Repetitions::repetitions_of))]
-    pub(crate) fn automatic_repetitions(
-        self,
-        inner: Option<f32>,
-        strategy: AutoRepeatStrategy,
-        gap: Sizing,
-    ) -> u64
-        ensures { (result ≡ repetitions_of inner strategy gap self.summary) × (result ≤ 10000) }
-    {
-        match inner {
-            Some(x) => {
-                let value = gap_value(gap, x);
-                let fit = self.repetitions_that_fit(strategy, x, value);
-                self.held_repetitions(u64::from(fit))
-            }
-            None => self.held_repetitions(1),
-        }
+        MOST_TRACKS.min(room).max(1) as u32
     }
 }

@@ -2,15 +2,15 @@
 ghost use Rattle.std.specs.Prelude.{◌≡◌, ◌≤◌};
 ghost use Rattle.coordinates.specs.Refusals.{number_of};
 ghost use Rattle.template_rules.specs.Template.{components_of};
-ghost use Rattle.template_rules.specs.Explicit.{valid_of, template_size_of, with_areas, inner_value, inner_in_range, space_in_range, crowded_by, explicit_answer_of, answered_size};
-ghost use Rattle.template_rules.specs.Bounds.{Gathered};
+ghost use Rattle.template_rules.specs.Explicit.{valid_of, template_size_of, with_areas, inner_in_range, space_in_range, crowded_by, explicit_answer_of, answered_size};
 
-use crate::repeat::gathered;
-use crate::repetitions::{AutomaticRepeat, MOST_TRACKS};
+use crate::repeat::{gathered, gathered_repetitions};
+use crate::repetitions::MOST_TRACKS;
 use coordinates::Fault;
-use sizing::Sizing;
 use sizing::range::{number_in_range, sizing_in_range};
-use template_rules::{AutoRepeatStrategy, ExplicitSize, Template, TemplateSize, TemplateSummary};
+use template_rules::component::MOST_COMPONENTS;
+use template_rules::gathered::GatheredTemplate;
+use template_rules::{ExplicitSize, RepeatSpace, Template, TemplateSize, TemplateSummary};
 
 // Whether a template has no repeat of no tracks or of count 0, and at most one automatic repeat, which stands among fixed tracks only.
 pub(crate) fn is_valid(summary: TemplateSummary) -> bool
@@ -21,39 +21,23 @@ pub(crate) fn is_valid(summary: TemplateSummary) -> bool
 
 // The repetitions and tracks of a template; none where it is invalid.
 #[tactic(auto, unfolding(template_rules::specs::Explicit::template_size_of))]
-fn template_size(
-    summary: TemplateSummary,
-    inner: Option<f32>,
-    strategy: AutoRepeatStrategy,
-    gap: Sizing,
-) -> TemplateSize
-    requires { Gathered 64 summary }
-    ensures { (result ≡ template_size_of inner strategy gap summary) × (result.repetitions ≤ 10000) }
+fn template_size(gathered: GatheredTemplate, space: RepeatSpace) -> TemplateSize
+    ensures { result ≡ template_size_of space.inner space.strategy space.gap gathered.summary }
 {
+    let summary = gathered.summary;
     if !is_valid(summary) {
-        return TemplateSize {
-            repetitions: 0,
-            tracks: 0,
-        };
+        return TemplateSize::default();
     }
-    if summary.automatic == 0 {
-        return TemplateSize {
-            repetitions: 0,
-            tracks: summary.outside,
-        };
-    }
-    let repeat = AutomaticRepeat { summary };
-    let repetitions = repeat.automatic_repetitions(inner, strategy, gap);
+    let repetitions = gathered_repetitions(gathered, space);
     TemplateSize {
         repetitions,
-        tracks: summary.outside + summary.repeated * repetitions,
+        tracks: summary.outside + summary.repeated * u64::from(repetitions),
     }
 }
 
 // The explicit tracks of a template beside areas; above 10,000 they are refused.
 #[tactic(auto, unfolding(template_rules::specs::Explicit::with_areas))]
 fn size_with_areas(size: TemplateSize, areas: u32) -> Result<ExplicitSize, Fault>
-    requires { size.repetitions ≤ 10000 }
     ensures { answered_size result ≡ with_areas areas size }
 {
     let explicit = size.tracks.max(u64::from(areas));
@@ -61,34 +45,24 @@ fn size_with_areas(size: TemplateSize, areas: u32) -> Result<ExplicitSize, Fault
         return Err(Fault::Count);
     }
     Ok(ExplicitSize {
-        repetitions: size.repetitions as u32,
+        repetitions: size.repetitions,
         template: size.tracks as u32,
         explicit: explicit as u32,
     })
-}
-
-// The inner size that percentages are taken of; 0 where there is none, and then no size is used.
-fn inner_value(inner: Option<f32>) -> f32
-    ensures { result ≡ inner_value inner }
-{
-    inner.unwrap_or(0.0)
 }
 
 // Whether an inner size is in range, where there is one.
 fn inner_in_range(inner: Option<f32>) -> bool
     ensures { result ≡ inner_in_range inner }
 {
-    match inner {
-        Some(x) => number_in_range(x),
-        None => true,
-    }
+    inner.is_none_or(|x| number_in_range(x))
 }
 
-// Whether an inner size and a gap are in range.
-fn space_in_range(inner: Option<f32>, gap: Sizing) -> bool
-    ensures { result ≡ space_in_range inner gap }
+// Whether the inner size and the gap are in range.
+fn space_in_range(space: RepeatSpace) -> bool
+    ensures { result ≡ space_in_range space.inner space.gap }
 {
-    inner_in_range(inner) && sizing_in_range(gap)
+    inner_in_range(space.inner) && sizing_in_range(space.gap)
 }
 
 // The fault of too many components: 4 where the areas alone pass 10,000 tracks, else 8.
@@ -107,20 +81,19 @@ fn crowded_by(areas: u32) -> Fault
 #[tactic(auto, unfolding(template_rules::specs::Explicit::explicit_answer_of))]
 pub fn compute_explicit_grid_size_in_axis(
     template: Template<'_>,
-    inner: Option<f32>,
-    strategy: AutoRepeatStrategy,
-    gap: Sizing,
+    space: RepeatSpace,
     areas: u32,
 ) -> Result<ExplicitSize, Fault>
-    ensures { answered_size result ≡ explicit_answer_of inner strategy gap areas (components_of template.entry) }
+    ensures { answered_size result ≡ explicit_answer_of space.inner space.strategy space.gap areas (components_of template.entry) }
 {
-    if !space_in_range(inner, gap) {
+    if !space_in_range(space) {
         return Err(Fault::Value);
     }
-    if template.components.len() > 64 {
+    if template.components.len() > MOST_COMPONENTS {
         return Err(crowded_by(areas));
     }
-    let summary = gathered(template, inner_value(inner));
-    let size = template_size(summary, inner, strategy, gap);
+    // without an inner size no percentage is used
+    let summary = gathered(template, space.inner.unwrap_or(0.0));
+    let size = template_size(summary, space);
     size_with_areas(size, areas)
 }

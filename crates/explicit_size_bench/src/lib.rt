@@ -11,33 +11,35 @@ ghost use Rattle.explicit_size_bench.specs.Numbers.{numbers_of};
 
 use coordinates::Fault;
 use explicit_size::compute_explicit_grid_size_in_axis;
-use sizing::word::{length_of, sizing_of};
-use template_rules::{AutoRepeatStrategy, ExplicitSize, Template};
+use sizing::Sizing;
+use sizing::word::length_of;
+use template_rules::{AutoRepeatStrategy, ExplicitSize, RepeatSpace, Template};
 
 // The answer as numbers: the refusal, 0 where there is none, the repetitions and the explicit count.
 #[repr(C)]
-#[derive(Clone, Copy, Debug, PartialEq, Eq)]
+#[derive(Clone, Copy, Debug, PartialEq, Eq, Default)]
 pub struct SizeNumbers {
     pub number: u32,
     pub repetitions: u32,
     pub explicit: u32,
 }
 
-// An answer as numbers.
-fn numbers_of(answer: Result<ExplicitSize, Fault>) -> SizeNumbers
-    ensures { result ≡ numbers_of (answered_size answer) }
-{
-    match answer {
-        Ok(size) => SizeNumbers {
-            number: 0,
-            repetitions: size.repetitions,
-            explicit: size.explicit,
-        },
-        Err(fault) => SizeNumbers {
-            number: u32::from(fault),
-            repetitions: 0,
-            explicit: 0,
-        },
+impl From<Result<ExplicitSize, Fault>> for SizeNumbers {
+    ghost from_gives = { λ answer numbers. numbers ≡ numbers_of (answered_size answer) };
+
+    // An answer as numbers.
+    fn from(answer: Result<ExplicitSize, Fault>) -> SizeNumbers {
+        match answer {
+            Ok(size) => SizeNumbers {
+                number: 0,
+                repetitions: size.repetitions,
+                explicit: size.explicit,
+            },
+            Err(fault) => SizeNumbers {
+                number: u32::from(fault),
+                ..SizeNumbers::default()
+            },
+        }
     }
 }
 
@@ -57,11 +59,10 @@ pub extern "C" fn explicit_size_in_axis(
         minimums,
         maximums,
     };
-    numbers_of(compute_explicit_grid_size_in_axis(
-        template,
-        Some(length_of(inner)),
-        AutoRepeatStrategy::MaxRepetitionsThatDoNotOverflow,
-        sizing_of(gap),
-        0,
-    ))
+    let space = RepeatSpace {
+        inner: Some(length_of(inner)),
+        strategy: AutoRepeatStrategy::MaxRepetitionsThatDoNotOverflow,
+        gap: Sizing::from(gap),
+    };
+    SizeNumbers::from(compute_explicit_grid_size_in_axis(template, space, 0))
 }

@@ -10,15 +10,15 @@ use Rattle.std.specs.List.{position, position_or_len}
 use Rattle.std.proofs.lemmas.List.Quantifiers.{position-Some}
 use Rattle.std.proofs.lemmas.List.Sums.{fails_before_first}
 use Rattle.std.proofs.lemmas.Option.{none-some}
-use lib.Dec.{ltb}
-use borrow.Author.Tests.{ltb-true, ltb-false, lt-ltb}
+use lib.Dec.{leb, ltb}
+use borrow.Author.Tests.{leb-true, leb-false, ltb-true, ltb-false, lt-ltb}
 use Rattle.coordinates.specs.declared.axis.Axis.{Axis}
 use Rattle.coordinates.specs.declared.axis.Axis.TheVariants.{Column, Row}
-use Rattle.coordinates.specs.declared.line.LinePair.{LinePair}
+use Rattle.coordinates.specs.Types.{LinePair}
 use Rattle.free_cells.specs.declared.Rectangle.{Rectangle}
 use Rattle.free_cells.specs.Words.{lines_of, lines_word, rectangle_of, rectangle_in}
 use Rattle.free_cells.specs.Free.{Overlap, tracks_from, along, Clear, FirstInWay, InWay, FreeLine, FirstOr0, nowhere}
-use Rattle.free_cells.specs.Steps.{overlaps, end_along}
+use Rattle.free_cells.specs.Steps.{overlaps, end_along, nearer, nearer_end, NextEnd, NextEnds}
 
 -- ---- the test
 
@@ -76,9 +76,65 @@ way_by words r None e = none-hits words r e
 
 -- ---- the next end of a row
 
-pub record Nearest (words : List ℕ) (row i nearest : ℕ) : Type 0 where
-  pub past : row < nearest
-  pub least : (j : ℕ) → j < i → row < (rectangle_in words j).rows.end → nearest ≤ (rectangle_in words j).rows.end
+module _ (words : List ℕ) (row i : ℕ) where
+  abbrev here_end : ℕ
+  here_end = (rectangle_in words i).rows.end
+
+  -- a rectangle that ends at a row, or above it
+  none-past : here_end ≤ row → NextEnds words i row None → (j : ℕ) → j < i + 1 → (rectangle_in words j).rows.end ≤ row
+  none-past h f j w = go (ltb j i) refl
+    where
+      go : (t : Bool) → ltb j i ≡ t → (rectangle_in words j).rows.end ≤ row
+      go true e = f j (ltb-true j i e)
+      go false e = let z : j ≡ i = omega (arith, ltb-false j i e) in rw z h
+
+  end-above : (nearest : Option ℕ) → here_end ≤ row → NextEnds words i row nearest → NextEnds words (i + 1) row nearest
+  end-above None h f = none-past h f
+  end-above (Some n) h f = record { past = f.past; least = least }
+    where
+      least : (j : ℕ) → j < i + 1 → row < (rectangle_in words j).rows.end → n ≤ (rectangle_in words j).rows.end
+      least j w p = go (ltb j i) refl
+        where
+          go : (t : Bool) → ltb j i ≡ t → n ≤ (rectangle_in words j).rows.end
+          go true e = f.least j (ltb-true j i e) p
+          go false e = let z : j ≡ i = omega (arith, ltb-false j i e) in absurd (let q : row < here_end = rw z at p in omega arith)
+
+  -- one that ends past it, no nearer than those before
+  end-past : (nearest : Option ℕ) → row < here_end → NextEnds words i row nearest → NextEnds words (i + 1) row (nearer here_end nearest)
+  end-past None h f = record { past = h; least = least }
+    where
+      least : (j : ℕ) → j < i + 1 → row < (rectangle_in words j).rows.end → here_end ≤ (rectangle_in words j).rows.end
+      least j w p = go (ltb j i) refl
+        where
+          go : (t : Bool) → ltb j i ≡ t → here_end ≤ (rectangle_in words j).rows.end
+          go true e = absurd (let q = f j (ltb-true j i e) in omega arith)
+          go false e = let z : j ≡ i = omega (arith, ltb-false j i e) in rw z (omega arith)
+  end-past (Some n) h f = go (ltb here_end n) refl
+    where
+      go : (t : Bool) → ltb here_end n ≡ t → NextEnd words (i + 1) row (cond t here_end n)
+      go true e = record { past = h; least = least }
+        where
+          least : (j : ℕ) → j < i + 1 → row < (rectangle_in words j).rows.end → here_end ≤ (rectangle_in words j).rows.end
+          least j w p = on (ltb j i) refl
+            where
+              on : (t : Bool) → ltb j i ≡ t → here_end ≤ (rectangle_in words j).rows.end
+              on true d = let q = f.least j (ltb-true j i d) p in omega (arith, q, ltb-true here_end n e)
+              on false d = let z : j ≡ i = omega (arith, ltb-false j i d) in rw z (omega arith)
+      go false e = record { past = f.past; least = least }
+        where
+          least : (j : ℕ) → j < i + 1 → row < (rectangle_in words j).rows.end → n ≤ (rectangle_in words j).rows.end
+          least j w p = on (ltb j i) refl
+            where
+              on : (t : Bool) → ltb j i ≡ t → n ≤ (rectangle_in words j).rows.end
+              on true d = f.least j (ltb-true j i d) p
+              on false d = let z : j ≡ i = omega (arith, ltb-false j i d) in rw z (omega (arith, ltb-false here_end n e))
+
+  pub next-turn : (nearest : Option ℕ) → NextEnds words i row nearest → NextEnds words (i + 1) row (nearer_end row here_end nearest)
+  next-turn nearest f = go (leb here_end row) refl
+    where
+      go : (t : Bool) → leb here_end row ≡ t → NextEnds words (i + 1) row (cond t nearest (nearer here_end nearest))
+      go true e = end-above nearest (leb-true here_end row e) f
+      go false e = end-past nearest (leb-false here_end row e) f
 
 -- two lines take 32 bits
 pub lines-small : (l : LinePair) (w : ℕ) → w ≡ lines_word l → w < 4294967296

@@ -12,7 +12,7 @@ use Rattle.coordinates.specs.declared.axis.Axis.TheVariants.{Column}
 use Rattle.free_cells.specs.declared.Size.{Size}
 use Rattle.free_cells.specs.declared.Place.{Place}
 use Rattle.free_cells.specs.Free.{tracks_from, area_at, Clear, FreeLine, FirstOr0, first, nowhere, First, Before, AtOrAfter, FreePlace, FirstPlace, earliest, no_place, no_place_of, Earliest, last_row_line}
-use Rattle.free_cells.specs.Steps.{NextEnd, InRow, Below}
+use Rattle.free_cells.specs.Steps.{NextEnd, NextEnds, InRow, Below}
 
 -- ---- row order
 
@@ -111,6 +111,14 @@ module _ (words : List ℕ) (count last : ℕ) (size : Size) where
   -- past the last row
   pub below-nowhere : (row at : ℕ) → NoneAbove row at → last_row_line < at → FirstPlace (Below words count last size row) no_place_of
   below-nowhere row at none h = no_place refl (λ q b. none q b (omega (arith, b.down)))
+
+  -- where no rectangle ends past the row, none anywhere
+  pub below-ends : (row at : ℕ) → row + 1 ≤ at → at ≤ last_row_line → NoneAbove row at → FirstOr0 (InRow words count last size (record { row = at; column = 1 })) 0
+      → NextEnds words count at None → FirstPlace (Below words count last size row) no_place_of
+  below-ends row at h s none f ends =
+      below-nowhere row (last_row_line + 1)
+      (below-jumps row at (last_row_line + 1) h none f (record { past = omega arith; least = λ i v w. absurd (let q = ends i v in omega arith) }))
+      (omega arith)
 
   -- ---- at or after a place
 

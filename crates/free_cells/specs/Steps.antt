@@ -1,5 +1,5 @@
 -- What the code computes.
-use Rattle.std.specs.Prelude.{ℕ, ◌+◌, ◌≤◌, ◌<◌, Bool, cond, ◌&&◌, List, leb, ltb}
+use Rattle.std.specs.Prelude.{ℕ, ◌+◌, ◌≤◌, ◌<◌, Bool, cond, ◌&&◌, List, leb, ltb, Option, Some, None}
 use Rattle.coordinates.specs.declared.axis.Axis.{Axis}
 use Rattle.coordinates.specs.declared.axis.Axis.TheVariants.{Column, Row}
 use Rattle.free_cells.specs.declared.Rectangle.{Rectangle}
@@ -18,15 +18,25 @@ abbrev pub end_along : Axis → Rectangle → ℕ
 end_along Column r = r.columns.end
 end_along Row r = r.rows.end
 
--- the nearer of two ends, of which the first counts where it lies past a row
-abbrev pub nearer_end : ℕ → ℕ → ℕ → ℕ
-nearer_end row end nearest = cond (leb end row) nearest (cond (ltb end nearest) end nearest)
+-- the nearer of an end and one found before it, where there is one
+abbrev pub nearer : ℕ → Option ℕ → Option ℕ
+nearer end None = Some end
+nearer end (Some found) = Some (cond (ltb end found) end found)
+
+-- the same, where the end counts where it lies past a row
+abbrev pub nearer_end : ℕ → ℕ → Option ℕ → Option ℕ
+nearer_end row end nearest = cond (leb end row) nearest (nearer end nearest)
 
 -- a row line past a row, and past no row line, past that row, at which one of these rectangles ends: between the two the same rectangles
 -- are in the way
 pub record NextEnd (words : List ℕ) (count row end : ℕ) : Type 0 where
   pub past : row < end
   pub least : (i : ℕ) → i < count → row < (rectangle_in words i).rows.end → end ≤ (rectangle_in words i).rows.end
+
+-- the least such line, or no rectangle ends past the row
+abbrev pub NextEnds : List ℕ → ℕ → ℕ → Option ℕ → Type 0
+NextEnds words count row (Some end) = NextEnd words count row end
+NextEnds words count row None = (i : ℕ) → i < count → (rectangle_in words i).rows.end ≤ row
 
 -- a column of a place's row, at or after the place
 abbrev pub InRow : List ℕ → ℕ → ℕ → Size → Place → ℕ → Type 0

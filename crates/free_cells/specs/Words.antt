@@ -1,6 +1,6 @@
 -- A rectangle of cells as a word: column start + column end · 2^16 + row start · 2^32 + row end · 2^48.
 use Rattle.std.specs.Prelude.{ℕ, ◌+◌, ◌*◌, ◌/◌, ◌%◌, List, get_or}
-use Rattle.coordinates.specs.declared.line.LinePair.{LinePair}
+use Rattle.coordinates.specs.Types.{LinePair}
 use Rattle.free_cells.specs.declared.Rectangle.{Rectangle}
 
 unfoldable pub lines_of : ℕ → LinePair

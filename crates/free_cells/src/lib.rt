@@ -24,7 +24,7 @@ pub struct Size {
 }
 
 // The place of a rectangle: the row and the column at which it starts.
-#[derive(Clone, Copy, Debug, PartialEq, Eq)]
+#[derive(Clone, Copy, Debug, Default, PartialEq, Eq)]
 pub struct Place {
     pub row: u32,
     pub column: u32,

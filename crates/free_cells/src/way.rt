@@ -1,14 +1,11 @@
 // What is in the way.
-ghost use Rattle.std.specs.Prelude.{◌≡◌, ◌<◌, ◌&&◌, ltb, length, position};
+ghost use Rattle.std.specs.Prelude.{◌≡◌, ◌&&◌, ltb, length, position};
 ghost use Rattle.free_cells.specs.Words.{rectangle_of};
 ghost use Rattle.free_cells.specs.Free.{InWay};
-ghost use Rattle.free_cells.specs.Steps.{overlaps, nearer_end, NextEnd};
+ghost use Rattle.free_cells.specs.Steps.{overlaps, nearer_end, NextEnds};
 
 use crate::Rectangle;
 use coordinates::LinePair;
-
-// More than any line of a rectangle.
-const NO_END: u32 = 65536;
 
 // Whether two pairs of lines have a track in common: each starts before the other ends.
 fn meet(a: LinePair, b: LinePair) -> bool
@@ -42,22 +39,24 @@ pub fn in_way(words: &[u64], rectangle: Rectangle) -> Option<usize>
     first_overlap(words, rectangle)
 }
 
-// The smaller of two ends, of which the first counts where it lies past a row.
-fn nearer_end(row: u32, end: u32, nearest: u32) -> u32
+// The smaller of an end and one found before it; the end counts where it lies past a row.
+fn nearer_end(row: u32, end: u32, nearest: Option<u32>) -> Option<u32>
     ensures { result ≡ nearer_end row end nearest }
 {
     if end <= row {
         return nearest;
     }
-    end.min(nearest)
+    match nearest {
+        Some(found) => Some(end.min(found)),
+        None => Some(end),
+    }
 }
 
-// The least row line past a row at which a placed rectangle ends; 65,536 where none does.
-pub(crate) fn next_end(words: &[u64], row: u32) -> u32
-    requires { row < 65536 }
-    ensures { NextEnd words.now (length words.now) row result }
+// The least row line past a row at which a placed rectangle ends.
+pub(crate) fn next_end(words: &[u64], row: u32) -> Option<u32>
+    ensures { NextEnds words.now (length words.now) row result }
 {
-    let mut nearest = NO_END;
+    let mut nearest: Option<u32> = None;
     for word in words {
         nearest = nearer_end(row, Rectangle::from(*word).rows.end, nearest);
     }

@@ -1,19 +1,14 @@
--- A text that a line feed ends. Assumes nothing.
-use Prim.Native.Nat.{ℕ, ◌+◌, ◌-◌, ◌≤◌, ◌<◌}
-use mathlib.Core.Path.{◌≡◌, sym}
-use mathlib.Core.List.{List}
-use native.Mathlib.Omega.{arith}
-use lib.ListN.{length, drop}
-use borrow.Author.Tests.{lt-ltb, le-ltb}
+-- Whether a text has a line feed. Assumes nothing.
+use Rattle.std.proofs.Common.{◌≡◌, ℕ, List, [], ◌∷◌, Bool, true, false, cond, not, ◌||◌, eqb, length, refl, suc, sym, ◌∙◌}
+use Rattle.std.proofs.Math.Dec.{eqb-suc-suc, eqb-zero-suc}
+use Rattle.std.specs.List.{list_any}
 use Rattle.text.specs.Split.{before}
-use Rattle.history_lines.specs.Found.{ended_at}
-use Rattle.std.specs.Prelude.{Some, None}
 
-module _ (s : List ℕ) (start end : ℕ) (e : end ≡ start + before 10 (drop start s)) where
-  pub not-ended : length s ≤ end → None ≡ ended_at s start
-  unfolding ended_at
-  not-ended h = rw (sym e, le-ltb end (length s) h)
-
-  pub ended : end < length s → Some (record { text = record { offset = start; length = end - start }; after = end + 1 }) ≡ ended_at s start
-  unfolding ended_at
-  ended h = let w : end - start ≡ before 10 (drop start s) = omega arith in rw (w, sym e, lt-ltb end (length s) h)
+pub no_feed : (t : List ℕ) → not (list_any (λ y. eqb y 10) t) ≡ eqb (before 10 t) (length t)
+unfolding before
+no_feed [] = refl
+no_feed (x ∷ xs) = go (eqb x 10) (no_feed xs)
+  where
+    go : (t : Bool) → not (list_any (λ y. eqb y 10) xs) ≡ eqb (before 10 xs) (length xs) → not (t || list_any (λ y. eqb y 10) xs) ≡ eqb (cond t 0 (suc (before 10 xs))) (suc (length xs))
+    go true h = sym (eqb-zero-suc (length xs))
+    go false h = h ∙ sym (eqb-suc-suc (before 10 xs) (length xs))

@@ -14,10 +14,10 @@ use Rattle.text.specs.Places.{part_at}
 use Rattle.text.proofs.Cut.{Free}
 use Rattle.text.proofs.Which.{same_equal, same_self}
 use Rattle.history_lines.specs.declared.HistoryLine.{HistoryLine}
-use Rattle.history_lines.specs.Decimal.{decimal}
+use Rattle.text.specs.Decimal.{decimal}
 use Rattle.history_lines.specs.Lines.{history_line}
-use Rattle.history_lines.specs.Found.{after_text, ended_at, ended_after, line_at}
-use Rattle.history_lines.proofs.Steps.{line-length}
+use Rattle.history_lines.specs.Found.{mark, after_text, ended_at, ended_after, line_at}
+use Rattle.history_lines.proofs.Steps.{length_line}
 use Rattle.std.specs.Prelude.{Option, Some, None}
 
 -- ---- a text that stands at a place
@@ -103,9 +103,6 @@ pub record LineThere (n : ℕ) (s : List ℕ) (p : ℕ) (line : HistoryLine) : T
   pub stands : drop p s ≡ history_line n text ++ drop line.after s
 
 -- its number and a tab
-abbrev mark : ℕ → List ℕ
-mark n = decimal n ++ (9 ∷ [])
-
 mark-length : (n : ℕ) → length (mark n) ≡ length (decimal n) + 1
 mark-length n = length-append (decimal n) (9 ∷ [])
 
@@ -125,7 +122,7 @@ module _ (n : ℕ) (s : List ℕ) (p : ℕ) where
           let after : start + (k + 1) ≡ line.after = omega (arith, ap (λ (x : HistoryLine). x.after) l) in
           let w : length (take k (drop start s)) ≡ k = length-take-le k (drop start s) (omega (arith, length-drop start s)) in
           let o : start ≡ p + length (decimal n) + 1 = omega (arith, mark-length n) in
-          let z : start + k + 1 ≡ p + length (history_line n (take k (drop start s))) = omega (arith, line-length n (take k (drop start s))) in
+          let z : start + k + 1 ≡ p + length (history_line n (take k (drop start s))) = omega (arith, length_line n (take k (drop start s))) in
           record {
             text = take k (drop start s);
             free = f;
@@ -166,7 +163,7 @@ module _ (n : ℕ) (s : List ℕ) (p : ℕ) where
     unfolding line_at ended_after ended_at
     line-here f =
         let o : p + length (mark n) ≡ p + length (decimal n) + 1 = omega (arith, mark-length n) in
-        let z : p + length (history_line n t) ≡ p + length (decimal n) + 1 + length t + 1 = omega (arith, line-length n t) in
+        let z : p + length (history_line n t) ≡ p + length (decimal n) + 1 + length t + 1 = omega (arith, length_line n t) in
         let g = ap length text-starts in
         let less : p + length (decimal n) + 1 + length t < length s =
         omega (arith, g, length-drop (p + length (decimal n) + 1) s, length-append t (10 ∷ r)) in

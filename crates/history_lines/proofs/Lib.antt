@@ -1,5 +1,4 @@
 -- Laws of the lines of a history.
-pub mod Decimals
 pub mod Places
 pub mod Ends
 pub mod Steps

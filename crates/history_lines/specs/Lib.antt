@@ -1,5 +1,4 @@
 -- What the contracts on the lines of a history cite.
-pub mod Decimal
 pub mod Lines
 pub mod Found
 pub mod Written

@@ -1,7 +1,7 @@
 -- A history (document 02, request 14): "a lent history takes each accepted edit as a tabbed line from its first byte on: a step number from 1,
 -- then the sheet's line". A text has no line feed (10), which ends its line.
 use Rattle.std.specs.Prelude.{ℕ, suc, List, [], ◌∷◌, ◌++◌}
-use Rattle.history_lines.specs.Decimal.{decimal}
+use Rattle.text.specs.Decimal.{decimal}
 
 -- a step's number, a tab, its text, a line feed
 unfoldable pub history_line : ℕ → List ℕ → List ℕ

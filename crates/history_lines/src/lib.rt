@@ -2,7 +2,6 @@
 
 #![tactic(auto)]
 
-pub mod digits;
 pub mod find;
 pub mod write;
 

@@ -1,4 +1,5 @@
 -- An axis is answered its least resize where it can be asked, and is refused elsewhere; its count is CSS's at every size. Assumes nothing.
+use Rattle.std.proofs.lemmas.Bool.{and_parts}
 use Rattle.std.specs.Prelude.{Some, Option, None}
 use Prim.Native.Nat.{ℕ, ◌≤◌, ◌<◌}
 use mathlib.Core.Path.{◌≡◌, refl, sym, ap, ◌∙◌, subst}
@@ -25,7 +26,6 @@ use Rattle.template_rules.specs.declared.AutoRepeatStrategy.{AutoRepeatStrategy}
 use Rattle.template_rules.specs.declared.TemplateSize.{TemplateSize}
 use Rattle.template_rules.proofs.Valid.{valid_css, in_count, one_at_most, automatic_component}
 use Rattle.template_rules.proofs.Answer.{valid_repetitions_css, size-repeated}
-use Rattle.template_rules.proofs.Tests.{and_parts}
 use Rattle.explicit_size.specs.Repeat.{gathered_of, asks_of, repeats_automatically, repetitions_in}
 use Rattle.least_resize.specs.Search.{repetitions_at, least_resize}
 use Rattle.least_resize.specs.Whole.{IsPixels, whole_size_of}

@@ -26,19 +26,14 @@ impl From<Result<Option<u32>, Fault>> for ResizeAnswer {
     fn from(found: Result<Option<u32>, Fault>) -> ResizeAnswer {
         match found {
             Ok(Some(size)) => ResizeAnswer {
-                number: 0,
                 found: 1,
                 size,
+                ..ResizeAnswer::default()
             },
-            Ok(None) => ResizeAnswer {
-                number: 0,
-                found: 0,
-                size: 0,
-            },
+            Ok(None) => ResizeAnswer::default(),
             Err(fault) => ResizeAnswer {
                 number: u32::from(fault),
-                found: 0,
-                size: 0,
+                ..ResizeAnswer::default()
             },
         }
     }
@@ -58,11 +53,7 @@ pub fn resize_answer(
     if !repeats_automatically(template) {
         return Err(Fault::Value);
     }
-    let Some(length) = length_alone(gap) else {
-        return Err(Fault::Value);
-    };
-    let Some(size) = size_now(inner) else {
-        return Err(Fault::Value);
-    };
+    let length = length_alone(gap).ok_or(Fault::Value)?;
+    let size = size_now(inner).ok_or(Fault::Value)?;
     Ok(least_resize(template, strategy, length, size))
 }

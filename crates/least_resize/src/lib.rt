@@ -12,7 +12,7 @@ pub use search::least_resize;
 
 // The answer for an axis, or a refusal and zeros: whether there is a size at which the count differs, 1 or 0, and the least resize.
 #[repr(C)]
-#[derive(Clone, Copy, Debug, PartialEq, Eq)]
+#[derive(Clone, Copy, Debug, PartialEq, Eq, Default)]
 pub struct ResizeAnswer {
     pub number: u32,
     pub found: u32,

@@ -4,13 +4,12 @@ ghost use Rattle.sizing.specs.Words.{sizing_of, kind_of};
 ghost use Rattle.least_resize.specs.Percentages.{has_percentage};
 
 use sizing::Sizing;
-use sizing::word::sizing_of;
 
 // Whether the size of a word is a percentage.
 fn is_percentage(word: u64) -> bool
     ensures { result ≡ eqb (kind_of (sizing_of word)) 1 }
 {
-    matches!(sizing_of(word), Sizing::Percent(_))
+    matches!(Sizing::from(word), Sizing::Percent(_))
 }
 
 // Whether one of these sizes, minimums or maximums, is a percentage.
@@ -18,10 +17,5 @@ fn is_percentage(word: u64) -> bool
 pub fn has_percentage(sizes: &[u64]) -> bool
     ensures { result ≡ has_percentage sizes.now }
 {
-    for word in sizes {
-        if is_percentage(*word) {
-            return true;
-        }
-    }
-    false
+    sizes.iter().any(|word| is_percentage(*word))
 }

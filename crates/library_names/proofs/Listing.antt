@@ -14,9 +14,12 @@ use Rattle.coordinates.proofs.Faults.{fault_some}
 use Rattle.name_lists.specs.Lists.{lists, Written}
 use Rattle.name_lists.proofs.Counting.{few-lists}
 use Rattle.coordinates.specs.declared.axis.Axis.{Axis}
+use Rattle.panel_names.proofs.LineEntries.{words_of}
 use Rattle.axis_tables.specs.declared.AxisGrid.{AxisGrid}
 use Rattle.panel_tables.specs.Regions.{axis_words_in, first_word}
-use Rattle.panel_rules.specs.Calls.{entry_words_in}
+use Rattle.coordinates.specs.declared.axis.Axis.TheVariants.{Column, Row}
+use Rattle.name_entries.specs.LineNames.{of_axis}
+use Rattle.panel_rules.specs.Calls.{NameTables, entry_words_in, shorter_store, store_in}
 use Rattle.library_numbers.specs.Answers.{answered_count_numbers}
 use Rattle.library_names.specs.Lists.{lists_refusal, written_lists}
 
@@ -35,6 +38,14 @@ module _ (explicit bytes : ℕ) where
 pub axis_long : (a : Axis) (words : List ℕ) → length (axis_words_in a words) ≤ 12480
 unfolding axis_words_in
 axis_long a words = let e = length-take 12480 (drop (first_word a) words) in omega (arith, e)
+
+pub words_long : (a : Axis) (words : List ℕ) → length (of_axis a (axis_words_in Column words) (axis_words_in Row words)) ≤ 12480
+words_long a words = rw (words_of a words) (axis_long a words)
+
+-- a store is no shorter than the shorter one
+pub shorter_fits : (t : NameTables) (a : Axis) → shorter_store t ≤ length (store_in t a)
+shorter_fits t Column = omega arith
+shorter_fits t Row = omega arith
 
 -- and so its entries are 4,096 at most
 few-entries : (s : AxisGrid) (words : List ℕ) → length words ≤ 12480 → length (entry_words_in s words) ≤ 4096

@@ -83,22 +83,24 @@ fn end_number(end: NonNamedGridPlacement) -> i32
     }
 }
 
-// A resolved placement.
-#[tactic(auto, unfolding(crate::specs::Answers::placement_numbers))]
-fn placed_numbers(placed: PlacedLine) -> PlacementNumbers
-    ensures { result ≡ placement_numbers (answered_placement (Ok placed)) }
-{
-    let line = placed.line;
-    let held = placed.held;
-    PlacementNumbers {
-        number: 0,
-        axis: u32::from(placed.axis),
-        startkind: end_kind(line.start),
-        startnumber: end_number(line.start),
-        endkind: end_kind(line.end),
-        endnumber: end_number(line.end),
-        startheld: u32::from(held.start),
-        endheld: u32::from(held.end),
+impl From<PlacedLine> for PlacementNumbers {
+    ghost from_gives = { λ placed numbers. numbers ≡ placement_numbers (answered_placement (Ok placed)) };
+
+    // A resolved placement.
+    #[tactic(auto, unfolding(crate::specs::Answers::placement_numbers))]
+    fn from(placed: PlacedLine) -> PlacementNumbers {
+        let line = placed.line;
+        let held = placed.held;
+        PlacementNumbers {
+            number: 0,
+            axis: u32::from(placed.axis),
+            startkind: end_kind(line.start),
+            startnumber: end_number(line.start),
+            endkind: end_kind(line.end),
+            endnumber: end_number(line.end),
+            startheld: u32::from(held.start),
+            endheld: u32::from(held.end),
+        }
     }
 }
 
@@ -109,7 +111,7 @@ impl From<Result<PlacedLine, Fault>> for PlacementNumbers {
     #[tactic(auto, unfolding(crate::specs::Answers::placement_numbers))]
     fn from(answer: Result<PlacedLine, Fault>) -> PlacementNumbers {
         match answer {
-            Ok(placed) => placed_numbers(placed),
+            Ok(placed) => PlacementNumbers::from(placed),
             Err(fault) => PlacementNumbers {
                 number: u32::from(fault),
                 ..PlacementNumbers::default()

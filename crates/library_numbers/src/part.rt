@@ -2,32 +2,16 @@
 ghost use Rattle.std.specs.Prelude.{◌≡◌};
 ghost use Rattle.std.specs.Option.{unwrap_or};
 ghost use Rattle.name_entries.specs.LineEntries.{no_entry};
-ghost use Rattle.name_entries.specs.LineNames.{of_axis};
 ghost use Rattle.library_numbers.specs.Answers.{name_part};
 
 use crate::NameAnswer;
-use coordinates::Axis;
 use name_entries::NameEntry;
-
-// Of the lengths of two stores the one of an axis.
-pub fn store_length(axis: Axis, columns: usize, rows: usize) -> usize
-    ensures { result ≡ of_axis axis columns rows }
-{
-    match axis {
-        Axis::Column => columns,
-        Axis::Row => rows,
-    }
-}
 
 // The part of a store of so many bytes that holds an entry's name, cut where the store ends; an empty one where there is no entry.
 pub fn name_part(bytes: usize, entry: Option<NameEntry>) -> NameAnswer
     ensures { result ≡ name_part bytes (unwrap_or entry no_entry) }
 {
-    let shown = entry.unwrap_or(NameEntry {
-        line: 0,
-        offset: 0,
-        length: 0,
-    });
+    let shown = entry.unwrap_or_default();
     let left = bytes.saturating_sub(shown.offset as usize);
     NameAnswer {
         number: 0,

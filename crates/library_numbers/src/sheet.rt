@@ -26,6 +26,10 @@ impl From<SheetFault> for SheetAnswer {
                 line: at.line,
                 ..SheetAnswer::default()
             },
+            SheetFault::Whole(fault) => SheetAnswer {
+                number: u32::from(fault),
+                ..SheetAnswer::default()
+            },
         }
     }
 }
@@ -45,19 +49,21 @@ impl From<Result<Panel, SheetFault>> for SheetAnswer {
     }
 }
 
-// What answers are read from of a sheet, as numbers.
-fn display_numbers(display: Display) -> DisplayAnswer
-    ensures { result ≡ display_answer (answered_display (Ok display)) }
-{
-    let (earlier, later) = match display.overlap {
-        Some(pair) => (pair.earlier, pair.later),
-        None => (0, 0),
-    };
-    DisplayAnswer {
-        earlier,
-        later,
-        grid: display.grid,
-        ..DisplayAnswer::default()
+impl From<Display> for DisplayAnswer {
+    ghost from_gives = { λ display answer. answer ≡ display_answer (answered_display (Ok display)) };
+
+    // What answers are read from of a sheet, as numbers.
+    fn from(display: Display) -> DisplayAnswer {
+        let (earlier, later) = match display.overlap {
+            Some(pair) => (pair.earlier, pair.later),
+            None => (0, 0),
+        };
+        DisplayAnswer {
+            earlier,
+            later,
+            grid: display.grid,
+            ..DisplayAnswer::default()
+        }
     }
 }
 
@@ -67,7 +73,7 @@ impl From<Result<Display, SheetFault>> for DisplayAnswer {
     // The answer as numbers, for programs in C.
     fn from(read: Result<Display, SheetFault>) -> DisplayAnswer {
         match read {
-            Ok(display) => display_numbers(display),
+            Ok(display) => DisplayAnswer::from(display),
             Err(fault) => {
                 let refused = SheetAnswer::from(fault);
                 DisplayAnswer {

@@ -10,6 +10,7 @@ use borrow.Author.Tests.{eq-eqb, ne_eqb}
 use lib.Dec.{leb, eqb}
 use lib.ListN.{length}
 use lib.Seq.{sets}
+use Rattle.std.proofs.lemmas.Bool.{cases_lt}
 use Rattle.sizing.specs.declared.MinMax.{MinMax}
 use Rattle.sizing.specs.declared.Sizing.{Sizing}
 use Rattle.sizing.specs.declared.Sizing.TheVariants.{Length}
@@ -29,7 +30,6 @@ use Rattle.track_rules.specs.Tracks.{grid_track, gutter_of, track_of}
 use Rattle.track_rules.specs.declared.Cursor.{Cursor}
 use Rattle.track_rules.specs.Steps.{word_totals, written_count, cursor_at, track_at, plan_of, track_with, pair_with, record_with, record_of}
 use Rattle.track_rules.specs.declared.WrittenTrack.{WrittenTrack}
-use Rattle.track_rules.proofs.Lists.{lt_or_ge}
 use Rattle.track_rules.proofs.Words.{totals_words}
 use Rattle.track_rules.proofs.RecordList.{plan-written, record_first, record-later, record_of_lem}
 use Rattle.track_run.proofs.Filling.{state-record}
@@ -42,10 +42,6 @@ use Rattle.library_records.specs.Pairs.{record_numbers, joined, axis_pair, recor
 use Rattle.library_records.proofs.Pairs.{joined-none, joined-one, three-runs}
 use Rattle.track_rules.specs.Numbers.{kind_number, source_number}
 use Rattle.library_numbers.specs.Records.{size_word, record_words, run_words}
-
--- there are at most 60,001 records
-pub few_records : (s : AxisGrid) → records_in (axis_tracks s) ≤ 60001
-few_records s = omega arith
 
 -- ---- how many records are at the ends of a run, and what lies between
 
@@ -125,7 +121,7 @@ module _ (a : AxisTracks) (cs : List Component) (sp : List MinMax) (items : List
         ∙ ⊎_elim
         (λ (g : pairs < 1). let z : 2 * pairs ≡ 0 = omega arith in rw z (joined-none words_at (2 * ((first + head) / 2) + 1) ∙ sym (joined-none words_at (first + head))))
         (λ (g : 1 ≤ pairs). ap (λ (k : ℕ). joined words_at k (2 * pairs)) (starts (omega arith)))
-        (lt_or_ge pairs 1)
+        (cases_lt pairs 1)
       where
         starts : 2 ≤ count - head → 2 * ((first + head) / 2) + 1 ≡ first + head
         starts g = let o : head ≡ 1 - first % 2 = omega arith in odd-start first head o

@@ -6,13 +6,13 @@ ghost use Rattle.axis_tables.specs.Runs.{part_of};
 ghost use Rattle.panel_rules.specs.Calls.{axis_tracks, template_in, spares_in};
 ghost use Rattle.library_records.specs.Pairs.{joined, gutters_of, axis_pair};
 
-use crate::implicit::{write_negative, write_positive};
 use crate::template::write_template;
-use crate::{Gutters, LentAxis, Stretch};
+use crate::{Gutters, SizedTracks, Stretch};
 use axis_tables::AxisGrid;
 use library_numbers::numbers::size_word;
-use panel_calls::axis_track::axis_tracks;
+use panel_calls::axis_track::{LentAxis, axis_tracks};
 use panel_calls::part::spares_on;
+use sizing::Sizing;
 use track_record::count::before_end;
 use track_rules::Plan;
 
@@ -21,7 +21,7 @@ fn gutters_of(grid: AxisGrid, plan: Plan) -> Gutters
     ensures { result ≡ gutters_of (axis_tracks grid) plan }
 {
     Gutters {
-        gap: size_word(sizing::word::sizing_of(grid.space.gap)),
+        gap: size_word(Sizing::from(grid.space.gap)),
         opened: plan.opened,
     }
 }
@@ -42,13 +42,19 @@ pub(crate) fn write_pairs(lent: LentAxis, plan: Plan, tracks: Stretch, words: &m
     let end = negative + plan.written as u64;
     let gutters = gutters_of(grid, plan);
     let spares = spares_on(grid, tables);
+    let sized = SizedTracks {
+        minimums: spares.minimums,
+        maximums: spares.maximums,
+        items,
+        gutters,
+    };
     let before = before_end(negative, tracks.first as u64, tracks.count);
     let early = Stretch {
         first: tracks.first,
         count: before,
         place: tracks.place,
     };
-    write_negative(spares, items, negative, gutters, early, words);
+    sized.write_negative(negative, early, words);
     let first = tracks.first + before;
     let written = before_end(end, first as u64, tracks.count - before);
     let middle = Stretch {
@@ -66,5 +72,5 @@ pub(crate) fn write_pairs(lent: LentAxis, plan: Plan, tracks: Stretch, words: &m
     };
     let passed = (next as u64).saturating_sub(end);
     let explicit = negative + counts.explicit as u64;
-    write_positive(spares, items, explicit, passed, gutters, late, words);
+    sized.write_positive(explicit, passed, late, words);
 }

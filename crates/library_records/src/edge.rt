@@ -6,11 +6,11 @@ ghost use Rattle.track_rules.specs.Steps.{plan_of};
 ghost use Rattle.panel_rules.specs.Calls.{axis_tracks, template_in, spares_in};
 ghost use Rattle.library_records.specs.Pairs.{joined, record_at};
 
+use crate::Stretch;
 use crate::axis::write_pairs;
 use crate::pair::put_record;
-use crate::{LentAxis, Stretch};
 use library_numbers::numbers::size_word;
-use panel_calls::axis_track::{axis_tracks, carried_on, plan_on};
+use panel_calls::axis_track::{LentAxis, axis_tracks};
 use panel_calls::part::template_on;
 use track_record::rule::cursor_at;
 use track_rules::{GridTrackKind, Plan, TrackSource, TrackWalk};
@@ -21,15 +21,11 @@ fn write_record(lent: LentAxis, plan: Plan, index: usize, words: &mut [u64], pla
     requires place_in_bounds { place + 3 ≤ length words.old }
     ensures { words.new ≡ sets words.old place (record_at lent.entry.grid lent.entry.tables.now lent.entry.items.now index) }
 {
-    let LentAxis {
-        grid,
-        tables,
-        items,
-    } = lent;
-    let axis = axis_tracks(grid);
-    let cursor = cursor_at(template_on(grid, tables).components, axis, index as u64);
+    let axis = axis_tracks(lent.grid);
+    let template = template_on(lent.grid, lent.tables);
+    let cursor = cursor_at(template.components, axis, index as u64);
     let at = TrackWalk { axis, plan, cursor };
-    let track = carried_on(grid, tables, items, at, index);
+    let track = lent.carried(at, index);
     put_record(
         words,
         place,
@@ -72,7 +68,7 @@ pub(crate) fn write_axis(lent: LentAxis, first: usize, count: usize, words: &mut
     requires count_in_bounds { 3 * count ≤ length words.old }
     ensures { words.new ≡ sets words.old 0 (joined (record_at lent.entry.grid lent.entry.tables.now lent.entry.items.now) first count) }
 {
-    let plan = plan_on(lent.grid, lent.tables, lent.items);
+    let plan = lent.plan();
     let head = head_count(first, count);
     let start = Stretch {
         first,

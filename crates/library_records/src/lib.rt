@@ -14,10 +14,9 @@ ghost use Rattle.library_numbers.specs.Records.{run_words, run_refusal, run_coun
 
 use axis_tables::AxisGrid;
 use coordinates::{Axis, Fault};
-use panel_calls::axis_track::axis_tracks;
+use panel_calls::axis_track::{LentAxis, axis_tracks, record_count};
 use panel_tables::Grid;
-use panel_tables::axis::grid_in;
-use panel_tables::region::{PANEL_WORDS, axis_words};
+use panel_tables::region::PANEL_WORDS;
 use track_record::Repeated;
 use track_record::plan::track_count;
 use track_rules::{Cursor, TrackSource};
@@ -36,19 +35,20 @@ use edge::write_axis;
 // The words of a record.
 const RECORD_WORDS: usize = 3;
 
-// An axis to be read: what is kept of it, and its words and item bytes, which are lent.
-#[derive(Clone, Copy)]
-pub(crate) struct LentAxis<'a> {
-    pub grid: AxisGrid,
-    pub tables: &'a [u64],
-    pub items: &'a [u8],
-}
-
 // What all gutters share: the word of the gap, and one past the last open track.
 #[derive(Clone, Copy, Debug, PartialEq, Eq)]
 pub(crate) struct Gutters {
     pub gap: u64,
     pub opened: u64,
+}
+
+// What the tracks of a run are written from: the tables of their sizes, the item bytes, and what their gutters share.
+#[derive(Clone, Copy)]
+pub(crate) struct SizedTracks<'a> {
+    pub minimums: &'a [u64],
+    pub maximums: &'a [u64],
+    pub items: &'a [u8],
+    pub gutters: Gutters,
 }
 
 // A stretch of tracks or records to write: the first, how many, and the place of their words.
@@ -93,11 +93,10 @@ fn write_records(lent: LentAxis, first: usize, count: usize, words: &mut [u64])
 fn check_run(grid: AxisGrid, items: usize, lent: usize, first: u32) -> Result<(), Fault>
     ensures { refused_by result ≡ run_refusal grid items lent first }
 {
-    let tracks = track_count(axis_tracks(grid));
-    if 2 * tracks + 1 <= first {
+    if record_count(grid) <= first {
         return Err(Fault::Count);
     }
-    if items < tracks as usize || lent < RECORD_WORDS {
+    if items < track_count(axis_tracks(grid)) as usize || lent < RECORD_WORDS {
         return Err(Fault::Short);
     }
     Ok(())
@@ -109,7 +108,7 @@ fn run_count(grid: AxisGrid, lent: usize, first: u32) -> usize
     requires { first ≤ records_in (axis_tracks grid) }
     ensures { result ≡ run_count grid lent first }
 {
-    let left = 2 * track_count(axis_tracks(grid)) + 1 - first;
+    let left = record_count(grid) - first;
     (left as usize).min(lent / RECORD_WORDS)
 }
 
@@ -135,10 +134,5 @@ pub fn write_run(
 ) -> Result<u64, Fault>
     ensures { record { answer = answered_count_numbers result; words = records.new } ≡ written_run (grid_in grid axis) (axis_words_in axis words.now) items.now first records.old }
 {
-    let lent = LentAxis {
-        grid: grid_in(grid, axis),
-        tables: axis_words(words, axis),
-        items,
-    };
-    write_on(lent, first, records)
+    write_on(LentAxis::of_panel(grid, words, axis, items), first, records)
 }

@@ -7,7 +7,7 @@ ghost use Rattle.track_rules.specs.Numbers.{kind_number, source_number};
 ghost use Rattle.library_records.specs.Pairs.{record_numbers, pair_words};
 
 use crate::size::size_at;
-use crate::{Gutters, PlacedTrack};
+use crate::{PlacedTrack, SizedTracks};
 use track_record::collapse::{gutter_collapses, track_collapses};
 use track_rules::{GridTrackKind, TrackSource};
 
@@ -45,38 +45,33 @@ pub(crate) fn put_record(
     words[place + 2] = open_word(collapsed, high);
 }
 
-// Writes a track, its sizes at a place of the tables, and the gutter after it.
-pub(crate) fn put_pair(
-    minimums: &[u64],
-    maximums: &[u64],
-    items: &[u8],
-    track: PlacedTrack,
-    gutters: Gutters,
-    words: &mut [u64],
-    place: usize,
-)
-    requires number_bound { track.number < 4294967296 }
-    requires place_in_bounds { place + 6 ≤ length words.old }
-    ensures { words.new ≡ sets words.old place (pair_words gutters (item_at items.now) track.number (record { size = min_max_of (get_or minimums.now track.size 0) (get_or maximums.now track.size 0); source = track.source; fit = track.fit })) }
-{
-    let collapsed = track_collapses(items, track.fit, track.number);
-    put_record(
-        words,
-        place,
-        GridTrackKind::Track,
-        track.source,
-        collapsed,
-        size_at(minimums, track.size),
-        size_at(maximums, track.size),
-    );
-    let shut = gutter_collapses(collapsed, gutters.opened, track.number + 1);
-    put_record(
-        words,
-        place + 3,
-        GridTrackKind::Gutter,
-        TrackSource::Gutter,
-        shut,
-        gutters.gap,
-        gutters.gap,
-    );
+impl SizedTracks<'_> {
+    // Writes a track, its sizes at a place of the tables, and the gutter after it.
+    pub(crate) fn put_pair(self, track: PlacedTrack, words: &mut [u64], place: usize)
+        requires number_bound { track.number < 4294967296 }
+        requires place_in_bounds { place + 6 ≤ length words.old }
+        ensures { words.new ≡ sets words.old place (pair_words self.entry.gutters (item_at self.entry.items.now) track.number (record { size = min_max_of (get_or self.entry.minimums.now track.size 0) (get_or self.entry.maximums.now track.size 0); source = track.source; fit = track.fit })) }
+    {
+        let collapsed = track_collapses(self.items, track.fit, track.number);
+        put_record(
+            words,
+            place,
+            GridTrackKind::Track,
+            track.source,
+            collapsed,
+            size_at(self.minimums, track.size),
+            size_at(self.maximums, track.size),
+        );
+        let gap = self.gutters.gap;
+        let shut = gutter_collapses(collapsed, self.gutters.opened, track.number + 1);
+        put_record(
+            words,
+            place + 3,
+            GridTrackKind::Gutter,
+            TrackSource::Gutter,
+            shut,
+            gap,
+            gap,
+        );
+    }
 }

@@ -3,8 +3,7 @@ ghost use Rattle.std.specs.Prelude.{◌≡◌, ◌+◌, ◌≤◌, ◌<◌, leng
 ghost use Rattle.library_records.specs.Parts.{single_at, singles_of, singles_at, component_part, part_at};
 
 use crate::TemplatePart;
-use template_rules::RepetitionCount;
-use template_rules::component::component_of;
+use template_rules::{GridTemplateComponent, RepetitionCount};
 use track_record::Repeated;
 use track_record::component::repeated_of;
 use track_record::count::before_end;
@@ -16,7 +15,7 @@ use track_rules::{Cursor, TrackSource};
 fn single_at(word: u64, place: u64) -> bool
     ensures { result ≡ single_at place word }
 {
-    let component = component_of(word);
+    let component = GridTemplateComponent::from(word);
     matches!(component.count, RepetitionCount::Single) && component.first == place
 }
 

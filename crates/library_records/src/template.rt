@@ -6,9 +6,9 @@ ghost use Rattle.axis_tables.specs.Runs.{part_of};
 ghost use Rattle.panel_rules.specs.Calls.{template_in};
 ghost use Rattle.library_records.specs.Pairs.{joined, template_pair};
 
-use crate::part::write_part;
 use crate::taken::part_at;
-use crate::{Gutters, LentAxis, Stretch};
+use crate::{Gutters, SizedTracks, Stretch};
+use panel_calls::axis_track::LentAxis;
 use panel_calls::part::template_on;
 use track_rules::Cursor;
 
@@ -25,6 +25,12 @@ pub(crate) fn write_template(
     ensures { words.new ≡ sets words.old tracks.place (joined (template_pair (word_totals lent.entry.grid.size.repetitions (part_of lent.entry.tables.now 0 lent.entry.grid.template.components)) (template_in lent.entry.grid lent.entry.tables.now) lent.entry.items.now offset tracks.first gutters) tracks.first tracks.count) }
 {
     let template = template_on(lent.grid, lent.tables);
+    let sized = SizedTracks {
+        minimums: template.minimums,
+        maximums: template.maximums,
+        items: lent.items,
+        gutters,
+    };
     let mut at = Cursor {
         component: 0,
         offset,
@@ -38,16 +44,7 @@ pub(crate) fn write_template(
             count: part.count,
             place: tracks.place + 6 * done,
         };
-        write_part(
-            template.minimums,
-            template.maximums,
-            lent.items,
-            part.repeated,
-            at.offset,
-            gutters,
-            stretch,
-            words,
-        );
+        sized.write_part(part.repeated, at.offset, stretch, words);
         at = part.after;
         done += part.count;
     }

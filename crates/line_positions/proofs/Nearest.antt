@@ -1,4 +1,5 @@
 -- The nearest line: none is nearer, none lower is as near, and there is one. Assumes nothing.
+use Rattle.std.proofs.lemmas.Bool.{cases_lt}
 use Rattle.std.specs.Prelude.{Option}
 use mathlib.Core.Path.{◌≡◌, refl, sym, subst}
 use mathlib.Core.Logic.{⊎_elim}
@@ -11,7 +12,6 @@ use lib.Ieee.{Float, lt, le}
 use Rattle.sizing.specs.Words.{largest_bits, float_up_to}
 use Rattle.sizing.proofs.Operations.{nonneg}
 use Rattle.track_rules.specs.declared.GridTrack.{GridTrack}
-use Rattle.track_rules.proofs.Lists.{lt_or_ge}
 use Rattle.line_positions.specs.Positions.{tracks_among, position_of, distance_of, nearest_among, nearest_of, Nearest, InRange}
 use Rattle.line_positions.proofs.Walk.{nearest_le}
 use Rattle.line_positions.proofs.Differences.{le_self, le_trans_nonneg, less_le, less_than, not-less, not-above, distance_nonneg}
@@ -36,14 +36,14 @@ module _ (position : ℕ → Float) (x : Float) (fine : (k : ℕ) → T (nonneg 
         λ j h. ⊎_elim
             (λ (u : j < suc n). le_trans_nonneg (far (suc n)) (far m) (far j) (fine (suc n)) (fine m) (fine j) (less_le (far (suc n)) (far m) (fine (suc n)) (fine m) (subst T (sym e) tt)) (best.0 j (omega arith)))
             (λ (u : suc n ≤ j). let k : j ≡ suc n = omega arith in rw k (le_self (far (suc n)) (fine (suc n))))
-            (lt_or_ge j (suc n)),
+            (cases_lt j (suc n)),
         λ j h. less_than (far (suc n)) (far m) (far j) (fine (suc n)) (fine m) (fine j) (subst T (sym e) tt) (best.0 j (omega arith)),
       )
       go m best false e = (
         λ j h. ⊎_elim
             (λ (u : j < suc n). best.0 j (omega arith))
             (λ (u : suc n ≤ j). let k : j ≡ suc n = omega arith in rw k (not-less (far (suc n)) (far m) (fine (suc n)) (fine m) e))
-            (lt_or_ge j (suc n)),
+            (cases_lt j (suc n)),
         best.1,
       )
 
@@ -75,5 +75,5 @@ module _ (inner : Option Float) (records : List GridTrack) (ranges : InRange inn
       ⊎_elim
       (λ (v : l < k). absurd (only (position_of inner records) (float_up_to largest_bits bits) fine (tracks_among records) l k q.least p.lowest p.line v))
       (λ (v : k ≤ l). omega arith)
-      (lt_or_ge l k))
-      (lt_or_ge k l)
+      (cases_lt l k))
+      (cases_lt k l)

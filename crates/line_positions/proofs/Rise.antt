@@ -1,4 +1,5 @@
 -- Positions of lines are finite, and none is less than the one before. Assumes nothing.
+use Rattle.std.proofs.lemmas.Bool.{cases_lt}
 use Rattle.std.specs.Prelude.{Option, Some, None}
 use mathlib.Core.Path.{◌≡◌, refl, sym, subst, ◌∙◌}
 use mathlib.Core.Logic.{⊎_elim}
@@ -24,7 +25,6 @@ use Rattle.sizing.proofs.Sums.{sum_one_more}
 use Rattle.sizing.proofs.Running.{Small, Smalls, track-small, sum_fits, sum_finite, sum_never_falls}
 use Rattle.track_rules.specs.declared.GridTrack.{GridTrack}
 use Rattle.track_rules.specs.Tracks.{zero_grid_track}
-use Rattle.track_rules.proofs.Lists.{lt_or_ge}
 use Rattle.line_positions.specs.Positions.{record_value_in, values_of, start_of, tracks_among, position_of, InnerInRange, SizesInRange, InRange}
 use Rattle.line_positions.proofs.Walk.{start-next}
 use Rattle.line_positions.proofs.Differences.{le_self, le_trans_nonneg}
@@ -134,7 +134,7 @@ module _ (inner : Option Float) (records : List GridTrack) (ranges : InRange inn
       ⊎_elim
       (λ (u : i < suc j). le_trans_nonneg (start_of inner records i) (start_of inner records j) (start_of inner records (suc j)) (start-finite i) (start-finite j) (start-finite (suc j)) (starts-rise i j (omega arith) (omega arith)) (start-rises j (omega arith)))
       (λ (u : suc j ≤ i). let e : i ≡ suc j = omega arith in rw e (le_self (start_of inner records (suc j)) (start-finite (suc j))))
-      (lt_or_ge i (suc j))
+      (cases_lt i (suc j))
 
   -- a line lies no earlier than the one before
   pub positions-rise : (j k : ℕ) → j ≤ k → T (le (position_of inner records j) (position_of inner records k))

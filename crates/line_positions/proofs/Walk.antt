@@ -1,4 +1,5 @@
 -- What one walk over the records gathers is what is defined over all of them. Assumes nothing.
+use Rattle.std.proofs.lemmas.Bool.{cases_lt}
 use Rattle.std.specs.Prelude.{Option}
 use Prim.Native.Nat.{ℕ, zero, suc, ◌+◌, ◌*◌, ◌/◌, ◌%◌, ◌≤◌, ◌<◌, min}
 use native.Mathlib.Omega.{arith}
@@ -16,8 +17,7 @@ use Rattle.sizing.specs.Words.{zero32}
 use Rattle.sizing.specs.Sums.{sum_from}
 use Rattle.sizing.specs.Definite.{is_definite, or_zero}
 use Rattle.track_rules.specs.declared.GridTrack.{GridTrack}
-use Rattle.track_rules.proofs.Lists.{lt_or_ge}
-use Rattle.line_positions.specs.declared.PixelSpan.{PixelSpan}
+use Rattle.line_positions.specs.declared.Span.{Span}
 use Rattle.line_positions.specs.declared.LineWalk.{LineWalk}
 use Rattle.line_positions.specs.Positions.{record_value_in, all_definite, values_of, start_of, tracks_among, position_of, distance_of, nearest_among, count_of}
 use Rattle.line_positions.specs.Steps.{nearer_than, one_more, line_met, line_at, record_passed, position_step, walk_begun, lines_met, nearest_met, distance_met, gathered, walked_to}
@@ -85,7 +85,7 @@ count_next : (f : ℕ → Bool) (m : ℕ) → m < 4294967295 → one_more (f m) 
 unfolding count_of
 count_next f m h = let k = count_le f m in one_more_is (f m) (count_of f m) (omega arith)
 
-module _ (span : PixelSpan) (position : ℕ → Float) where
+module _ (span : Span Float) (position : ℕ → Float) where
   later : (m : ℕ) → eqb (suc m) 0 ≡ false
   later m = ne_eqb (suc m) 0 (λ e. omega arith)
 
@@ -121,7 +121,7 @@ module _ (span : PixelSpan) (position : ℕ → Float) where
 
 -- ---- the walk
 
-module _ (span : PixelSpan) (inner : Option Float) (records : List GridTrack) where
+module _ (span : Span Float) (inner : Option Float) (records : List GridTrack) where
   abbrev last : ℕ
   last = 2 * tracks_among records
 
@@ -146,12 +146,12 @@ module _ (span : PixelSpan) (inner : Option Float) (records : List GridTrack) wh
       let m : (i + 1) / 2 ≡ i / 2 = omega arith in
       let p : min (2 * (i / 2) + 1) last ≡ i = omega arith in
       rw (ne_eqb (i % 2) 1 (λ e. omega arith), eq-eqb i last (omega arith), lt-ltb last (i + 1) (omega arith), m) (met i small p))
-      (lt_or_ge i last))
+      (cases_lt i last))
       (λ (odd : 1 ≤ i % 2).
       let m : (i + 1) / 2 ≡ suc (i / 2) = omega arith in
       let p : min (2 * (i / 2) + 1) last ≡ i = omega arith in
       rw (eq-eqb (i % 2) 1 (omega arith), le-ltb last (i + 1) (omega arith), m) (met i small p))
-      (lt_or_ge (i % 2) 1)
+      (cases_lt (i % 2) 1)
     where
       met : (i : ℕ) → i < 4294967295 → min (2 * (i / 2) + 1) last ≡ i → line_met span (here i (i / 2)) (i / 2) ≡ here i (suc (i / 2))
       met i small p =

@@ -1,4 +1,5 @@
 -- The lines within a span of pixels are those between two counts: positions never fall. Assumes nothing.
+use Rattle.std.proofs.lemmas.Bool.{cases_lt}
 use Rattle.std.specs.Prelude.{Option}
 use mathlib.Core.Path.{◌≡◌, refl, sym, subst}
 use mathlib.Core.Logic.{⊎_elim}
@@ -11,7 +12,6 @@ use lib.Ieee.{Float, lt, le}
 use Rattle.sizing.specs.Words.{largest_bits, float_up_to}
 use Rattle.sizing.proofs.Operations.{nonneg}
 use Rattle.track_rules.specs.declared.GridTrack.{GridTrack}
-use Rattle.track_rules.proofs.Lists.{lt_or_ge}
 use Rattle.line_positions.specs.Positions.{tracks_among, position_of, Within, count_of, lines_before, lines_up_to, InRange}
 use Rattle.line_positions.proofs.Walk.{count_le}
 use Rattle.line_positions.proofs.Differences.{le_trans_nonneg, not-less, not-above, less-under}
@@ -54,7 +54,7 @@ module _ (test : ℕ → Bool) (falls : (j k : ℕ) → j ≤ k → T (test k) �
       let s : T (test n) = subst (λ (i : ℕ). T (test i)) e t in
       let f = full n (λ j v. falls j n (omega arith) s) in
       rw (counted (test n) (count_of test n) s) (omega arith))
-      (lt_or_ge k n)
+      (cases_lt k n)
 
   -- and where it doesn't, neither that place nor any after it
   pub fails-from : (n k : ℕ) → k < n → (T (test k) → ⊥) → count_of test n ≤ k
@@ -69,7 +69,7 @@ module _ (test : ℕ → Bool) (falls : (j k : ℕ) → j ≤ k → T (test k) �
       let e : k ≡ n = omega arith in
       let c = count_le test n in
       rw (uncounted (test n) (count_of test n) (λ s. t (subst (λ (i : ℕ). T (test i)) (sym e) s))) (omega arith))
-      (lt_or_ge k n)
+      (cases_lt k n)
 
 module _ (inner : Option Float) (records : List GridTrack) (ranges : InRange inner records) where
   abbrev at : ℕ → Float

@@ -5,7 +5,7 @@ use Rattle.std.specs.Float.Ieee.{add, lt, le}
 use Rattle.sizing.specs.Words.{zero32}
 use Rattle.sizing.specs.Definite.{is_definite, or_zero}
 use Rattle.track_rules.specs.declared.GridTrack.{GridTrack}
-use Rattle.line_positions.specs.declared.PixelSpan.{PixelSpan}
+use Rattle.line_positions.specs.declared.Span.{Span}
 use Rattle.line_positions.specs.declared.LineWalk.{LineWalk}
 use Rattle.line_positions.specs.Positions.{record_value_in, all_definite, start_of, tracks_among, position_of, distance_of, nearest_among, count_of}
 
@@ -20,7 +20,7 @@ abbrev pub one_more : Bool → ℕ → ℕ
 one_more test n = cond test (cond (ltb n 4294967295) (n + 1) n) n
 
 -- a line is met where the walk stands
-unfoldable pub line_met : PixelSpan → LineWalk → ℕ → LineWalk
+unfoldable pub line_met : Span Float → LineWalk → ℕ → LineWalk
 line_met span at line =
     let d = distance_of at.start span.low in
     let better = nearer_than line d at.distance in
@@ -43,7 +43,7 @@ record_passed at value =
     record { start = add binary32 at.start (or_zero value); definite = at.definite && is_definite value; nearest = at.nearest; distance = at.distance; below = at.below; upto = at.upto }
 
 -- record `index`, the last being 2N: the line that lies at its start, and then what it measures
-unfoldable pub position_step : PixelSpan → Option Float → LineWalk → ℕ → ℕ → GridTrack → LineWalk
+unfoldable pub position_step : Span Float → Option Float → LineWalk → ℕ → ℕ → GridTrack → LineWalk
 unfolding line_met record_passed
 position_step span inner at last index r = record_passed (cond (line_at last index) (line_met span at (index / 2)) at) (record_value_in inner r)
 
@@ -67,7 +67,7 @@ distance_met position x zero = zero32
 distance_met position x (suc n) = distance_of (position (nearest_among position x n)) x
 
 -- the walk where it stands, after so many lines at their positions
-abbrev pub gathered : PixelSpan → (ℕ → Float) → Float → Bool → ℕ → LineWalk
+abbrev pub gathered : Span Float → (ℕ → Float) → Float → Bool → ℕ → LineWalk
 gathered span position start definite met =
     record {
       start = start;
@@ -78,7 +78,7 @@ gathered span position start definite met =
       upto = count_of (λ k. le (position k) span.high) met;
     }
 
-unfoldable pub walked_to : PixelSpan → Option Float → List GridTrack → ℕ → LineWalk
+unfoldable pub walked_to : Span Float → Option Float → List GridTrack → ℕ → LineWalk
 unfolding all_definite start_of nearest_among count_of
 walked_to span inner records i =
     gathered span (position_of inner records) (start_of inner records i) (all_definite inner (take i records)) (lines_met (2 * tracks_among records) i)

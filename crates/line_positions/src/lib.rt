@@ -2,14 +2,28 @@
 
 #![tactic(auto)]
 
+ghost use Rattle.std.specs.Prelude.{◌≡◌};
+
 pub mod measure;
 pub mod step;
 
-// A span of pixels, by the positions of its ends; a cursor is a span of one position.
-#[derive(Clone, Copy, Debug, PartialEq)]
-pub struct PixelSpan {
-    pub low: f32,
-    pub high: f32,
+// A span of positions, by its ends; a cursor is a span of one position.
+#[derive(Clone, Copy, Debug, PartialEq, Eq)]
+pub struct Span<T> {
+    pub low: T,
+    pub high: T,
+}
+
+impl<T: Copy> Span<T> {
+    // The span of one position.
+    pub fn at(position: T) -> Span<T>
+        ensures { result ≡ record { low = position; high = position } }
+    {
+        Span {
+            low: position,
+            high: position,
+        }
+    }
 }
 
 // What is gathered of the records so far: where the next one starts, whether each has a definite size, the line nearest to the low

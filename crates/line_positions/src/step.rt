@@ -4,7 +4,7 @@ ghost use Rattle.line_positions.specs.Positions.{distance_of};
 ghost use Rattle.line_positions.specs.Steps.{nearer_than, one_more, line_met, line_at, record_passed, position_step, walk_begun};
 
 use crate::measure::record_value;
-use crate::{LineWalk, PixelSpan};
+use crate::{LineWalk, Span};
 use track_rules::GridTrack;
 
 // The f32 difference of two positions.
@@ -25,12 +25,12 @@ pub fn nearer(line: u32, distance: f32, least: f32) -> bool
 fn one_more(test: bool, n: u32) -> u32
     ensures { result ≡ one_more test n }
 {
-    if test { n.saturating_add(1) } else { n }
+    n.saturating_add(u32::from(test))
 }
 
 // A line is met where the walk stands.
 #[tactic(auto, unfolding(crate::specs::Steps::line_met))]
-fn line_met(span: PixelSpan, at: LineWalk, line: u32) -> LineWalk
+fn line_met(span: Span<f32>, at: LineWalk, line: u32) -> LineWalk
     ensures { result ≡ line_met span at line }
 {
     let from = distance(at.start, span.low);
@@ -83,7 +83,7 @@ pub fn begin() -> LineWalk
 // Record `index` of records up to `last`: the line that lies at its start, and then what it measures.
 #[tactic(auto, unfolding(crate::specs::Steps::position_step))]
 pub fn position_step(
-    span: PixelSpan,
+    span: Span<f32>,
     inner: Option<f32>,
     at: LineWalk,
     last: u32,

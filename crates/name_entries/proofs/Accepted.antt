@@ -9,7 +9,7 @@ use lib.ListN.{length}
 use Rattle.name_rules.specs.Css.{Bytes}
 use Rattle.name_entries.specs.Names.{is_name}
 use Rattle.name_entries.specs.Enter.{entry_refusal}
-use Rattle.name_entries.proofs.Booleans.{both, neither}
+use Rattle.std.proofs.lemmas.Bool.{and_parts, or_parts}
 use Rattle.name_entries.proofs.Graphic.{name-length}
 
 pub record Accepted (bytes count used line : ℕ) (name : Bytes) : Type 0 where
@@ -36,8 +36,8 @@ pub accepted : (bytes count used line : ℕ) (name : Bytes) → entry_refusal by
 unfolding entry_refusal
 accepted bytes count used line name e =
     let t = through (is_name name) (leb 1 line && leb line 20000) (leb 4096 count || ltb 32768 (used + length name)) (ltb bytes 32768) e in
-    let l = both (leb 1 line) (leb line 20000) t.1 in
-    let k = neither (leb 4096 count) (ltb 32768 (used + length name)) t.2 in
+    let l = and_parts (leb 1 line) (leb line 20000) t.1 in
+    let k = or_parts (leb 4096 count) (ltb 32768 (used + length name)) t.2 in
     record {
       named = t.0;
       short = name-length name t.0;

@@ -1,5 +1,4 @@
 -- Laws of the name store: what an accepted entry tells (Accepted), entries as words (Entering), and what the names of a line are (Shown).
-pub mod Booleans
 pub mod Same
 pub mod Graphic
 pub mod Sets

@@ -10,7 +10,7 @@ use lib.Dec.{eqb}
 use lib.ListN.{length, get_or, drop, drop_of_length-le}
 use lib.Seq.{drop-cons}
 use Rattle.name_rules.specs.Rule.{eq_bytes}
-use Rattle.name_entries.proofs.Booleans.{both}
+use Rattle.std.proofs.lemmas.Bool.{and_parts}
 
 same_step : (a b : List ℕ) (i : ℕ) → i < length a → i < length b
     → eq_bytes (drop i a) (drop i b) ≡ (eqb (get_or a i 0) (get_or b i 0) && eq_bytes (drop (i + 1) a) (drop (i + 1) b))
@@ -42,7 +42,7 @@ same_sound [] [] e = refl
 same_sound [] (y ∷ b) e = absurd (let z : ◌≡◌ {A = ℕ} 0 1 = cc in omega arith)
 same_sound (x ∷ a) [] e = absurd (let z : ◌≡◌ {A = ℕ} 0 1 = cc in omega arith)
 same_sound (x ∷ a) (y ∷ b) e =
-    let p = both (eqb x y) (eq_bytes a b) e in
+    let p = and_parts (eqb x y) (eq_bytes a b) e in
     let h : x ≡ y = eqb-true x y p.0 in
     let t : a ≡ b = same_sound a b p.1 in
     cc

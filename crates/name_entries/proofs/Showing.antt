@@ -1,16 +1,17 @@
 -- Steps over the entries of a table, as a loop takes them.
-use mathlib.Core.Path.{◌≡◌, refl, sym, ap, ◌∙◌}
+use mathlib.Core.Path.{◌≡◌, refl, sym, ap, ap₂, ◌∙◌}
 use mathlib.Core.Bool.{Bool, true, false, cond, ◌&&◌}
-use mathlib.Core.List.{List, [], ◌∷◌, ◌++◌, map}
-use Prim.Native.Nat.{ℕ, zero, suc, ◌+◌, ◌-◌, ◌≤◌, ◌<◌}
+use mathlib.Core.List.{List, [], ◌∷◌, ◌++◌, map, append_assoc}
+use Prim.Native.Nat.{ℕ, ◌+◌, ◌<◌}
 use native.Mathlib.Numerals.{add-one}
 use native.Mathlib.Omega.{arith}
 use lib.Dec.{leb}
-use lib.ListN.{length, get_or, take, drop, drop_of_length-le, get_or-map}
-use lib.Seq.{drop-cons, take-suc}
+use lib.ListN.{length, get_or, take, get_or-map}
+use lib.Seq.{take-suc, take-append_seam}
+use Rattle.std.proofs.lemmas.List.{length-append}
 use Rattle.std.proofs.lemmas.Grind.{common_steps}
-use Rattle.std.specs.Prelude.{Some, None, min}
-use Rattle.std.specs.List.{slice_get}
+use Rattle.std.specs.Prelude.{min}
+use Rattle.std.specs.List.{filter, enumerate_from}
 use Rattle.name_rules.specs.Css.{Bytes, Entry}
 use Rattle.name_rules.specs.Rule.{any}
 use Rattle.name_entries.specs.declared.NameEntry.{NameEntry}
@@ -24,9 +25,6 @@ abbrev pub entry_at : List ℕ → List ℕ → ℕ → Entry
 entry_at entries store i = named_entry store (entry_of (get_or entries i 0))
 
 module _ (entries store : List ℕ) (i : ℕ) (h : i < length entries) where
-  pub rest-entries : entries_of (drop i entries) store ≡ entry_at entries store i ∷ entries_of (drop (i + 1) entries) store
-  rest-entries = rw (drop-cons entries i 0 h, entries_cons, add-one i)
-
   pub more-entries : entries_of (take (i + 1) entries) store ≡ entries_of (take i entries) store ++ (entry_at entries store i ∷ [])
   more-entries = rw (add-one i, take-suc entries i 0 h, entries-append, entries_cons, entries_nil)
 
@@ -35,34 +33,30 @@ pub any_words : (p : Entry → Bool) (store words : List ℕ) → any (λ (w : �
 any_words p store [] = rw (entries_nil store)
 any_words p store (w ∷ words) = rw (entries_cons w words store, any_words p store words)
 
--- the entries that are still to be shown at place i
-abbrev pub shown_from : ℕ → List ℕ → List ℕ → ℕ → List NameEntry
-shown_from line entries store i = entries_after line store (take i entries) (drop i entries)
+-- whether an entry shows its name on a line, by its place among words
+abbrev pub shows_at : ℕ → List ℕ → List ℕ → ℕ × ℕ → Bool
+shows_at line words store p = shows line (entries_of (take p.0 words) store) (named_entry store (entry_of p.1))
 
-module _ (line : ℕ) (entries store : List ℕ) where
-  pub shown-end : (i left : ℕ) → length entries ≤ i → slice_get (shown_from line entries store i) left ≡ None
+module _ (line : ℕ) (store : List ℕ) where
+  kept-if : (t : Bool) (x : ℕ × ℕ) (l : List (ℕ × ℕ)) (r : List NameEntry) → map (λ (p : ℕ × ℕ). entry_of p.1) l ≡ r
+      → map (λ (p : ℕ × ℕ). entry_of p.1) (cond t (x ∷ l) l) ≡ cond t (entry_of x.1 ∷ r) r
+  kept-if true x l r h = rw h
+  kept-if false x l r h = h
+
+  -- words after others, of which those are kept that show their names
+  kept-after : (all before words : List ℕ) (n : ℕ) → all ≡ before ++ words → n ≡ length before
+      → map (λ (p : ℕ × ℕ). entry_of p.1) (filter (shows_at line all store) (enumerate_from n words)) ≡ entries_after line store before words
   unfolding entries_after
-  shown-end i left h = rw (drop_of_length-le entries h)
+  kept-after all before [] n e h = refl
+  kept-after all before (w ∷ words) n e h =
+      let t : take n all ≡ before = ap₂ take h e ∙ take-append_seam before (w ∷ words) in
+      rw t
+      (kept-if (shows line (entries_of before store) (named_entry store (entry_of w))) (n, w) _ (entries_after line store (before ++ (w ∷ [])) words)
+      (kept-after all (before ++ (w ∷ [])) words (n + 1) (e ∙ sym (append_assoc before (w ∷ []) words)) (ap (λ (k : ℕ). k + 1) h ∙ sym (length-append before (w ∷ [])))))
 
-  module _ (i : ℕ) (h : i < length entries) where
-    pub shown-step : shown_from line entries store i
-        ≡ cond (shows line (entries_of (take i entries) store) (entry_at entries store i))
-        (entry_of (get_or entries i 0) ∷ shown_from line entries store (i + 1)) (shown_from line entries store (i + 1))
-    unfolding entries_after
-    shown-step = rw (drop-cons entries i 0 h, add-one i, take-suc entries i 0 h)
-
-    pub shown-hit : (left : ℕ) → shows line (entries_of (take i entries) store) (entry_at entries store i) ≡ true → left ≡ 0
-        → slice_get (shown_from line entries store i) left ≡ Some (entry_of (get_or entries i 0))
-    shown-hit left e z = rw (z, shown-step, e)
-
-    pub shown-over : (left : ℕ) → shows line (entries_of (take i entries) store) (entry_at entries store i) ≡ true → (left ≡ 0 → ⊥)
-        → slice_get (shown_from line entries store i) left ≡ slice_get (shown_from line entries store (i + 1)) (left - 1)
-    shown-over zero e out = absurd (out refl)
-    shown-over (suc left) e out = let s : suc left - 1 ≡ left = omega arith in rw (shown-step, e, s)
-
-    pub shown-miss : (left : ℕ) → shows line (entries_of (take i entries) store) (entry_at entries store i) ≡ false
-        → slice_get (shown_from line entries store i) left ≡ slice_get (shown_from line entries store (i + 1)) left
-    shown-miss left e = rw (shown-step, e)
+  -- the words of the entries that show a name on the line
+  pub kept_words : (words : List ℕ) → map (λ (p : ℕ × ℕ). entry_of p.1) (filter (shows_at line words store) (enumerate_from 0 words)) ≡ entries_after line store [] words
+  kept_words words = kept-after words [] words 0 refl refl
 
 -- ---- the names that entries show
 

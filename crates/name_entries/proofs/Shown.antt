@@ -8,7 +8,7 @@ use lib.Dec.{eqb}
 use Rattle.name_rules.specs.Css.{Bytes, Entry}
 use Rattle.name_rules.specs.Rule.{any, eq_bytes, written?}
 use Rattle.name_entries.specs.LineNames.{shows, shown_after, line_names_of, among, Once}
-use Rattle.name_entries.proofs.Booleans.{both}
+use Rattle.std.proofs.lemmas.Bool.{and_parts}
 use Rattle.name_entries.proofs.Same.{same_sound, same_refl}
 
 any_append : (p : Entry → Bool) (l : List Entry) (e : Entry) → any p (l ++ (e ∷ [])) ≡ (any p l || p e)
@@ -77,7 +77,7 @@ module _ (line : ℕ) where
       by true q h = (
         fresh e.name (before ++ (e ∷ [])) l
             (any_append (written? e.name line) before e
-            ∙ rw ((both (eqb e.line line) (not (any (written? e.name line) before)) q).0, same_refl e.name) (or-true (any (written? e.name line) before))),
+            ∙ rw ((and_parts (eqb e.line line) (not (any (written? e.name line) before)) q).0, same_refl e.name) (or-true (any (written? e.name line) before))),
         h,
       )
 

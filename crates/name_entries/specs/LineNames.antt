@@ -1,7 +1,6 @@
 -- The names of the lines of an axis (document 01, layer 4): one list for each explicit line, in entry order, a name once.
 use Rattle.std.specs.Prelude.{◌≡◌, ℕ, ◌+◌, Bool, false, cond, not, ◌&&◌, List, [], ◌∷◌, ◌++◌, leb, eqb}
-use Rattle.coordinates.specs.declared.axis.Axis.{Axis}
-use Rattle.coordinates.specs.declared.axis.Axis.TheVariants.{Column, Row}
+pub use Rattle.coordinates.specs.Axes.{of_axis}
 use Rattle.name_rules.specs.Css.{Bytes, Entry}
 use Rattle.name_rules.specs.Rule.{any, eq_bytes, written?}
 
@@ -26,12 +25,6 @@ explicit_line_names explicit entries line = cond (leb 1 line && leb line (explic
 -- how many lists there are: none where the axis has no entry
 abbrev pub line_count : ℕ → ℕ → ℕ
 line_count count explicit = cond (eqb count 0) 0 (explicit + 1)
-
--- of the columns' and the rows', those of an axis
-module _ {A : Type 0} where
-  abbrev pub of_axis : Axis → A → A → A
-  of_axis Column columns rows = columns
-  of_axis Row columns rows = rows
 
 -- whether a name is among others
 abbrev pub among : Bytes → List Bytes → Bool

@@ -4,6 +4,7 @@ ghost use Rattle.coordinates.specs.Refusals.{refused_by};
 ghost use Rattle.name_entries.specs.Enter.{entry_refusal};
 
 use crate::name::is_name;
+use crate::{LAST_LINE, MOST_ENTRIES, STORE_BYTES};
 use coordinates::Fault;
 
 // Whether an entry can be made. `bytes` is the length of the store, `used` how many of them hold names, `count` how many entries there are.
@@ -14,13 +15,13 @@ pub fn check_entry(bytes: usize, count: u32, used: u32, line: u32, name: &[u8]) 
     if !is_name(name) {
         return Err(Fault::Name);
     }
-    if line < 1 || 20000 < line {
+    if !(1..=LAST_LINE).contains(&line) {
         return Err(Fault::Count);
     }
-    if 4096 <= count || 32768 < used as usize + name.len() {
+    if MOST_ENTRIES <= count as usize || STORE_BYTES < used as usize + name.len() {
         return Err(Fault::Crowded);
     }
-    if bytes < 32768 {
+    if bytes < STORE_BYTES {
         return Err(Fault::Short);
     }
     Ok(())

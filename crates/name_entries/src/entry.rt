@@ -1,6 +1,6 @@
 // Entries as words. Any word gives one.
-ghost use Rattle.std.specs.Prelude.{◌≡◌};
-ghost use Rattle.name_entries.specs.Entries.{entry_of, name_in};
+ghost use Rattle.std.specs.Prelude.{◌≡◌, ◌%◌, ◌^◌};
+ghost use Rattle.name_entries.specs.Entries.{entry_of, name_in, word_of};
 
 use crate::NameEntry;
 
@@ -15,6 +15,16 @@ impl From<u64> for NameEntry {
             offset: (word / 0x1_0000 % 0x1_0000) as u32,
             length: (word / 0x1_0000_0000 % 0x100) as u32,
         }
+    }
+}
+
+impl From<NameEntry> for u64 {
+    ghost from_gives = { λ entry word. word ≡ word_of entry.line entry.offset entry.length % 2 ^ 64 };
+
+    // The word of an entry. Parts that are too wide for it run into one another.
+    fn from(entry: NameEntry) -> u64 {
+        let place = u64::from(entry.line) + u64::from(entry.offset) * 0x1_0000;
+        place.wrapping_add(u64::from(entry.length) * 0x1_0000_0000)
     }
 }
 

@@ -9,8 +9,17 @@ pub mod entry;
 pub mod line_names;
 pub mod name;
 
+// The last line that can have a name.
+pub const LAST_LINE: u32 = 20000;
+
+// The most entries of an axis.
+pub const MOST_ENTRIES: usize = 4096;
+
+// The bytes of the store of an axis's names.
+pub const STORE_BYTES: usize = 32768;
+
 // An entry: its line, counted from 1, and where the bytes of its name lie in the store.
-#[derive(Clone, Copy, Debug, PartialEq, Eq)]
+#[derive(Clone, Copy, Debug, PartialEq, Eq, Default)]
 pub struct NameEntry {
     pub line: u32,
     pub offset: u32,

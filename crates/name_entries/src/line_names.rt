@@ -43,7 +43,7 @@ impl Names<'_> {
     {
         let before = Names {
             entries: &self.entries[..place.min(self.entries.len())],
-            store: self.store,
+            ..self
         };
         entry.line == line && !before.has_written(line, name_in(self.store, entry))
     }
@@ -52,17 +52,12 @@ impl Names<'_> {
     fn shown_entry(self, line: u32, place: u32) -> Option<NameEntry>
         ensures { result ≡ slice_get (line_entries_of self.entry.entries.now self.entry.store.now line) place }
     {
-        let mut left = place;
-        for (i, word) in self.entries.iter().enumerate() {
-            let entry = NameEntry::from(*word);
-            if self.is_shown(i, line, entry) {
-                if left == 0 {
-                    return Some(entry);
-                }
-                left -= 1;
-            }
-        }
-        None
+        self.entries
+            .iter()
+            .enumerate()
+            .filter(|at| self.is_shown(at.0, line, NameEntry::from(*at.1)))
+            .map(|at| NameEntry::from(*at.1))
+            .nth(place as usize)
     }
 
     // The entry that shows a name of an explicit line, by its place from 0; none where that line and place hold none.

@@ -4,12 +4,9 @@ ghost use Rattle.name_rules.specs.Rule.{eq_bytes};
 ghost use Rattle.name_entries.specs.Entries.{entry_of, name_in};
 ghost use Rattle.name_groups.specs.Listed.{lists_next};
 
-use name_entries::NameEntry;
 use name_entries::bytes::same_bytes;
 use name_entries::entry::name_in;
-
-// The last line whose names are looked at.
-const LAST_LINE: u32 = 20000;
+use name_entries::{LAST_LINE, NameEntry};
 
 // Whether two entries have the same name. Those of the same part of the store do.
 fn same_name(store: &[u8], a: u64, b: u64) -> bool

@@ -2,12 +2,10 @@
 use mathlib.Core.Path.{◌≡◌, refl}
 use mathlib.Core.Bool.{false}
 use mathlib.Core.List.{List, [], ◌∷◌, ◌++◌}
-use Prim.Native.Nat.{ℕ, suc, ◌+◌, ◌≤◌, ◌<◌, max}
-use native.Mathlib.Numerals.{add-one}
+use Prim.Native.Nat.{ℕ, suc, ◌≤◌, ◌<◌, max}
 use native.Mathlib.Omega.{arith}
 use borrow.Author.Tests.{ne_eqb}
-use lib.ListN.{length, get_or, drop, drop_of_length-le}
-use lib.Seq.{drop-cons}
+use lib.ListN.{drop}
 use Rattle.coordinates.specs.declared.axis.Axis.{Axis}
 use Rattle.name_rules.specs.Css.{Bytes, Side, start, end}
 use Rattle.name_rules.specs.Rule.{any, written?}
@@ -16,27 +14,20 @@ use Rattle.name_lines.specs.Areas.{edge_in, areas_of, edged?, edged_by, bears_jo
 use Rattle.name_lines.specs.HighestLine.{highest_entry, higher_edge, highest_edge, highest_line}
 use Rattle.name_lines.specs.Suffixes.{tail_of}
 use Rattle.std.specs.Prelude.{Option, Some, None}
+use Rattle.std.specs.List.{fold}
 use Rattle.name_lines.specs.declared.GridAreaEnd.{GridAreaEnd}
 use Rattle.name_lines.specs.declared.GridAreaEnd.TheVariants.{Start, End}
 
--- the words from i on
-pub entry-step : (n : ℕ) (words : List ℕ) (i : ℕ) → i < length words
-    → highest_entry n (drop i words) ≡ highest_entry (max n (entry_of (get_or words i 0)).line) (drop (i + 1) words)
+-- the highest as a fold over the words
+pub entries_fold : (n : ℕ) (words : List ℕ) → fold (λ m w. max m (entry_of w).line) n words ≡ highest_entry n words
 unfolding highest_entry
-entry-step n words i h = rw (drop-cons words i 0 h, add-one i)
+entries_fold n [] = refl
+entries_fold n (w ∷ ws) = entries_fold (max n (entry_of w).line) ws
 
-pub entry-end : (n : ℕ) (words : List ℕ) (i : ℕ) → length words ≤ i → highest_entry n (drop i words) ≡ n
-unfolding highest_entry
-entry-end n words i h = rw (drop_of_length-le words h)
-
-pub edge-step : (axis : Axis) (n : ℕ) (words : List ℕ) (i : ℕ) → i < length words
-    → highest_edge axis n (drop i words) ≡ highest_edge axis (higher_edge axis n (get_or words i 0)) (drop (i + 1) words)
+pub edges_fold : (axis : Axis) (n : ℕ) (words : List ℕ) → fold (λ m w. higher_edge axis m w) n words ≡ highest_edge axis n words
 unfolding highest_edge
-edge-step axis n words i h = rw (drop-cons words i 0 h, add-one i)
-
-pub edge-end : (axis : Axis) (n : ℕ) (words : List ℕ) (i : ℕ) → length words ≤ i → highest_edge axis n (drop i words) ≡ n
-unfolding highest_edge
-edge-end axis n words i h = rw (drop_of_length-le words h)
+edges_fold axis n [] = refl
+edges_fold axis n (w ∷ ws) = edges_fold axis (higher_edge axis n w) ws
 
 -- the highest is not below where it began
 entry_from : (n : ℕ) (words : List ℕ) → n ≤ highest_entry n words

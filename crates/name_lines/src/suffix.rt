@@ -44,10 +44,8 @@ pub fn stem_of(name: &[u8], edge: Option<GridAreaEnd>) -> &[u8]
 pub fn is_joined(name: &[u8], stem: &[u8], tail: &[u8]) -> bool
     ensures { result ≡ eq_bytes name.now (stem.now ++ tail.now) }
 {
-    match name.strip_suffix(tail) {
-        Some(front) => bytes::same_bytes(front, stem),
-        None => false,
-    }
+    name.strip_suffix(tail)
+        .is_some_and(|front| bytes::same_bytes(front, stem))
 }
 
 // Whether an entry has the name that is the stem followed by the suffix of the edge.

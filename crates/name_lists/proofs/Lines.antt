@@ -1,5 +1,5 @@
 -- The lists of the explicit lines, one line after the other, as a loop takes them.
-use mathlib.Core.Path.{subst}
+use mathlib.Core.Path.{◌≡◌, subst}
 use mathlib.Core.List.{List}
 use Prim.Native.Nat.{ℕ, ◌+◌, ◌≤◌, ◌<◌}
 use native.Mathlib.Omega.{arith}
@@ -30,3 +30,9 @@ module _ (explicit : ℕ) (entries store lent : List ℕ) where
 
     pub lines-done : explicit + 1 < line → Written lent 0 (lists explicit entries store) words count
     lines-done h = rests-none lent 0 (lists explicit entries store) words count (lines_from explicit entries store line) held (lines_end explicit entries store line h)
+
+  -- the last line's list is written
+  pub lines-last : (words : List ℕ) (count line : ℕ) → Lines words count line → line ≡ explicit + 1
+      → (after : List ℕ) (next : ℕ) → Written words count (line_words entries store line) after next → Written lent 0 (lists explicit entries store) after next
+  lines-last words count line held e after next w =
+      lines-done after next (line + 1) (lines-turn words count line held (omega arith) after next w) (omega arith)

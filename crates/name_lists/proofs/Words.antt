@@ -19,7 +19,7 @@ unfolding entry_of
 small-entry word = record { line = omega arith; offset = omega arith; length = omega arith }
 
 module _ (store : List ℕ) (word : ℕ) (e : NameEntry) (known : e ≡ entry_of word) (name : Bytes) (there : name ≡ name_in store e) where
-  part_length : length name ≡ min e.length (length store - e.offset)
+  pub part_length : length name ≡ min e.length (length store - e.offset)
   part_length = ap length there ∙ length-take e.length (drop e.offset store) ∙ ap (min e.length) (length-drop e.offset store)
 
   part_small : Small e

@@ -4,14 +4,14 @@ use mathlib.Core.Bool.{Bool, true, false, cond}
 use mathlib.Core.List.{List, [], ◌∷◌, ◌++◌, map}
 use Prim.Native.Nat.{ℕ, suc, ◌+◌, ◌-◌, ◌≤◌, ◌<◌}
 use native.Mathlib.Omega.{arith}
-use lib.ListN.{length, get_or, take, length-append, drop_of_length-le}
-use lib.Seq.{sets, length-sets}
+use native.Mathlib.Numerals.{add-one}
+use lib.ListN.{length, get_or, take, drop, length-append, drop_of_length-le}
+use lib.Seq.{sets, length-sets, drop-cons, take-suc}
 use Rattle.name_template.proofs.Placing.{sets_append}
 use Rattle.name_entries.specs.declared.NameEntry.{NameEntry}
 use Rattle.name_entries.specs.Entries.{entry_of, named_entry, entries_of}
 use Rattle.name_entries.specs.LineNames.{shows}
 use Rattle.name_entries.specs.LineEntries.{entries_after}
-use Rattle.name_entries.proofs.Showing.{shown_from, shown-step}
 use Rattle.name_lists.specs.Lists.{part_word, line_words, lists_from, lists, Written, entry_words}
 
 -- what is left to write when some of `count` words are there
@@ -44,11 +44,19 @@ module _ (lent : List ℕ) (count : ℕ) (whole : List ℕ) where
     counted = let a = ap length e in omega (arith, a, r.counted);
   }
 
--- ---- the entry at a place
-
 -- ---- the entries of a table, from a place on
 
+-- the entries that are still to be shown at place i
+abbrev shown_from : ℕ → List ℕ → List ℕ → ℕ → List NameEntry
+shown_from line entries store i = entries_after line store (take i entries) (drop i entries)
+
 module _ (entries store : List ℕ) (line : ℕ) where
+  shown-step : (i : ℕ) → i < length entries → shown_from line entries store i
+      ≡ cond (shows line (entries_of (take i entries) store) (named_entry store (entry_of (get_or entries i 0))))
+      (entry_of (get_or entries i 0) ∷ shown_from line entries store (i + 1)) (shown_from line entries store (i + 1))
+  unfolding entries_after
+  shown-step i h = rw (drop-cons entries i 0 h, add-one i, take-suc entries i 0 h)
+
   abbrev pub words_from : ℕ → List ℕ
   words_from i = map (part_word store) (shown_from line entries store i)
 
@@ -59,7 +67,7 @@ module _ (entries store : List ℕ) (line : ℕ) where
 
   pub words-next : (i : ℕ) → i < length entries → words_from i ≡ entry_words entries store line i ++ words_from (i + 1)
   words-next i h =
-      ap (map (part_word store)) (shown-step line entries store i h)
+      ap (map (part_word store)) (shown-step i h)
       ∙ words-if (shows line (entries_of (take i entries) store) (named_entry store (entry_of (get_or entries i 0)))) (entry_of (get_or entries i 0)) (shown_from line entries store (i + 1))
 
   pub words-end : (i : ℕ) → length entries ≤ i → words_from i ≡ []

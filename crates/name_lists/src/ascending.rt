@@ -3,23 +3,15 @@ ghost use Rattle.std.specs.Prelude.{◌≡◌, true};
 ghost use Rattle.name_lists.specs.Ascending.{ascends, count_up_to};
 ghost use Rattle.name_lists.specs.Lists.{lists, Written};
 
-use crate::explicit::{ExplicitNames, MOST_ENTRIES};
+use crate::explicit::ExplicitNames;
 use crate::line::write_line;
-use name_entries::{NameEntry, Names};
+use name_entries::{MOST_ENTRIES, NameEntry, Names};
 
 // Whether the lines of the entries never fall.
 pub(crate) fn are_ascending(entries: &[u64]) -> bool
     ensures { result ≡ ascends entries.now }
 {
-    let mut line: u32 = 0;
-    for word in entries {
-        let entry = NameEntry::from(*word);
-        if entry.line < line {
-            return false;
-        }
-        line = entry.line;
-    }
-    true
+    entries.is_sorted_by_key(|word| NameEntry::from(*word).line)
 }
 
 // How many entries there are before the first whose line is above `line`.
@@ -41,11 +33,11 @@ impl ExplicitNames<'_> {
     {
         let mut count: usize = 0;
         let mut at = entries_up_to(self.names.entries, 0);
-        for line in 1..self.explicit + 2 {
+        for line in 1..=self.explicit + 1 {
             let end = at + entries_up_to(&self.names.entries[at..], line);
             let own = Names {
                 entries: &self.names.entries[at..end],
-                store: self.names.store,
+                ..self.names
             };
             count = write_line(own, line, words, count);
             at = end;

@@ -3,10 +3,8 @@ ghost use Rattle.std.specs.Prelude.{◌≤◌, length};
 
 use name_entries::Names;
 
-// The most entries of an axis, and the most explicit tracks.
-pub(crate) const MOST_ENTRIES: usize = 4096;
-
-pub(crate) const MOST_TRACKS: u32 = 10000;
+// The most explicit tracks.
+pub(crate) const MOST_TRACKS: u32 = coordinates::line::MOST_TRACKS as u32;
 
 // The names of an axis and its explicit tracks, no more of either than a panel has.
 #[derive(Clone, Copy)]

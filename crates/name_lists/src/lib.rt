@@ -15,14 +15,11 @@ mod passes;
 
 use ascending::are_ascending;
 use coordinates::Fault;
-use explicit::{ExplicitNames, MOST_ENTRIES, MOST_TRACKS};
-use name_entries::Names;
+use explicit::{ExplicitNames, MOST_TRACKS};
+use name_entries::{MOST_ENTRIES, Names, STORE_BYTES};
 
 // Up to so many entries times lines, passes over the entries take less time than chains.
 const FEW: usize = 2048;
-
-// The bytes of a line-name store.
-const STORE_BYTES: usize = 32768;
 
 impl ExplicitNames<'_> {
     // Writes the lists of the explicit lines one after the other: the quickest way for these entries.

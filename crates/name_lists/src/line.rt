@@ -11,9 +11,11 @@ fn part_word(store: &[u8], word: u64) -> u64
     ensures { result ≡ part_word store.now (entry_of word) }
 {
     let entry = NameEntry::from(word);
-    let offset = (entry.offset as usize).min(store.len());
-    let length = name_in(store, entry).len();
-    u64::from(entry.line) + offset as u64 * 0x1_0000 + length as u64 * 0x1_0000_0000
+    u64::from(NameEntry {
+        line: entry.line,
+        offset: (entry.offset as usize).min(store.len()) as u32,
+        length: name_in(store, entry).len() as u32,
+    })
 }
 
 // Writes the name of the entry at a place, where it shows it on the line.

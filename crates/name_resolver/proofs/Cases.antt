@@ -12,8 +12,8 @@ use Rattle.name_lines.specs.Areas.{areas_of, axis_names}
 use Rattle.name_resolver.specs.Placements.{grid_line_of, no_marks, resolution_of}
 use Rattle.name_resolver.specs.declared.GridPlacement.{GridPlacement}
 use Rattle.name_resolver.specs.declared.GridPlacement.TheVariants.{Auto, Line, NamedLine, NamedSpan}
-use Rattle.name_resolver.specs.declared.NonNamedGridPlacement.{NonNamedGridPlacement}
-use Rattle.name_resolver.specs.declared.NonNamedGridPlacement.TheVariants as Plain
+use Rattle.name_resolver.specs.Types.{NonNamedGridPlacement}
+use Rattle.coordinates.specs.declared.line.GenericGridPlacement.TheVariants as Plain
 use Rattle.name_resolver.specs.Placements.{Resolution}
 
 -- x on lines 1 and 3

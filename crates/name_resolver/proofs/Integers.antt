@@ -1,20 +1,19 @@
 -- The line before a line, and lines that are held, as numbers of 16 bits. Assumes nothing.
-use mathlib.Core.Path.{◌≡◌, ◌∙◌, ap, ap₂}
+use mathlib.Core.Path.{◌≡◌, ap₂}
 use mathlib.Core.Bool.{Bool, false, ◌||◌, true≢false}
 use Prim.Native.Nat.{ℕ, zero, suc, ◌≤◌}
 use borrow.Author.Tests.{le-ltb}
 use lib.IntN.{ℤ, pos, negsuc}
 use Rattle.coordinates.specs.Lines.{held, Within, outside, uncut, to_origin_zero, to_grid_line}
-use Rattle.coordinates.specs.Signed.{sixteen_bits, HeldAs}
-use Rattle.coordinates.specs.declared.signed.HeldLine.{HeldLine}
-use Rattle.coordinates.proofs.Integers.{sixteen_held}
+use Rattle.coordinates.specs.Held.{HeldAs}
+use Rattle.coordinates.specs.Types.{MarkedLine}
 use Rattle.coordinates.proofs.Lines.{held-within}
 use Rattle.coordinates.specs.Answers.{origin_zero_answer, grid_line_answer}
 use Rattle.name_resolver.specs.Counts.{is_zero}
 use Rattle.name_resolver.specs.Placements.{grid_line_of}
 use Rattle.name_resolver.specs.Steps.{end_on_line, end_on_held}
-use Rattle.name_resolver.specs.declared.NonNamedGridPlacement.TheVariants as Plain
-use Rattle.name_resolver.specs.declared.ResolvedEnd.{ResolvedEnd}
+use Rattle.coordinates.specs.declared.line.GenericGridPlacement.TheVariants as Plain
+use Rattle.name_resolver.specs.Types.{ResolvedEnd}
 
 -- where nothing is refused
 within-inside : (z : ℤ) → Within z → outside z ≡ false
@@ -39,8 +38,8 @@ conversion_mark n (pos (suc g)) h = rw (le-ltb 10000 n h)
 conversion_mark n (negsuc g) h = rw (le-ltb 10000 n h)
 
 -- an end on a line that was held is the end on that line
-pub end-held : (n : ℕ) (before : Bool) (z : ℤ) (l : HeldLine) → HeldAs z l → end_on_held n before l ≡ end_on_line n before z
-end-held n before z l h = ap₂ made (ap sixteen_bits h.line ∙ sixteen_held z) h.mark
+pub end_held : (n : ℕ) (before : Bool) (z : ℤ) (l : MarkedLine) → HeldAs z l → end_on_held n before l ≡ end_on_line n before z
+end_held n before z l h = ap₂ made h.line h.mark
   where
     made : ℤ → Bool → ResolvedEnd
-    made k b = record { placement = Plain.Line (grid_line_answer n k).line; held = before || b }
+    made k b = record { value = Plain.Line (grid_line_answer n k).line; held = before || b }

@@ -21,8 +21,7 @@ use Rattle.name_resolver.specs.Steps.{question_ahead, question_back, named_quest
 use Rattle.name_resolver.specs.Questions.{edge_found, or_else, found_by, answered, answered_line}
 use Rattle.name_resolver.specs.declared.Name.{Name}
 use Rattle.name_resolver.specs.declared.End.{End}
-use Rattle.name_resolver.specs.declared.Line.{Line}
-use Rattle.name_resolver.specs.declared.ResolvedEnd.{ResolvedEnd}
+use Rattle.name_resolver.specs.Types.{WrittenLine, ResolvedEnd}
 use Rattle.name_resolver.specs.Placements.{Resolution}
 use Rattle.name_resolver.specs.declared.GridPlacement.{GridPlacement}
 use Rattle.name_resolver.specs.declared.GridPlacement.TheVariants as Written
@@ -53,7 +52,7 @@ mark_of_line explicit names s (span n) = refl
 mark_of_line explicit names s (nspan nm n) = refl
 
 -- an answer to both ends is no refusal, whichever comes first
-pub answered-accepted : (names : Bytes → ℕ → Bool) (bytes : List ℕ) (explicit : ℕ) (l : Line) → (answered_line names bytes explicit l).refusal ≡ no_refusal
+pub answered-accepted : (names : Bytes → ℕ → Bool) (bytes : List ℕ) (explicit : ℕ) (l : WrittenLine) → (answered_line names bytes explicit l).refusal ≡ no_refusal
 unfolding answered_line resolved_ends_in
 answered-accepted names bytes explicit l = go (is_named_span l.start) _ _
   where
@@ -63,7 +62,7 @@ answered-accepted names bytes explicit l = go (is_named_span l.start) _ _
 
 -- an end with its mark
 abbrev end_of : Resolved → Bool → ResolvedEnd
-end_of r h = record { placement = answer_of r; held = h }
+end_of r h = record { value = answer_of r; held = h }
 
 module _ (names : Bytes → ℕ → Bool) (bytes : List ℕ) (explicit : ℕ) (h : explicit ≤ 10000) where
   -- an end on a line that is held here, or before
@@ -130,18 +129,18 @@ module _ (names : Bytes → ℕ → Bool) (bytes : List ℕ) (explicit : ℕ) (h
   placement-answer s g m (Written.NamedSpan name n) = span-answer name n s g m
 
   pub end-answer : (e : End) → answered names bytes explicit (question_of explicit e)
-      ≡ beside_line (side_of e.side) e.beside.0 e.held (placement_of bytes e.placement)
+      ≡ beside_line (side_of e.side) e.beside.value.0 e.beside.held (placement_of bytes e.placement)
   unfolding question_of
-  end-answer e = placement-answer (side_of e.side) e.beside.0 e.held e.placement
+  end-answer e = placement-answer (side_of e.side) e.beside.value.0 e.beside.held e.placement
 
   -- an end beside one that was resolved beside no line
   beside-answer : (p : GridPlacement) (side : GridAreaEnd) (s : Side) (q : Placement) (f : ResolvedEnd) → f ≡ beside_line s (pos 0) false q
-      → answered names bytes explicit (question_of explicit (record { placement = p; side = side; beside = line_of_end f.placement; held = f.held }))
+      → answered names bytes explicit (question_of explicit (record { placement = p; side = side; beside = record { value = line_of_end f.value; held = f.held } }))
       ≡ beside_line (side_of side) (line_at (numbered explicit names s q)) (line_held explicit names s q) (placement_of bytes p)
   beside-answer p side s q f e =
-      end-answer (record { placement = p; side = side; beside = line_of_end f.placement; held = f.held })
+      end-answer (record { placement = p; side = side; beside = record { value = line_of_end f.value; held = f.held } })
       ∙ ap₂ (λ (g : ℤ) (m : Bool). beside_line (side_of side) g m (placement_of bytes p))
-      (ap (λ (r : ResolvedEnd). (line_of_end r.placement).0) e ∙ line_of_answer explicit names s (numbered explicit names s q))
+      (ap (λ (r : ResolvedEnd). (line_of_end r.value).0) e ∙ line_of_answer explicit names s (numbered explicit names s q))
       (ap (λ (r : ResolvedEnd). r.held) e ∙ mark_of_line explicit names s q)
 
   both : (a b c d : ResolvedEnd) → a ≡ c → b ≡ d → both_ends a b ≡ both_ends c d
@@ -152,22 +151,22 @@ module _ (names : Bytes → ℕ → Bool) (bytes : List ℕ) (explicit : ℕ) (h
   ruled p q = record { refusal = no_refusal; line = ends_of (resolve explicit names p q); held = held_answer (held_ends explicit names p q) }
 
   -- the start first
-  start_first : (l : Line) → beside_line start (pos 0) false (placement_of bytes l.start)
+  start_first : (l : WrittenLine) → beside_line start (pos 0) false (placement_of bytes l.start)
       ≡ beside_line start (line_at (numbered explicit names end (placement_of bytes l.end))) (line_held explicit names end (placement_of bytes l.end)) (placement_of bytes l.start)
       → (let f = answered names bytes explicit (question_of explicit (start_beside l (grid_line_of (pos 0)) false)) in
-      both_ends f (answered names bytes explicit (question_of explicit (end_beside l (line_of_end f.placement) f.held))))
+      both_ends f (answered names bytes explicit (question_of explicit (end_beside l (line_of_end f.value) f.held))))
       ≡ ruled (placement_of bytes l.start) (placement_of bytes l.end)
   start_first l q =
       let e = end-answer (start_beside l (grid_line_of (pos 0)) false) in
       both _ _ _ _ (e ∙ q) (beside-answer l.end Placed.End start (placement_of bytes l.start) _ e)
 
   -- the end first
-  end_first : (q : GridPlacement) (name : Name) (n : ℕ) → let l : Line = record { start = Written.NamedSpan name n; end = q } in
+  end_first : (q : GridPlacement) (name : Name) (n : ℕ) → let l : WrittenLine = record { start = Written.NamedSpan name n; end = q } in
       (let f = answered names bytes explicit (question_of explicit (end_beside l (grid_line_of (pos 0)) false)) in
-      both_ends (answered names bytes explicit (question_of explicit (start_beside l (line_of_end f.placement) f.held))) f)
+      both_ends (answered names bytes explicit (question_of explicit (start_beside l (line_of_end f.value) f.held))) f)
       ≡ ruled (placement_of bytes l.start) (placement_of bytes l.end)
   end_first q name n =
-      let l : Line = record { start = Written.NamedSpan name n; end = q } in
+      let l : WrittenLine = record { start = Written.NamedSpan name n; end = q } in
       let e = end-answer (end_beside l (grid_line_of (pos 0)) false) in
       both _ _ _ _ (beside-answer l.start Placed.Start end (placement_of bytes q) _ e) e
 
@@ -180,7 +179,7 @@ module _ (names : Bytes → ℕ → Bool) (bytes : List ℕ) (explicit : ℕ) (h
   ends-answer (Written.NamedSpan name n) q = end_first q name n
 
   -- both ends of a placement
-  pub line-answer : (l : Line) → answered_line names bytes explicit l
+  pub line-answer : (l : WrittenLine) → answered_line names bytes explicit l
       ≡ record {
         refusal = no_refusal;
         line = ends_of (resolve explicit names (placement_of bytes l.start) (placement_of bytes l.end));

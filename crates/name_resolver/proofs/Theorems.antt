@@ -15,7 +15,7 @@ use Rattle.name_rules.proofs.Order.{resolve_same, resolve-agrees-on, marks-same,
 use Rattle.name_rules.proofs.Unique.{ends_unique}
 use Rattle.name_rules.proofs.Held.{marks-css, marks_unique}
 use Rattle.name_resolver.specs.Placements.{placement_of, resolved_of, answer_of, ends_of, held_answer, held_marks, resolved_ends, resolved_line, held_line, refused_resolution, resolution_of}
-use Rattle.name_resolver.specs.declared.Line.{Line}
+use Rattle.name_resolver.specs.Types.{WrittenLine}
 use Rattle.name_resolver.specs.Placements.{Resolution, answered_resolution, zero_line, no_marks}
 use Rattle.coordinates.specs.declared.refusal.Fault.{Fault}
 use Rattle.std.specs.Prelude.{Err}
@@ -33,7 +33,7 @@ ends_back r = rw (resolved_back r.first, resolved_back r.last)
 pub refused-zeros : (fault : Fault) → ((answered_resolution (Err fault)).line ≡ zero_line) × ((answered_resolution (Err fault)).held ≡ no_marks)
 refused-zeros fault = (refl, refl)
 
-module _ (x : AxisNames) (names : List ℕ) (l : Line) where
+module _ (x : AxisNames) (names : List ℕ) (l : WrittenLine) where
   -- at most 10,000 explicit tracks: nothing is refused
   pub resolution-accepted : x.explicit ≤ 10000 → resolution_of x names l ≡ record { refusal = no_refusal; line = resolved_line x names l; held = held_line x names l }
   unfolding resolution_of
@@ -72,7 +72,7 @@ abbrev answer : ℕ → ResolvedEnds → HeldEnds → Resolution
 answer n r h = cond (leb n 10000) (record { refusal = no_refusal; line = ends_of r; held = held_answer h }) refused_resolution
 
 -- (b) the same entries and areas in any order, and any number of times, are resolved alike
-pub resolve_line_names_same : (x y : AxisNames) (names : List ℕ) (l : Line) → SameNames x y → resolution_of x names l ≡ resolution_of y names l
+pub resolve_line_names_same : (x y : AxisNames) (names : List ℕ) (l : WrittenLine) → SameNames x y → resolution_of x names l ≡ resolution_of y names l
 unfolding resolution_of
 resolve_line_names_same x y names l s =
     let p : Placement = placement_of names l.start in
@@ -81,7 +81,7 @@ resolve_line_names_same x y names l s =
     ∙ ap₂ (answer y.explicit) (resolve_same x y s p q) (marks-same x y s p q)
 
 -- only which lines bear the names that the placement uses counts
-pub resolve_line_names_agrees : (x y : AxisNames) (names : List ℕ) (l : Line) → x.explicit ≡ y.explicit
+pub resolve_line_names_agrees : (x y : AxisNames) (names : List ℕ) (l : WrittenLine) → x.explicit ≡ y.explicit
     → AgreeOn (named? x) (named? y) start (placement_of names l.start) → AgreeOn (named? x) (named? y) end (placement_of names l.end)
     → resolution_of x names l ≡ resolution_of y names l
 unfolding resolution_of

@@ -10,11 +10,8 @@ use Rattle.coordinates.specs.declared.line.GridLine.{GridLine}
 use Rattle.name_resolver.specs.declared.Name.{Name}
 use Rattle.name_resolver.specs.declared.GridPlacement.{GridPlacement}
 use Rattle.name_resolver.specs.declared.GridPlacement.TheVariants as Written
-use Rattle.name_resolver.specs.declared.NonNamedGridPlacement.{NonNamedGridPlacement}
-use Rattle.name_resolver.specs.declared.NonNamedGridPlacement.TheVariants as Plain
-use Rattle.name_resolver.specs.declared.Line.{Line}
-use Rattle.name_resolver.specs.declared.ResolvedLine.{ResolvedLine}
-use Rattle.name_resolver.specs.declared.HeldEnds.{HeldEnds}
+use Rattle.name_resolver.specs.Types.{WrittenLine, NonNamedGridPlacement, ResolvedLine, HeldEnds}
+use Rattle.coordinates.specs.declared.line.GenericGridPlacement.TheVariants as Plain
 use Rattle.name_resolver.specs.declared.ResolvedPlacement.{ResolvedPlacement}
 
 -- the grid line of a number
@@ -77,11 +74,11 @@ abbrev pub no_marks : HeldEnds
 no_marks = record { start = false; end = false }
 
 -- a placement beside the names of an axis, by the rule
-abbrev pub resolved_line : AxisNames → List ℕ → Line → ResolvedLine
+abbrev pub resolved_line : AxisNames → List ℕ → WrittenLine → ResolvedLine
 resolved_line x names l = ends_of (resolve x.explicit (named? x) (placement_of names l.start) (placement_of names l.end))
 
 -- and the marks of its ends
-abbrev pub held_line : AxisNames → List ℕ → Line → HeldEnds
+abbrev pub held_line : AxisNames → List ℕ → WrittenLine → HeldEnds
 held_line x names l = held_answer (held_ends x.explicit (named? x) (placement_of names l.start) (placement_of names l.end))
 
 -- the answer of the resolver in this paper's numbers and values: a refusal, and beside it the zero value, or the resolved placement and its marks
@@ -100,7 +97,7 @@ abbrev pub refused_resolution : Resolution
 refused_resolution = record { refusal = refusal_of count; line = zero_line; held = no_marks }
 
 -- an explicit count above 10,000 is refused by 4
-unfoldable pub resolution_of : AxisNames → List ℕ → Line → Resolution
+unfoldable pub resolution_of : AxisNames → List ℕ → WrittenLine → Resolution
 resolution_of x names l =
     cond (leb x.explicit 10000)
     (record { refusal = no_refusal; line = resolved_line x names l; held = held_line x names l })

@@ -5,8 +5,7 @@ use Rattle.name_rules.specs.Rule.{Seek, at, left, seek}
 use Rattle.name_lines.specs.Marks.{walk, start_of}
 use Rattle.name_resolver.specs.Placements.{name_of}
 use Rattle.name_resolver.specs.Steps.{first_end, second_end, resolved_ends_in, question_of, found_end}
-use Rattle.name_resolver.specs.declared.Line.{Line}
-use Rattle.name_resolver.specs.declared.ResolvedEnd.{ResolvedEnd}
+use Rattle.name_resolver.specs.Types.{WrittenLine, ResolvedEnd}
 use Rattle.name_resolver.specs.Placements.{Resolution}
 use Rattle.name_resolver.specs.declared.Question.{Question}
 use Rattle.name_resolver.specs.declared.Asked.{Asked}
@@ -35,7 +34,7 @@ answered names bytes explicit (Says.Resolved r) = r
 answered names bytes explicit (Says.Line q) = found_end explicit q (found_by names (name_of bytes q.name) q)
 
 -- a placement whose ends are asked for one after the other
-unfoldable pub answered_line : (Bytes → ℕ → Bool) → List ℕ → ℕ → Line → Resolution
+unfoldable pub answered_line : (Bytes → ℕ → Bool) → List ℕ → ℕ → WrittenLine → Resolution
 answered_line names bytes explicit l =
     let f = answered names bytes explicit (question_of explicit (first_end l)) in
     resolved_ends_in l f (answered names bytes explicit (question_of explicit (second_end l f)))

@@ -1,9 +1,9 @@
 -- What the steps of the resolver come to: which end is resolved first, what an end asks for, and the line that answers it.
-use Rattle.std.specs.Prelude.{ℕ, zero, suc, pred, ◌+◌, ◌<◌, max, min, Bool, true, false, cond, ◌||◌, ℤ, pos, negsuc, ◌+ℤ◌, ◌-ℤ◌, Option, None}
+use Rattle.std.specs.Prelude.{ℕ, zero, suc, pred, ◌+◌, max, min, Bool, true, false, cond, ◌||◌, ℤ, pos, negsuc, ◌+ℤ◌, ◌-ℤ◌, Option, None}
 use Rattle.coordinates.specs.Lines.{held, outside}
 use Rattle.coordinates.specs.Refusals.{no_refusal}
-use Rattle.coordinates.specs.Signed.{integer_of, sixteen_bits}
-use Rattle.coordinates.specs.declared.signed.HeldLine.{HeldLine}
+use Rattle.coordinates.specs.Types.{MarkedLine}
+use Rattle.coordinates.specs.declared.line.Marked.{Marked}
 use Rattle.coordinates.specs.Answers.{origin_zero_answer, grid_line_answer}
 use Rattle.coordinates.specs.declared.line.GridLine.{GridLine}
 use Rattle.name_rules.specs.Css.{Side, start, end}
@@ -15,15 +15,12 @@ use Rattle.name_lines.specs.declared.Way.{Way}
 use Rattle.name_lines.specs.declared.Way.TheVariants.{Up, Down}
 use Rattle.name_resolver.specs.Counts.{is_zero, first_line, found_line}
 use Rattle.name_resolver.specs.declared.count.Count.{Count}
-use Rattle.name_resolver.specs.declared.count.Count.TheVariants.{Forwards, Backwards}
 use Rattle.name_resolver.specs.Placements.{grid_line_of}
 use Rattle.name_resolver.specs.declared.Name.{Name}
 use Rattle.name_resolver.specs.declared.GridPlacement.{GridPlacement}
 use Rattle.name_resolver.specs.declared.GridPlacement.TheVariants as Written
-use Rattle.name_resolver.specs.declared.NonNamedGridPlacement.{NonNamedGridPlacement}
-use Rattle.name_resolver.specs.declared.NonNamedGridPlacement.TheVariants as Plain
-use Rattle.name_resolver.specs.declared.Line.{Line}
-use Rattle.name_resolver.specs.declared.ResolvedEnd.{ResolvedEnd}
+use Rattle.name_resolver.specs.Types.{WrittenLine, NonNamedGridPlacement, ResolvedEnd}
+use Rattle.coordinates.specs.declared.line.GenericGridPlacement.TheVariants as Plain
 use Rattle.name_resolver.specs.Placements.{Resolution}
 use Rattle.name_resolver.specs.declared.End.{End}
 use Rattle.name_resolver.specs.declared.Question.{Question}
@@ -46,50 +43,55 @@ line_of_end (Plain.Line g) = g
 line_of_end (Plain.Span k) = grid_line_of (pos 0)
 
 -- the start and the end of a placement, each beside a grid line, which was held or not
-abbrev pub start_beside : Line → GridLine → Bool → End
-start_beside l g h = record { placement = l.start; side = Placed.Start; beside = g; held = h }
+abbrev pub start_beside : WrittenLine → GridLine → Bool → End
+start_beside l g h = record { placement = l.start; side = Placed.Start; beside = record { value = g; held = h } }
 
-abbrev pub end_beside : Line → GridLine → Bool → End
-end_beside l g h = record { placement = l.end; side = Placed.End; beside = g; held = h }
+abbrev pub end_beside : WrittenLine → GridLine → Bool → End
+end_beside l g h = record { placement = l.end; side = Placed.End; beside = record { value = g; held = h } }
+
+-- the one or the other
+abbrev pub end_at : WrittenLine → GridAreaEnd → Marked GridLine → End
+end_at l Placed.Start b = start_beside l b.value b.held
+end_at l Placed.End b = end_beside l b.value b.held
 
 -- the start is resolved first, but the end where the start is a span of a name
-unfoldable pub first_end : Line → End
+unfoldable pub first_end : WrittenLine → End
 first_end l = cond (is_named_span l.start) (end_beside l (grid_line_of (pos 0)) false) (start_beside l (grid_line_of (pos 0)) false)
 
 -- then the other, beside the line of the first
-unfoldable pub second_end : Line → ResolvedEnd → End
+unfoldable pub second_end : WrittenLine → ResolvedEnd → End
 second_end l first =
-    cond (is_named_span l.start) (start_beside l (line_of_end first.placement) first.held) (end_beside l (line_of_end first.placement) first.held)
+    cond (is_named_span l.start) (start_beside l (line_of_end first.value) first.held) (end_beside l (line_of_end first.value) first.held)
 
 -- a start and an end, each with its mark, as an answer
 abbrev pub both_ends : ResolvedEnd → ResolvedEnd → Resolution
 both_ends s e =
     record {
       refusal = no_refusal;
-      line = record { start = s.placement; end = e.placement };
+      line = record { start = s.value; end = e.value };
       held = record { start = s.held; end = e.held };
     }
 
 -- both in their places
-unfoldable pub resolved_ends_in : Line → ResolvedEnd → ResolvedEnd → Resolution
+unfoldable pub resolved_ends_in : WrittenLine → ResolvedEnd → ResolvedEnd → Resolution
 resolved_ends_in l first second = cond (is_named_span l.start) (both_ends second first) (both_ends first second)
 
 -- an end without a mark, and a written line, which has the mark of its conversion
 abbrev pub unmarked_end : NonNamedGridPlacement → ResolvedEnd
-unmarked_end p = record { placement = p; held = false }
+unmarked_end p = record { value = p; held = false }
 
 abbrev pub written_end : ℕ → GridLine → ResolvedEnd
-written_end explicit g = record { placement = Plain.Line g; held = (origin_zero_answer explicit g.0).held }
+written_end explicit g = record { value = Plain.Line g; held = (origin_zero_answer explicit g.0).held }
 
 -- the end on an origin-zero line, which is held; on line 0, which is none, where the explicit count is refused. It is marked where a line before it
 -- was held, or this one is
 abbrev pub end_on_line : ℕ → Bool → ℤ → ResolvedEnd
-end_on_line explicit before l = record { placement = Plain.Line (grid_line_answer explicit (held l)).line; held = before || outside l }
+end_on_line explicit before l = record { value = Plain.Line (grid_line_answer explicit (held l)).line; held = before || outside l }
 
 -- the same of a line that is held already
-abbrev pub end_on_held : ℕ → Bool → HeldLine → ResolvedEnd
+abbrev pub end_on_held : ℕ → Bool → MarkedLine → ResolvedEnd
 end_on_held explicit before l =
-    record { placement = Plain.Line (grid_line_answer explicit (sixteen_bits (integer_of l.line))).line; held = before || l.held }
+    record { value = Plain.Line (grid_line_answer explicit l.value.0).line; held = before || l.held }
 
 -- the line that a search came to: missing lines are counted on past the explicit grid, or from the first line on, and back before line 0
 abbrev pub line_found : ℕ → Way → ℕ → Seek → ℤ
@@ -112,18 +114,12 @@ question_back explicit name (pos l) over before =
 question_back explicit name (negsuc k) over before = Says.Resolved (end_on_line explicit before (negsuc (k + over)))
 
 -- the question of a count either way
+abbrev pub way_question : ℕ → Name → Option GridAreaEnd → Way → ℤ → ℕ → Bool → Asked
+way_question explicit name edge Up first over before = question_ahead name edge first over before
+way_question explicit name edge Down last over before = question_back explicit name last over before
+
 abbrev pub count_question : ℕ → Name → Option GridAreaEnd → Count → Bool → Asked
-count_question explicit name edge (Forwards first over) before = question_ahead name edge (integer_of first) over before
-count_question explicit name edge (Backwards last over) before = question_back explicit name (integer_of last) over before
-
--- before line 0 the lines passed over are added to a line's number, and the sum has 32 bits
-abbrev pub BackFits : ℤ → ℕ → Type 0
-BackFits (pos l) over = Unit {0}
-BackFits (negsuc k) over = k + over < 4294967296
-
-abbrev pub CountFits : Count → Type 0
-CountFits (Forwards first over) = Unit {0}
-CountFits (Backwards last over) = BackFits (integer_of last) over
+count_question explicit name edge count before = way_question explicit name edge count.way count.first count.over before
 
 -- an area's edge is asked for first where no index is written, which is index 0
 abbrev pub index_edge : ℤ → Side → Option GridAreaEnd
@@ -156,4 +152,4 @@ placement_question explicit s g h (Written.Span n) = Says.Resolved (unmarked_end
 placement_question explicit s g h (Written.NamedSpan name n) = span_question explicit name n s g h
 
 unfoldable pub question_of : ℕ → End → Asked
-question_of explicit e = placement_question explicit (side_of e.side) e.beside.0 e.held e.placement
+question_of explicit e = placement_question explicit (side_of e.side) e.beside.value.0 e.beside.held e.placement

@@ -1,13 +1,12 @@
 // The two ends of a placement: a named span asks after the other end has its line.
 ghost use Rattle.name_resolver.specs.Placements.{answered_resolution};
-ghost use Rattle.name_resolver.specs.Steps.{both_ends, end_beside, first_end, is_named_span, line_of_end, resolved_ends_in, second_end, start_beside};
+ghost use Rattle.name_resolver.specs.Steps.{both_ends, end_at, first_end, is_named_span, line_of_end, resolved_ends_in, second_end};
 ghost use Rattle.std.specs.Prelude.{◌≡◌, Ok};
 
 use crate::{
-    End, GridPlacement, HeldEnds, Line, NonNamedGridPlacement, ResolvedEnd, ResolvedLine,
-    ResolvedPlacement,
+    End, GridPlacement, NonNamedGridPlacement, ResolvedEnd, ResolvedPlacement, WrittenLine,
 };
-use coordinates::GridLine;
+use coordinates::{GridLine, Line, Marked};
 use name_lines::GridAreaEnd;
 
 // Whether an end is a span of a name.
@@ -27,51 +26,46 @@ fn resolved_line(end: NonNamedGridPlacement) -> GridLine
     }
 }
 
-// The start of a placement, beside a grid line and its mark.
-fn start_beside(line: Line, beside: GridLine, held: bool) -> End
-    ensures { result ≡ start_beside line beside held }
+// An end of a placement, beside a grid line and its mark.
+fn end_at(line: WrittenLine, side: GridAreaEnd, beside: Marked<GridLine>) -> End
+    ensures { result ≡ end_at line side beside }
 {
+    let placement = match side {
+        GridAreaEnd::Start => line.start,
+        GridAreaEnd::End => line.end,
+    };
     End {
-        placement: line.start,
-        side: GridAreaEnd::Start,
+        placement,
+        side,
         beside,
-        held,
-    }
-}
-
-// The end of a placement, beside a grid line and its mark.
-fn end_beside(line: Line, beside: GridLine, held: bool) -> End
-    ensures { result ≡ end_beside line beside held }
-{
-    End {
-        placement: line.end,
-        side: GridAreaEnd::End,
-        beside,
-        held,
     }
 }
 
 // The end that is resolved first: the start, but the end where the start is a span of a name.
 #[tactic(auto, unfolding(crate::specs::Steps::first_end))]
-pub fn first_end(line: Line) -> End
+pub fn first_end(line: WrittenLine) -> End
     ensures { result ≡ first_end line }
 {
+    let beside = Marked::unmarked(GridLine(0));
     if is_named_span(line.start) {
-        return end_beside(line, GridLine(0), false);
+        return end_at(line, GridAreaEnd::End, beside);
     }
-    start_beside(line, GridLine(0), false)
+    end_at(line, GridAreaEnd::Start, beside)
 }
 
 // The other end, beside the line of the first and its mark.
 #[tactic(auto, unfolding(crate::specs::Steps::second_end))]
-pub fn second_end(line: Line, first: ResolvedEnd) -> End
+pub fn second_end(line: WrittenLine, first: ResolvedEnd) -> End
     ensures { result ≡ second_end line first }
 {
-    let beside = resolved_line(first.placement);
+    let beside = Marked {
+        value: resolved_line(first.value),
+        held: first.held,
+    };
     if is_named_span(line.start) {
-        return start_beside(line, beside, first.held);
+        return end_at(line, GridAreaEnd::Start, beside);
     }
-    end_beside(line, beside, first.held)
+    end_at(line, GridAreaEnd::End, beside)
 }
 
 // A start and an end, each with its mark.
@@ -79,11 +73,11 @@ fn both_ends(start: ResolvedEnd, end: ResolvedEnd) -> ResolvedPlacement
     ensures { answered_resolution (Ok result) ≡ both_ends start end }
 {
     ResolvedPlacement {
-        line: ResolvedLine {
-            start: start.placement,
-            end: end.placement,
+        line: Line {
+            start: start.value,
+            end: end.value,
         },
-        held: HeldEnds {
+        held: Line {
             start: start.held,
             end: end.held,
         },
@@ -92,7 +86,11 @@ fn both_ends(start: ResolvedEnd, end: ResolvedEnd) -> ResolvedPlacement
 
 // Both ends in their places.
 #[tactic(auto, unfolding(crate::specs::Steps::resolved_ends_in))]
-pub fn resolved_ends(line: Line, first: ResolvedEnd, second: ResolvedEnd) -> ResolvedPlacement
+pub fn resolved_ends(
+    line: WrittenLine,
+    first: ResolvedEnd,
+    second: ResolvedEnd,
+) -> ResolvedPlacement
     ensures { answered_resolution (Ok result) ≡ resolved_ends_in line first second }
 {
     if is_named_span(line.start) {

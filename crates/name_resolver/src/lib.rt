@@ -8,7 +8,7 @@ pub mod count;
 pub mod ends;
 pub mod found;
 
-use coordinates::GridLine;
+use coordinates::{GenericGridPlacement, GridLine, Line, Marked};
 use name_lines::{GridAreaEnd, Way};
 
 // Where a placement's name lies in the lent bytes of the placements' names.
@@ -29,40 +29,19 @@ pub enum GridPlacement {
 }
 
 // A placement in one axis: start and end each hold their own kind.
-#[derive(Clone, Copy, Debug, PartialEq, Eq)]
-pub struct Line {
-    pub start: GridPlacement,
-    pub end: GridPlacement,
-}
+pub type WrittenLine = Line<GridPlacement>;
 
 // One end of a placement with its names resolved.
-#[derive(Clone, Copy, Debug, PartialEq, Eq)]
-pub enum NonNamedGridPlacement {
-    Auto,
-    Line(GridLine),
-    Span(u16),
-}
+pub type NonNamedGridPlacement = GenericGridPlacement<GridLine, u16>;
 
 // A placement with its names resolved.
-#[derive(Clone, Copy, Debug, PartialEq, Eq)]
-pub struct ResolvedLine {
-    pub start: NonNamedGridPlacement,
-    pub end: NonNamedGridPlacement,
-}
+pub type ResolvedLine = Line<NonNamedGridPlacement>;
 
 // The marks of a placement: for each end whether a step on the way to its line held it within -10,000..10,000.
-#[derive(Clone, Copy, Debug, PartialEq, Eq)]
-pub struct HeldEnds {
-    pub start: bool,
-    pub end: bool,
-}
+pub type HeldEnds = Line<bool>;
 
 // One end with its name resolved, and its mark.
-#[derive(Clone, Copy, Debug, PartialEq, Eq)]
-pub struct ResolvedEnd {
-    pub placement: NonNamedGridPlacement,
-    pub held: bool,
-}
+pub type ResolvedEnd = Marked<NonNamedGridPlacement>;
 
 // The answer of the resolver: the resolved placement, and its marks.
 #[derive(Clone, Copy, Debug, PartialEq, Eq)]
@@ -76,8 +55,7 @@ pub struct ResolvedPlacement {
 pub struct End {
     pub placement: GridPlacement,
     pub side: GridAreaEnd,
-    pub beside: GridLine,
-    pub held: bool,
+    pub beside: Marked<GridLine>,
 }
 
 // The line of a name that an end asks for: an edge of its area first, where no number is written; which way its lines are counted, from which line, and past how many; whether a

@@ -1,5 +1,6 @@
 -- The nearest line of a name: distances from where a search begins, on the side that it looks at.
-use Rattle.std.specs.Prelude.{◌≡◌, Bool, true, false, ℕ, suc, ◌+◌, ◌-◌, ◌≤◌, ◌<◌}
+use Rattle.std.specs.Prelude.{◌≡◌, Bool, true, false, ℕ, suc, ◌+◌, ◌-◌, ◌≤◌, ◌<◌, Option, Some, None}
+use Rattle.name_rules.specs.Rule.{Seek, at, left}
 use Rattle.name_lines.specs.declared.Way.{Way}
 use Rattle.name_lines.specs.declared.Way.TheVariants.{Up, Down}
 
@@ -23,3 +24,8 @@ pub record Nearest (p : ℕ → Bool) (best r : ℕ) : Type 0 where
   pub within : r ≤ best
   pub holds : r < best → p r ≡ true
   pub nearer : (d : ℕ) → d < r → p d ≡ false
+
+-- the answer of a search for the nearest line: where there is none, none was to be passed over
+abbrev pub nearest_of : Option ℕ → Seek
+nearest_of (Some l) = at l
+nearest_of None = left 0

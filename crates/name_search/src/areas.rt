@@ -1,11 +1,11 @@
 // The drawn areas of an axis: the nearest of their edges that have a name, and these edges marked.
 ghost use Rattle.std.specs.Prelude.{◌+◌, suc, get_or, ◌≡◌};
-ghost use Rattle.name_rules.specs.Rule.{any};
-ghost use Rattle.name_lines.specs.Areas.{area_of, areas_of, axis_part, edge_in, edged?, side_of};
+ghost use Rattle.name_rules.specs.Rule.{any, eq_bytes};
+ghost use Rattle.name_entries.specs.Entries.{entry_of, name_in};
+ghost use Rattle.name_lines.specs.Areas.{area_of, areas_of, edge_in, edged?, side_of};
 ghost use Rattle.name_lines.specs.Marks.{Adds};
 ghost use Rattle.name_search.specs.Nearest.{Nearest, number_at};
 
-use crate::distance::nearer;
 use crate::marks::{lies_in, mark_line};
 use crate::{DrawnAreas, Sought};
 use coordinates::Axis;
@@ -14,21 +14,11 @@ use name_entries::bytes::same_bytes;
 use name_entries::entry::name_in;
 use name_lines::GridAreaEnd;
 
-// The part of a word of edges that an axis reads.
-fn axis_part(axis: Axis, word: u64) -> u64
-    ensures { result ≡ axis_part axis word }
-{
-    match axis {
-        Axis::Column => word / 0x1_0000_0000,
-        Axis::Row => word,
-    }
-}
-
 // The number of an area's edge line in an axis.
 pub(crate) fn edge_in(axis: Axis, end: GridAreaEnd, word: u64) -> u32
     ensures { result ≡ edge_in axis (side_of end) word }
 {
-    let part = axis_part(axis, word);
+    let part = axis.of(word / 0x1_0000_0000, word);
     match end {
         GridAreaEnd::Start => (part % 0x1_0000) as u32,
         GridAreaEnd::End => (part / 0x1_0000 % 0x1_0000) as u32,
@@ -39,27 +29,48 @@ pub(crate) fn edge_in(axis: Axis, end: GridAreaEnd, word: u64) -> u32
 fn word_at(words: &[u64], at: usize) -> u64
     ensures { result ≡ get_or words.now at 0 }
 {
-    match words.get(at) {
-        Some(word) => *word,
-        None => 0,
+    words.get(at).copied().unwrap_or(0)
+}
+
+// A drawn area: the word of its edges, the word of where its name lies, and the bytes of the names.
+#[derive(Clone, Copy)]
+struct DrawnArea<'a> {
+    edges: u64,
+    name: u64,
+    store: &'a [u8],
+}
+
+impl<'a> DrawnAreas<'a> {
+    // The area at a place, with the word of its edges. A name that is missing is word 0.
+    fn area(self, place: usize, edges: u64) -> DrawnArea<'a>
+        ensures edges { result.edges ≡ edges }
+        ensures name { result.name ≡ get_or self.entry.names.now place 0 }
+        ensures store { result.store.now ≡ self.entry.store.now }
+    {
+        DrawnArea {
+            edges,
+            name: word_at(self.names, place),
+            store: self.store,
+        }
+    }
+}
+
+impl DrawnArea<'_> {
+    // Whether the area has the name.
+    fn is_named(self, name: &[u8]) -> bool
+        ensures { result ≡ eq_bytes (name_in self.entry.store.now (entry_of self.entry.name)) name.now }
+    {
+        same_bytes(name_in(self.store, NameEntry::from(self.name)), name)
     }
 }
 
 // The distance of an area's edge where it is below `best` and the area has the name, else `best`. A name whose edge is not nearer is not looked at.
-fn nearest_area(
-    sought: Sought,
-    word: u64,
-    area: u64,
-    store: &[u8],
-    name: &[u8],
-    end: GridAreaEnd,
-    best: u32,
-) -> u32
-    ensures { Nearest (λ d. edged? name.now (side_of end) (number_at sought.way sought.from d) (area_of sought.axis word area store.now)) best result }
+fn nearest_area(sought: Sought, area: DrawnArea, name: &[u8], end: GridAreaEnd, best: u32) -> u32
+    ensures { Nearest (λ d. edged? name.now (side_of end) (number_at sought.way sought.from d) (area_of sought.axis area.entry.edges area.entry.name area.entry.store.now)) best result }
 {
-    let number = edge_in(sought.axis, end, word);
-    let near = nearer(sought.way, sought.from, number, best);
-    if near < best && same_bytes(name_in(store, NameEntry::from(area)), name) {
+    let number = edge_in(sought.axis, end, area.edges);
+    let near = sought.nearer(number, best);
+    if near < best && area.is_named(name) {
         return near;
     }
     best
@@ -77,28 +88,17 @@ pub(crate) fn nearest_areas(
 {
     let mut best = limit;
     for (i, word) in areas.edges.iter().enumerate() {
-        let area = word_at(areas.names, i);
-        best = nearest_area(sought, *word, area, areas.store, name, end, best);
+        best = nearest_area(sought, areas.area(i, *word), name, end, best);
     }
     best
 }
 
 // Mark an edge of a drawn area that has the name. A name whose edge lies outside is not looked at.
-fn mark_area(
-    marks: &mut [bool],
-    sought: Sought,
-    word: u64,
-    area: u64,
-    store: &[u8],
-    name: &[u8],
-    end: GridAreaEnd,
-)
-    ensures { Adds marks.old marks.new (λ k. edged? name.now (side_of end) (suc (sought.from + k)) (area_of sought.axis word area store.now)) }
+fn mark_area(marks: &mut [bool], sought: Sought, area: DrawnArea, name: &[u8], end: GridAreaEnd)
+    ensures { Adds marks.old marks.new (λ k. edged? name.now (side_of end) (suc (sought.from + k)) (area_of sought.axis area.entry.edges area.entry.name area.entry.store.now)) }
 {
-    let number = edge_in(sought.axis, end, word);
-    if lies_in(sought.from, marks.len(), number)
-        && same_bytes(name_in(store, NameEntry::from(area)), name)
-    {
+    let number = edge_in(sought.axis, end, area.edges);
+    if lies_in(sought.from, marks.len(), number) && area.is_named(name) {
         mark_line(marks, sought.from, number);
     }
 }
@@ -114,7 +114,6 @@ pub(crate) fn mark_areas(
     ensures { Adds marks.old marks.new (λ k. any (edged? name.now (side_of end) (suc (sought.from + k))) (areas_of sought.axis areas.entry.edges.now areas.entry.names.now areas.entry.store.now)) }
 {
     for (i, word) in areas.edges.iter().enumerate() {
-        let area = word_at(areas.names, i);
-        mark_area(marks, sought, *word, area, areas.store, name, end);
+        mark_area(marks, sought, areas.area(i, *word), name, end);
     }
 }

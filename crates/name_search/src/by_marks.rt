@@ -2,55 +2,41 @@
 ghost use Rattle.std.specs.Prelude.{◌-◌, ◌≤◌, ◌≡◌};
 ghost use Rattle.name_lines.specs.Marks.{seek_of, walk};
 ghost use Rattle.name_search.specs.Scans.{scan, window_length};
-ghost use Rattle.name_search.specs.Sought.{marks_of};
+ghost use Rattle.name_search.specs.Sought.{marks_in};
 
+use crate::Search;
 use crate::highest::highest_line;
-use crate::marks::mark_sought;
 use crate::seek::seek_marked;
-use crate::window::{WINDOW, Window, lines_left, lines_sought, next_window};
-use crate::{DrawnAreas, Sought};
-use name_entries::Names;
+use crate::window::{WINDOW, Window};
 
-// One window, of at most 2,048 lines: `from` is its first line.
-fn nth_in_window(
-    sought: Sought,
-    end: u32,
-    names: Names,
-    areas: DrawnAreas,
-    stem: &[u8],
-) -> Result<u32, u32>
-    requires { (sought.from ≤ end) × (end - sought.from ≤ window_length) }
-    ensures { seek_of result ≡ scan sought.way (marks_of sought names.entry.entries.now names.entry.store.now areas.entry.edges.now areas.entry.names.now areas.entry.store.now stem.now) sought.from (end - sought.from) sought.over }
-{
-    let mut marks = [false; WINDOW as usize];
-    mark_sought(&mut marks, sought, names, areas, stem);
-    let window = Window {
-        low: sought.from,
-        end,
-    };
-    seek_marked(&marks, sought.way, window, sought.over)
-}
-
-// The line of the name from the line on, or before it, after so many lines of it.
-pub(crate) fn nth_by_marks(
-    sought: Sought,
-    names: Names,
-    areas: DrawnAreas,
-    stem: &[u8],
-) -> Result<u32, u32>
-    ensures { seek_of result ≡ walk sought.way (marks_of sought names.entry.entries.now names.entry.store.now areas.entry.edges.now areas.entry.names.now areas.entry.store.now stem.now) sought.from sought.over }
-{
-    let highest = highest_line(sought.axis, names.entries, areas.edges);
-    let mut lines = lines_sought(sought.way, sought.from, highest);
-    let mut m = sought.over;
-    while lines.low < lines.end {
-        let window = next_window(sought.way, lines);
-        let part = sought.part(window.low, m);
-        match nth_in_window(part, window.end, names, areas, stem) {
-            Ok(line) => return Ok(line),
-            Err(left) => m = left,
-        }
-        lines = lines_left(sought.way, lines, window);
+impl Search<'_> {
+    // One window of at most 2,048 lines, after so many lines of the name.
+    fn nth_in_window(self, window: Window, over: u32) -> Result<u32, u32>
+        requires { (window.low ≤ window.end) × (window.end - window.low ≤ window_length) }
+        ensures { seek_of result ≡ scan self.entry.sought.way (marks_in self.entry) window.low (window.end - window.low) over }
+    {
+        let sought = self.sought.part(window.low, over);
+        let mut marks = [false; WINDOW as usize];
+        (Search { sought, ..self }).mark_sought(&mut marks);
+        seek_marked(&marks, self.sought.way, window, over)
     }
-    Err(m)
+
+    // The line of the name from the line on, or before it, after so many lines of it.
+    pub(crate) fn nth_by_marks(self) -> Result<u32, u32>
+        ensures { seek_of result ≡ walk self.entry.sought.way (marks_in self.entry) self.entry.sought.from self.entry.sought.over }
+    {
+        let way = self.sought.way;
+        let highest = highest_line(self.sought.axis, self.names.entries, self.areas.edges);
+        let mut lines = self.sought.lines_sought(highest);
+        let mut m = self.sought.over;
+        while lines.low < lines.end {
+            let window = lines.next_window(way);
+            match self.nth_in_window(window, m) {
+                Ok(line) => return Ok(line),
+                Err(left) => m = left,
+            }
+            lines = lines.lines_left(way, window);
+        }
+        Err(m)
+    }
 }

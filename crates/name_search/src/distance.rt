@@ -2,29 +2,30 @@
 ghost use Rattle.std.specs.Prelude.{◌<◌, eqb, ◌≡◌};
 ghost use Rattle.name_search.specs.Nearest.{Nearest, number_at, past, reach};
 
+use crate::Sought;
+use name_entries::LAST_LINE;
 use name_lines::Way;
 
-// The last line that can have a name.
-pub(crate) const LAST_LINE: u32 = 20000;
-
-// How many lines there are to look at: those on to the last that can have a name, or those back to the first.
-pub(crate) fn lines_on(way: Way, from: u32) -> u32
-    ensures { result ≡ reach way from }
-{
-    match way {
-        Way::Up => LAST_LINE.saturating_sub(from),
-        Way::Down => from,
+impl Sought {
+    // How many lines there are to look at: those on to the last that can have a name, or those back to the first.
+    pub(crate) fn lines_on(self) -> u32
+        ensures { result ≡ reach self.way self.from }
+    {
+        match self.way {
+            Way::Up => LAST_LINE.saturating_sub(self.from),
+            Way::Down => self.from,
+        }
     }
-}
 
-// The distance of the line of a number from 1 where it is below `best`, else `best`.
-pub(crate) fn nearer(way: Way, from: u32, number: u32, best: u32) -> u32
-    ensures { Nearest (λ d. eqb number (number_at way from d)) best result }
-{
-    match way {
-        Way::Up if from < number => best.min(number - from - 1),
-        Way::Down if number <= from => best.min(from - number),
-        _ => best,
+    // The distance of the line of a number from 1 where it is below `best`, else `best`.
+    pub(crate) fn nearer(self, number: u32, best: u32) -> u32
+        ensures { Nearest (λ d. eqb number (number_at self.way self.from d)) best result }
+    {
+        match self.way {
+            Way::Up if self.from < number => best.min(number - self.from - 1),
+            Way::Down if number <= self.from => best.min(self.from - number),
+            _ => best,
+        }
     }
 }
 

@@ -6,7 +6,6 @@ ghost use Rattle.name_search.specs.Nearest.{Nearest, number_at};
 ghost use Rattle.std.specs.Prelude.{◌++◌};
 
 use crate::Sought;
-use crate::distance::nearer;
 use name_entries::{NameEntry, Names};
 use name_lines::suffix::has_name;
 
@@ -14,7 +13,7 @@ use name_lines::suffix::has_name;
 fn nearest_entry(sought: Sought, word: u64, store: &[u8], stem: &[u8], best: u32) -> u32
     ensures { Nearest (λ d. written? (stem.now ++ tail_of sought.edge) (number_at sought.way sought.from d) (named_entry store.now (entry_of word))) best result }
 {
-    let near = nearer(sought.way, sought.from, NameEntry::from(word).line, best);
+    let near = sought.nearer(NameEntry::from(word).line, best);
     if near < best && has_name(store, word, stem, sought.edge) {
         return near;
     }

@@ -11,11 +11,9 @@ use name_lines::GridAreaEnd;
 fn highest_entry(entries: &[u64]) -> u32
     ensures { result ≡ highest_entry 0 entries.now }
 {
-    let mut number = 0;
-    for word in entries {
-        number = number.max(NameEntry::from(*word).line);
-    }
-    number
+    entries
+        .iter()
+        .fold(0, |number, word| number.max(NameEntry::from(*word).line))
 }
 
 // A number, or that of an area's edge in an axis where it is higher.
@@ -31,9 +29,8 @@ fn higher_edge(axis: Axis, number: u32, word: u64) -> u32
 pub(crate) fn highest_line(axis: Axis, entries: &[u64], edges: &[u64]) -> u32
     ensures { result ≡ highest_line axis entries.now edges.now }
 {
-    let mut number = highest_entry(entries);
-    for word in edges {
-        number = higher_edge(axis, number, *word);
-    }
-    number
+    let number = highest_entry(entries);
+    edges
+        .iter()
+        .fold(number, |number, word| higher_edge(axis, number, *word))
 }

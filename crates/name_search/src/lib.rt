@@ -4,7 +4,7 @@
 
 ghost use Rattle.name_lines.specs.Marks.{seek_of, start_of};
 ghost use Rattle.name_search.specs.Scans.{part_of};
-ghost use Rattle.name_search.specs.Sought.{line_sought, marks_of};
+ghost use Rattle.name_search.specs.Sought.{line_sought, marks_in};
 ghost use Rattle.std.specs.Prelude.{◌≡◌};
 
 mod areas;
@@ -18,11 +18,8 @@ mod nearest;
 mod seek;
 mod window;
 
-use by_distance::nth_by_distance;
-use by_marks::nth_by_marks;
 use coordinates::Axis;
-use distance::LAST_LINE;
-use name_entries::Names;
+use name_entries::{LAST_LINE, Names};
 use name_lines::{GridAreaEnd, Way};
 
 // The drawn areas of a panel: a word of edges and a word of where its name lies for each, and the bytes of the names.
@@ -41,6 +38,15 @@ pub struct Sought {
     pub edge: Option<GridAreaEnd>,
     pub over: u32,
     pub way: Way,
+}
+
+// A search: what is sought, the name entries and the drawn areas among whose lines it is sought, and the stem of the name.
+#[derive(Clone, Copy)]
+pub struct Search<'a> {
+    pub sought: Sought,
+    pub names: Names<'a>,
+    pub areas: DrawnAreas<'a>,
+    pub stem: &'a [u8],
 }
 
 impl Sought {
@@ -65,14 +71,20 @@ fn start_of(way: Way, from: u32) -> u32
     }
 }
 
-// The line that is sought among the lines of the entries and the edges of the drawn areas, as far as line 20,000, or how many lines were still to be passed over.
-#[tactic(auto, unfolding(crate::specs::Sought::line_sought))]
-pub fn nth_line(sought: Sought, names: Names, areas: DrawnAreas, stem: &[u8]) -> Result<u32, u32>
-    ensures { seek_of result ≡ line_sought sought (marks_of sought names.entry.entries.now names.entry.store.now areas.entry.edges.now areas.entry.names.now areas.entry.store.now stem.now) }
-{
-    let held = sought.part(start_of(sought.way, sought.from), sought.over);
-    if names.entries.len() <= FEW && areas.edges.len() <= FEW {
-        return nth_by_distance(held, names, areas, stem);
+impl Search<'_> {
+    // The line that is sought among the lines of the entries and the edges of the drawn areas, as far as line 20,000, or how many lines were still to be passed over.
+    #[tactic(auto, unfolding(crate::specs::Sought::line_sought))]
+    pub fn nth_line(self) -> Result<u32, u32>
+        ensures { seek_of result ≡ line_sought self.entry.sought (marks_in self.entry) }
+    {
+        let sought = self.sought;
+        let held = Search {
+            sought: sought.part(start_of(sought.way, sought.from), sought.over),
+            ..self
+        };
+        if self.names.entries.len() <= FEW && self.areas.edges.len() <= FEW {
+            return held.nth_by_distance();
+        }
+        held.nth_by_marks()
     }
-    nth_by_marks(held, names, areas, stem)
 }

@@ -4,10 +4,10 @@ ghost use Rattle.name_rules.specs.Rule.{any, written?};
 ghost use Rattle.name_lines.specs.Marks.{Adds, lies_in};
 ghost use Rattle.name_lines.specs.Suffixes.{tail_of};
 ghost use Rattle.name_entries.specs.Entries.{entries_of, entry_of, named_entry};
-ghost use Rattle.name_search.specs.Sought.{marks_of};
+ghost use Rattle.name_search.specs.Sought.{marks_in};
 
 use crate::areas::mark_areas;
-use crate::{DrawnAreas, Sought};
+use crate::{Search, Sought};
 use name_entries::{NameEntry, Names};
 use name_lines::suffix::has_name;
 
@@ -46,19 +46,14 @@ fn mark_entries(marks: &mut [bool], sought: Sought, names: Names, stem: &[u8])
     }
 }
 
-// Mark the lines of the name that is the stem followed by the suffix of the edge, from line `from` of what is sought on: those of entries, and that edge of the drawn areas that have the stem for a name.
-pub(crate) fn mark_sought(
-    marks: &mut [bool],
-    sought: Sought,
-    names: Names,
-    areas: DrawnAreas,
-    stem: &[u8],
-)
-    ensures { Adds marks.old marks.new (λ k. marks_of sought names.entry.entries.now names.entry.store.now areas.entry.edges.now areas.entry.names.now areas.entry.store.now stem.now (sought.from + k)) }
-{
-    mark_entries(marks, sought, names, stem);
-    match sought.edge {
-        Some(end) => mark_areas(marks, sought, areas, stem, end),
-        None => {}
+impl Search<'_> {
+    // Mark the lines of the name that is the stem followed by the suffix of the edge, from line `from` of what is sought on: those of entries, and that edge of the drawn areas that have the stem for a name.
+    pub(crate) fn mark_sought(self, marks: &mut [bool])
+        ensures { Adds marks.old marks.new (λ k. marks_in self.entry (self.entry.sought.from + k)) }
+    {
+        mark_entries(marks, self.sought, self.names, self.stem);
+        if let Some(end) = self.sought.edge {
+            mark_areas(marks, self.sought, self.areas, self.stem, end);
+        }
     }
 }

@@ -1,8 +1,9 @@
 // Windows of lines: what is looked at in one go.
-ghost use Rattle.std.specs.Prelude.{◌≤◌, ◌≡◌};
-ghost use Rattle.name_search.specs.Scans.{lines_left, lines_sought, next_window};
+ghost use Rattle.std.specs.Prelude.{◌-◌, ◌<◌, ◌≤◌, ◌≡◌};
+ghost use Rattle.name_search.specs.Scans.{lines_left, lines_sought, next_window, place_at};
 
-use crate::distance::LAST_LINE;
+use crate::Sought;
+use name_entries::LAST_LINE;
 use name_lines::Way;
 
 // The lines from `low` on before `end`.
@@ -15,54 +16,69 @@ pub(crate) struct Window {
 // How many lines are marked at a time.
 pub(crate) const WINDOW: u32 = 2048;
 
-// The lines that a search looks at, where none past the `highest` bears a name.
-pub(crate) fn lines_sought(way: Way, from: u32, highest: u32) -> Window
-    ensures { result ≡ lines_sought way from highest }
-{
-    match way {
-        Way::Up => Window {
-            low: from,
-            end: highest.min(LAST_LINE),
-        },
-        Way::Down => Window {
-            low: 0,
-            end: from.min(highest),
-        },
+impl Sought {
+    // The lines that a search looks at, where none past the `highest` bears a name.
+    pub(crate) fn lines_sought(self, highest: u32) -> Window
+        ensures { result ≡ lines_sought self.way self.from highest }
+    {
+        match self.way {
+            Way::Up => Window {
+                low: self.from,
+                end: highest.min(LAST_LINE),
+            },
+            Way::Down => Window {
+                low: 0,
+                end: self.from.min(highest),
+            },
+        }
     }
 }
 
-// The next of the lines in a search: the first 2,048 of them, or the last.
-pub(crate) fn next_window(way: Way, lines: Window) -> Window
-    requires { lines.low ≤ lines.end }
-    ensures { result ≡ next_window way lines }
-{
-    if lines.end - lines.low <= WINDOW {
-        return lines;
+impl Window {
+    // The next of the lines in a search: the first 2,048 of them, or the last.
+    pub(crate) fn next_window(self, way: Way) -> Window
+        requires { self.low ≤ self.end }
+        ensures { result ≡ next_window way self }
+    {
+        if self.end - self.low <= WINDOW {
+            return self;
+        }
+        match way {
+            Way::Up => Window {
+                end: self.low + WINDOW,
+                ..self
+            },
+            Way::Down => Window {
+                low: self.end - WINDOW,
+                ..self
+            },
+        }
     }
-    match way {
-        Way::Up => Window {
-            low: lines.low,
-            end: lines.low + WINDOW,
-        },
-        Way::Down => Window {
-            low: lines.end - WINDOW,
-            end: lines.end,
-        },
-    }
-}
 
-// The lines that are left after a window of them.
-pub(crate) fn lines_left(way: Way, lines: Window, window: Window) -> Window
-    ensures { result ≡ lines_left way lines window }
-{
-    match way {
-        Way::Up => Window {
-            low: window.end,
-            end: lines.end,
-        },
-        Way::Down => Window {
-            low: lines.low,
-            end: window.low,
-        },
+    // The lines that are left after a window of them.
+    pub(crate) fn lines_left(self, way: Way, window: Window) -> Window
+        ensures { result ≡ lines_left way self window }
+    {
+        match way {
+            Way::Up => Window {
+                low: window.end,
+                ..self
+            },
+            Way::Down => Window {
+                end: window.low,
+                ..self
+            },
+        }
+    }
+
+    // The place that is looked at after so many: from the first on, or from the last back.
+    pub(crate) fn place_at(self, way: Way, passed: u32) -> u32
+        requires { passed < self.end - self.low }
+        ensures { result ≡ place_at way (self.end - self.low) passed }
+    {
+        match way {
+            Way::Up => passed,
+            Way::Down => self.end - self.low - 1 - passed,
+        }
     }
 }

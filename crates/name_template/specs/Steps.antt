@@ -43,5 +43,5 @@ pub record Writable (names : List ℕ) (at : ℕ) (c : ComponentNames) (line roo
   pub from : at ≤ c.before
   pub to : c.before ≤ c.inside
   pub within : c.inside ≤ length names
-  pub low : line + c.times * c.tracks ≤ 8589934592
+  pub low : line + c.times * c.tracks ≤ 2147483648
   pub fits : place + component_count at c ≤ room

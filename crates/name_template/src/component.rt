@@ -6,6 +6,7 @@ ghost use Rattle.name_template.specs.Steps.{component_names};
 use crate::record::stands_there;
 use crate::repeat::{line_after, repetitions_written, times_of};
 use crate::{ComponentNames, TemplateNames};
+use template_rules::GridTemplateComponent;
 
 impl TemplateNames<'_> {
     // The end of the records from a place on that stand before a component, or inside it.
@@ -27,16 +28,17 @@ impl TemplateNames<'_> {
     {
         let before = self.end_of_names(at, component as u64, false);
         let inside = self.end_of_names(before, component as u64, true);
-        let parts = template_rules::component::component_of(self.components[component]);
+        let parts = GridTemplateComponent::from(self.components[component]);
         let count = parts.count;
         let tracks = parts.length;
         let times = times_of(count, u64::from(self.repetitions));
+        let written = repetitions_written(times, line, tracks);
         ComponentNames {
             before,
             inside,
-            times: repetitions_written(times, line, tracks),
+            times: written,
             tracks,
-            line: line_after(times, line, tracks),
+            line: line_after(times, line, tracks, written),
         }
     }
 }

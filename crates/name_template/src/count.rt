@@ -2,14 +2,18 @@
 ghost use Rattle.std.specs.Prelude.{◌≡◌, ◌+◌, ◌*◌, ◌≤◌, min, length};
 ghost use Rattle.name_template.specs.Writing.{written_entries};
 
-use crate::TemplateNames;
+use crate::{MOST_COMPONENTS, TemplateNames};
+use name_entries::MOST_ENTRIES;
+
+// More entries than an axis has.
+const TOO_MANY: u64 = MOST_ENTRIES as u64 + 1;
 
 // A count and so many names more, so many times, held at 4,097.
 fn held_sum(count: u64, names: u64, times: u64) -> u64
     requires { count ≤ 4097 }
     ensures { result ≡ min 4097 (count + times * names) }
 {
-    (count + times.min(4097) * names.min(4097)).min(4097)
+    (count + times.min(TOO_MANY) * names.min(TOO_MANY)).min(TOO_MANY)
 }
 
 impl TemplateNames<'_> {
@@ -17,7 +21,7 @@ impl TemplateNames<'_> {
     pub fn count_names(self) -> u32
         ensures { result ≡ min 4097 (length (written_entries self.entry.names.now self.entry.components.now self.entry.repetitions)) }
     {
-        let last = self.components.len().min(256);
+        let last = self.components.len().min(MOST_COMPONENTS);
         let mut count: u64 = 0;
         let mut at: usize = 0;
         let mut line: u64 = 1;

@@ -8,6 +8,9 @@ pub mod record;
 mod repeat;
 mod write_out;
 
+// The most components that a name record can name.
+const MOST_COMPONENTS: usize = 256;
+
 // The names of a template: the words of its name records and of its components, and the repetitions found for its automatic repeat.
 #[derive(Clone, Copy)]
 pub struct TemplateNames<'a> {

@@ -3,7 +3,11 @@ ghost use Rattle.std.specs.Prelude.{◌≡◌, ◌≤◌};
 ghost use Rattle.name_template.specs.Writing.{times_of, line_after};
 ghost use Rattle.name_template.specs.Steps.{repetitions_written};
 
+use coordinates::line::MOST_TRACKS;
 use template_rules::RepetitionCount;
+
+// Names are written as far as this line.
+const LAST_WRITTEN: u64 = MOST_TRACKS as u64;
 
 // A repeat's count, or the repetitions found for an automatic one. A single repeats nothing.
 pub fn times_of(count: RepetitionCount, repetitions: u64) -> u64
@@ -23,22 +27,23 @@ pub fn repetitions_written(times: u64, line: u64, tracks: u64) -> u64
     if times == 0 {
         return 0;
     }
-    if 10000 < line {
+    if LAST_WRITTEN < line {
         return 1;
     }
     if tracks == 0 {
         return times;
     }
-    times.min((10000 - line) / tracks + 1)
+    times.min((LAST_WRITTEN - line) / tracks + 1)
 }
 
-// The line after a component. Tracks and lines are small, as words hold them.
-pub(crate) fn line_after(times: u64, line: u64, tracks: u64) -> u64
-    requires { (line ≤ 4294967296) × (tracks ≤ 65535) }
+// The line after a component whose names are written so many times. Tracks and lines are small, as words hold them.
+pub(crate) fn line_after(times: u64, line: u64, tracks: u64, written: u64) -> u64
+    requires small { (line ≤ 4294967296) × (tracks ≤ 65535) }
+    requires counted { written ≡ repetitions_written times line tracks }
     ensures { result ≡ line_after times line tracks }
 {
     if times == 0 {
         return line + 1;
     }
-    line + repetitions_written(times, line, tracks) * tracks
+    line + written * tracks
 }

@@ -4,23 +4,28 @@ ghost use Rattle.std.proofs.lemmas.List.Edits.{sets};
 ghost use Rattle.name_template.specs.Writing.{answered_names, entry_on, entries_on, written_entries, entry_word, names_written};
 ghost use Rattle.name_template.specs.Steps.{copies_on, component_count, component_entries, Writable};
 
-use crate::{ComponentNames, NameRecord, TemplateNames};
+use crate::{ComponentNames, MOST_COMPONENTS, NameRecord, TemplateNames};
 use coordinates::Fault;
+use name_entries::{MOST_ENTRIES, NameEntry};
 
 // The word of a record's entry, where its component or the repetition begins on that line.
 #[tactic(auto, unfolding(crate::specs::Records::record_of))]
 fn word_on(line: u64, word: u64) -> u64
-    requires { line ≤ 8589934592 }
+    requires { line ≤ 2147483648 }
     ensures { result ≡ entry_word (entry_on line word) }
 {
     let record = NameRecord::from(word);
     let on = line + record.place.saturating_sub(1);
-    on + record.offset * 0x1_0000 + record.length * 0x1_0000_0000
+    u64::from(NameEntry {
+        line: on as u32,
+        offset: record.offset as u32,
+        length: record.length as u32,
+    })
 }
 
 // Writes the entries of some records, one after the other from a place on.
 fn write_once(names: &[u64], line: u64, entries: &mut [u64], place: usize)
-    requires { (line ≤ 8589934592) × (place + length names.now ≤ length entries.old) }
+    requires { (line ≤ 2147483648) × (place + length names.now ≤ length entries.old) }
     ensures { entries.new ≡ sets entries.old place (map entry_word (entries_on line names.now)) }
 {
     for (j, word) in names.iter().enumerate() {
@@ -37,7 +42,7 @@ fn write_copies(
     entries: &mut [u64],
     place: usize,
 ) -> usize
-    requires { (line + times * tracks ≤ 8589934592) × (place + times * length names.now ≤ length entries.old) }
+    requires { (line + times * tracks ≤ 2147483648) × (place + times * length names.now ≤ length entries.old) }
     ensures { (result ≡ place + times * length names.now) × (entries.new ≡ sets entries.old place (map entry_word (copies_on times line tracks names.now))) }
 {
     if names.is_empty() {
@@ -84,7 +89,7 @@ impl TemplateNames<'_> {
         requires { length (written_entries self.names.now self.components.now self.repetitions) ≤ length entries.old }
         ensures { entries.new ≡ sets entries.old 0 (map entry_word (written_entries self.entry.names.now self.entry.components.now self.entry.repetitions)) }
     {
-        let last = self.components.len().min(256);
+        let last = self.components.len().min(MOST_COMPONENTS);
         let mut o: usize = 0;
         let mut at: usize = 0;
         let mut line: u64 = 1;
@@ -100,11 +105,11 @@ impl TemplateNames<'_> {
 
     // Writes the template's names into the first places of the table of entries, and answers how many there are. 8: more than 4,096 of them.
     #[tactic(auto, unfolding(crate::specs::Writing::names_written))]
-    pub fn write_names(self, entries: &mut [u64; 4096]) -> Result<u32, Fault>
+    pub fn write_names(self, entries: &mut [u64; MOST_ENTRIES]) -> Result<u32, Fault>
         ensures { record { answer = answered_names result; entries = entries.new } ≡ names_written self.entry.names.now self.entry.components.now self.entry.repetitions entries.old }
     {
         let count = self.count_names();
-        if 4096 < count {
+        if MOST_ENTRIES < count as usize {
             return Err(Fault::Crowded);
         }
         self.write_all(entries);

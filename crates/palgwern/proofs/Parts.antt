@@ -8,9 +8,6 @@ use borrow.Author.Tests.{leb-true, leb-false, le-leb, lt-leb, lt-ltb, le-ltb}
 use lib.Dec.{leb}
 use lib.ListN.{length, take, drop, length-drop, drop_of_length-le}
 use lib.Seq.{take_all, take-nil}
-use Rattle.coordinates.specs.declared.axis.Axis.{Axis}
-use Rattle.coordinates.specs.declared.axis.Axis.TheVariants.{Column, Row}
-use Rattle.name_entries.specs.LineNames.{of_axis}
 use Rattle.name_entries.specs.declared.NameEntry.{NameEntry}
 use Rattle.axis_tables.specs.Runs.{part_of}
 use Rattle.panel_tables.specs.declared.Grid.{Grid}
@@ -48,11 +45,6 @@ cut_part store offset n = by (leb offset (length store)) refl
         let a : length store ≤ length store = omega arith in
         let b : length store ≤ offset = omega (arith, h) in
         rw (k, drop_of_length-le store a, drop_of_length-le store b) (take-nil (min n (length store - offset)) ∙ sym (take-nil n))
-
--- the length of the store of an axis
-pub axis_length : (a : Axis) (columns rows : List ℕ) → of_axis a (length columns) (length rows) ≡ length (of_axis a columns rows)
-axis_length Column columns rows = refl
-axis_length Row columns rows = refl
 
 -- ---- what the call shows
 

@@ -21,7 +21,7 @@ listed_hits w = record { answer = record { number = w.answer.number; count = w.a
 unfoldable pub hits_within : Grid → List ℕ → Lent → ℕ → List ℕ → ℕ → ℕ → List ℕ → ListedHits
 unfolding placements_within
 hits_within g words l axis items low high hits =
-    cond (is_axis axis) (listed_hits (placements_within g words l items (record { axis = axis_of axis; low = low; high = high }) hits))
+    cond (is_axis axis) (listed_hits (placements_within g words l items (record { axis = axis_of axis; bits = record { low = low; high = high } }) hits))
     (record { answer = uncounted (no_axis_positions low high); hits = hits })
 
 unfoldable pub hits_around : Grid → List ℕ → Lent → ℕ → List ℕ → ℤ → List ℕ → ListedHits

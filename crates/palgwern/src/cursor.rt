@@ -3,7 +3,8 @@ ghost use Rattle.std.specs.Prelude.{◌≡◌};
 ghost use Rattle.palgwern.specs.Cursor.{nearest_line_of};
 
 use crate::axis_in;
-use panel_positions::{LineAnswer, SpanBits, nearest_line, positions_on_no_axis};
+use line_positions::Span;
+use panel_positions::{LineAnswer, nearest_line, positions_on_no_axis};
 use panel_tables::Grid;
 use panel_tables::region::PANEL_WORDS;
 
@@ -20,11 +21,7 @@ pub extern "C" fn palgwern_nearest_line(
     ensures { result ≡ nearest_line_of grid words.now axis items.now cursor }
 {
     let Ok(axis) = axis_in(axis) else {
-        let span = SpanBits {
-            low: cursor,
-            high: cursor,
-        };
-        return LineAnswer::from(Err(positions_on_no_axis(span)));
+        return LineAnswer::from(Err(positions_on_no_axis(Span::at(cursor))));
     };
     LineAnswer::from(nearest_line(grid, words, axis, items, cursor))
 }

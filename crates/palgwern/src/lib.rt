@@ -6,13 +6,12 @@ mod sheets;
 
 ghost use Rattle.std.specs.Prelude.{◌≡◌, ◌≤◌, ◌<◌, MatchResult};
 ghost use Rattle.coordinates.specs.Axes.{axis_of};
-ghost use Rattle.coordinates.specs.Refusals.{number_of};
 ghost use Rattle.coordinates.specs.declared.refusal.Fault.TheVariants.{Count};
 ghost use Rattle.panel_tables.specs.Regions.{area_words_in, placement_words_in};
 ghost use Rattle.panel_rules.specs.Calls.{name_tables_in, area_table_in, placement_table_in};
 ghost use Rattle.panel_rules.specs.Placing.{resolve_placement};
 ghost use Rattle.panel_names.specs.Lent.{lent_tables};
-ghost use Rattle.library_numbers.specs.Answers.{answered_name, PanelEntered, name_entered, size_of, line_count_of, record_count_of, placement_numbers};
+ghost use Rattle.library_numbers.specs.Answers.{answered_count_numbers, answered_name, PanelEntered, name_entered, size_of, line_count_of, record_count_of, placement_numbers};
 ghost use Rattle.palgwern.specs.Names.{ShowsName};
 ghost use Rattle.library_numbers.specs.Records.{WrittenRun, records_written};
 ghost use Rattle.library_names.specs.Lists.{lists_written};
@@ -51,17 +50,6 @@ pub(crate) fn axis_in(number: u32) -> Result<Axis, Fault>
     Ok(Axis::from(number))
 }
 
-// A panel as it came, with the number of a fault.
-fn refused_entry(panel: Panel, fault: Fault) -> PanelAnswer
-    ensures { result ≡ record { number = number_of fault; line = 0; panel = panel } }
-{
-    PanelAnswer {
-        number: u32::from(fault),
-        line: 0,
-        panel,
-    }
-}
-
 // A panel with one more line and name entered in an axis.
 #[tactic(auto, unfolding(library_numbers::specs::Answers::name_entered))]
 #[unsafe(no_mangle)]
@@ -77,16 +65,14 @@ pub extern "C" fn palgwern_enter_name(
     ensures rowstore_after { record { answer = result; tables = name_tables_in words.new columnstore.new rowstore.new } ≡ name_entered panel (name_tables_in words.old columnstore.old rowstore.old) axis line name.now }
     ensures others { (area_words_in words.new ≡ area_words_in words.old) × (placement_words_in words.new ≡ placement_words_in words.old) }
 {
-    let Ok(axis) = axis_in(axis) else {
-        return refused_entry(panel, entry_in_no_axis(name));
+    let entered = match axis_in(axis) {
+        Ok(axis) => enter_name(panel, words, columnstore, rowstore, axis, line, name),
+        Err(_) => Err(entry_in_no_axis(name)),
     };
-    match enter_name(panel, words, columnstore, rowstore, axis, line, name) {
-        Ok(entered) => PanelAnswer {
-            number: 0,
-            line: 0,
-            panel: entered,
-        },
-        Err(fault) => refused_entry(panel, fault),
+    PanelAnswer {
+        number: entered.err().map_or(0, u32::from),
+        line: 0,
+        panel: entered.unwrap_or(panel),
     }
 }
 
@@ -171,12 +157,11 @@ fn place_name(
     ensures { ShowsName grid (lent_tables lent.entry) axis line place (answered_name result) }
 {
     let axis = axis_in(axis)?;
-    if lent.columnstore.len().min(lent.rowstore.len()) < AXIS_BYTES {
+    if lent.shorter_store() < AXIS_BYTES {
         return Err(Fault::Short);
     }
     let entry = line_entry(grid, lent, axis, line, place);
-    let bytes = part::store_length(axis, lent.columnstore.len(), lent.rowstore.len());
-    Ok(part::name_part(bytes, entry))
+    Ok(part::name_part(lent.store(axis).len(), entry))
 }
 
 // Where a name of a line of an axis lies in the axis's store, by its place from 0.
@@ -200,9 +185,22 @@ pub extern "C" fn palgwern_line_name(
     NameAnswer::from(place_name(grid, lent, axis, line, place))
 }
 
+// Writes all line names of an axis by its number.
+#[tactic(auto, unfolding(library_names::specs::Lists::lists_written))]
+fn write_names(
+    grid: Grid,
+    lent: LentNames,
+    axis: u32,
+    names: &mut [u64; LINE_NAME_RUN],
+) -> Result<u64, Fault>
+    ensures { record { answer = answered_count_numbers result; words = names.new } ≡ lists_written grid (lent_tables lent.entry) axis names.old }
+{
+    let axis = axis_in(axis)?;
+    write_lists(grid, lent, axis, names)
+}
+
 // All line names of an axis, one list for each explicit line after the other: a word for each name, its line, its offset in the
 // axis's store times 2^16 and its length times 2^32.
-#[tactic(auto, unfolding(library_names::specs::Lists::lists_written))]
 #[unsafe(no_mangle)]
 pub extern "C" fn palgwern_line_names(
     grid: Grid,
@@ -219,14 +217,26 @@ pub extern "C" fn palgwern_line_names(
         columnstore,
         rowstore,
     };
-    match axis_in(axis) {
-        Ok(axis) => CountAnswer::from(write_lists(grid, lent, axis, names)),
-        Err(fault) => CountAnswer::from(Err(fault)),
-    }
+    CountAnswer::from(write_names(grid, lent, axis, names))
+}
+
+// Writes records of an axis by its number.
+#[tactic(auto, unfolding(library_numbers::specs::Records::records_written))]
+fn write_records(
+    grid: Grid,
+    words: &[u64; PANEL_WORDS],
+    axis: u32,
+    items: &[u8],
+    first: u32,
+    records: &mut [u64],
+) -> Result<u64, Fault>
+    ensures { record { answer = answered_count_numbers result; words = records.new } ≡ records_written grid words.now axis items.now first records.old }
+{
+    let axis = axis_in(axis)?;
+    write_run(grid, words, axis, items, first, records)
 }
 
 // Records of an axis from `first` on, as many as there are and fit: three words each, kind, minimum and maximum.
-#[tactic(auto, unfolding(library_numbers::specs::Records::records_written))]
 #[unsafe(no_mangle)]
 pub extern "C" fn palgwern_records(
     grid: Grid,
@@ -238,8 +248,5 @@ pub extern "C" fn palgwern_records(
 ) -> CountAnswer
     ensures { record { answer = result; words = records.new } ≡ records_written grid words.now axis items.now first records.old }
 {
-    match axis_in(axis) {
-        Ok(axis) => CountAnswer::from(write_run(grid, words, axis, items, first, records)),
-        Err(fault) => CountAnswer::from(Err(fault)),
-    }
+    CountAnswer::from(write_records(grid, words, axis, items, first, records))
 }

@@ -1,28 +1,27 @@
 -- Lines are written one after the other until none is left, or any line might not fit.
 use Prim.Native.Nat.{ℕ, ◌+◌, ◌-◌, ◌≤◌, ◌<◌}
 use mathlib.Core.Path.{◌≡◌, refl, sym, ap, ap₂, ◌∙◌}
-use mathlib.Core.Bool.{Bool, true, false, not}
+use mathlib.Core.Bool.{Bool, true, false, cond, true≢false}
 use mathlib.Core.List.{List, [], ◌∷◌, ◌++◌, append-nil, append_assoc}
 use native.Mathlib.Omega.{arith}
+use lib.Dec.{eqb}
 use borrow.Author.Tests.{ne_eqb}
 use lib.ListN.{length, take, drop, length-append, length-drop, drop_of_length-le}
 use lib.Seq.{sets, sets-eq, length-sets, drop-drop, take_all}
 use Rattle.name_template.proofs.Placing.{sets_append}
-use Rattle.std.specs.Prelude.{Result, Ok, Err}
+use Rattle.std.specs.Prelude.{Option, Some, None, is_some}
 use Rattle.coordinates.specs.Refusals.{number_of}
 use Rattle.coordinates.proofs.Faults.{fault_some}
-use Rattle.panel_tables.specs.declared.Panel.{Panel}
-use Rattle.panel_tables.specs.Written.{zero_panel}
 use Rattle.sheet_rules.specs.declared.SheetFault.{SheetFault}
-use Rattle.sheet_rules.specs.declared.SheetFault.TheVariants.{Overlap as Overlaps, Line}
-use Rattle.sheet_rules.specs.Answers.{answered_sheet, refused_with}
-use Rattle.sheet_rules.specs.Panels.{Tables}
+use Rattle.sheet_rules.specs.declared.SheetFault.TheVariants.{Overlap as Overlaps, Line, Whole}
+use Rattle.sheet_rules.specs.Answers.{refused_with}
 use Rattle.sheet_rules.specs.Read.{SheetRead}
 use Rattle.coordinates.specs.declared.axis.Axis.TheVariants.{Column, Row}
 use Rattle.panel_text.specs.Written.{WritesLine}
-use Rattle.panel_answer.specs.declared.AnswerLine.{AnswerLine}
-use Rattle.panel_answer.specs.declared.AnswerLine.TheVariants.{Refused, Size, Record, Place, End}
-use Rattle.panel_answer.specs.Answer.{GridHeld, text_of, lines_of}
+use Rattle.panel_answer.specs.declared.AnswerLine.{AnswerLine as Told}
+use Rattle.panel_answer.specs.declared.AnswerLine.TheVariants.{Refused as ToldRefused, Size as ToldSize, Record as ToldRecord, Place as ToldPlace}
+use Rattle.panel_answer.specs.Listed.{AnswerLine, Refused, Size, Record, Place, End, answered_line, answered_next}
+use Rattle.panel_answer.specs.Answer.{GridHeld, answer_lines, text_of, lines_of}
 use Rattle.panel_answer.specs.Walk.{is_end, first_line, line_text, line_after}
 use Rattle.panel_answer.specs.declared.Filled.{Filled}
 use Rattle.panel_answer.specs.Text.{lines_from, text_from, WritesUpTo, FillsText}
@@ -48,17 +47,21 @@ rest_back out seg count =
     let e : drop (length out - count) (drop count out) ≡ [] = drop_of_length-le (drop count out) l in
     ap (λ (z : List ℕ). take count out ++ z) (ap (λ (z : List ℕ). seg ++ z) e ∙ append-nil seg)
 
-true_false : true ≡ false → ⊥
-true_false p = let z : ◌≡◌ {A = ℕ} 0 1 = cc in omega arith
+-- a line that is told is not the end
+pub not-end : (at : Told) → is_end (answered_line at) ≡ false
+not-end (ToldRefused f) = refl
+not-end (ToldSize a) = refl
+not-end (ToldRecord a i s) = refl
+not-end (ToldPlace i) = refl
 
--- a test the other way round
-pub not_true : (b : Bool) → not b ≡ true → b ≡ false
-not_true true e = sym e
-not_true false e = refl
+-- where a line is told one is left, and else none
+pub told-left : (n : Option Told) → is_some n ≡ true → is_end (answered_next n) ≡ false
+told-left None e = absurd (true≢false (sym e))
+told-left (Some at) e = not-end at
 
-pub not_false : (b : Bool) → not b ≡ false → b ≡ true
-not_false true e = refl
-not_false false e = sym e
+pub none-left : (n : Option Told) → is_some n ≡ false → answered_next n ≡ End
+none-left None e = refl
+none-left (Some at) e = absurd (true≢false e)
 
 -- a line is left before the end
 pub some_left : (h : GridHeld) (at : AnswerLine) → is_end at ≡ false → 1 ≤ lines_from h at
@@ -68,30 +71,31 @@ some_left h (Size Row) e = omega arith
 some_left h (Record Column i s) e = omega arith
 some_left h (Record Row i s) e = omega arith
 some_left h (Place i) e = omega arith
-some_left h End e = absurd (true_false e)
+some_left h End e = absurd (true≢false e)
 
 pub at-end : (at : AnswerLine) → is_end at ≡ true → at ≡ End
-at-end (Refused r) e = absurd (true_false (sym e))
-at-end (Size a) e = absurd (true_false (sym e))
-at-end (Record a i s) e = absurd (true_false (sym e))
-at-end (Place i) e = absurd (true_false (sym e))
+at-end (Refused r) e = absurd (true≢false (sym e))
+at-end (Size a) e = absurd (true≢false (sym e))
+at-end (Record a i s) e = absurd (true≢false (sym e))
+at-end (Place i) e = absurd (true≢false (sym e))
 at-end End e = refl
 
--- what a sheet was read as, and what is lent then
-abbrev pub read_as : Result Panel SheetFault → Tables → SheetRead
-read_as read t = record { answer = answered_sheet read; tables = t }
+-- the text of what a sheet was read as, whatever stands in it
+pub begun_text : (r : SheetRead) → text_from (record { grid = r.answer.panel.grid; tables = r.tables }) (first_line r.answer) ≡ text_of (lines_of r)
+begun_text r = go (eqb r.answer.refusal.number 0)
+  where
+    go : (t : Bool) → text_from (record { grid = r.answer.panel.grid; tables = r.tables }) (cond t (Size Column) (Refused r.answer.refusal))
+        ≡ text_of (cond t (answer_lines (record { grid = r.answer.panel.grid; tables = r.tables })) (refused_line r.answer.refusal ∷ []))
+    go true = text-whole (record { grid = r.answer.panel.grid; tables = r.tables })
+    go false =
+        text-next (record { grid = r.answer.panel.grid; tables = r.tables }) (Refused r.answer.refusal) (omega arith)
+        ∙ ap (λ (z : List ℕ). refused_line r.answer.refusal ++ z) (text-end (record { grid = r.answer.panel.grid; tables = r.tables }))
 
--- the text of a sheet that is refused
-refused-text : (f : SheetFault) (h : GridHeld) → text_from h (Refused f) ≡ text_of (refused_line (refused_with f).refusal ∷ [])
-refused-text f h = text-next h (Refused f) (omega arith) ∙ ap (λ (z : List ℕ). refused_line (refused_with f).refusal ++ z) (text-end h)
-
--- the text of what a sheet was read as
-pub begun_text : (read : Result Panel SheetFault) (t : Tables)
-    → text_from (record { grid = (answered_sheet read).panel.grid; tables = t }) (first_line read) ≡ text_of (lines_of (read_as read t))
-begun_text (Ok p) t = text-whole (record { grid = p.grid; tables = t })
-begun_text (Err (Overlaps p)) t = refused-text (Overlaps p) (record { grid = zero_panel.grid; tables = t })
-begun_text (Err (Line f)) t =
-    rw (ne_eqb (number_of f.fault) 0 (fault_some f.fault)) (refused-text (Line f) (record { grid = zero_panel.grid; tables = t }))
+-- a sheet that is refused begins with its refusal
+pub first-refused : (f : SheetFault) → Refused (refused_with f).refusal ≡ first_line (refused_with f)
+first-refused (Overlaps p) = refl
+first-refused (Line f) = rw (ne_eqb (number_of f.fault) 0 (fault_some f.fault))
+first-refused (Whole fault) = rw (ne_eqb (number_of fault) 0 (fault_some fault))
 
 module _ (out₀ : List ℕ) (h : GridHeld) (at : AnswerLine) where
   pub none_written : WritesUpTo out₀ h at at out₀ 0
@@ -131,12 +135,12 @@ module _ (out₀ : List ℕ) (h : GridHeld) (at : AnswerLine) where
 
 -- each part leaves less to write
 pub shorter : {before after : List ℕ} {h : GridHeld} {at : AnswerLine} {filled : Filled} → FillsText before h at after filled → is_end at ≡ false → 128 ≤ length before
-    → length (text_from h filled.next) < length (text_from h at)
+    → length (text_from h (answered_next filled.next)) < length (text_from h at)
 shorter {before} {after} {h} {at} {filled} f e room =
     let w = f.written in
-    let l : length w.part + length (text_from h filled.next) ≡ length (text_from h at) = sym (length-append w.part (text_from h filled.next)) ∙ ap length w.whole in
+    let l : length w.part + length (text_from h (answered_next filled.next)) ≡ length (text_from h at) = sym (length-append w.part (text_from h (answered_next filled.next))) ∙ ap length w.whole in
     omega (arith, l, w.counted, f.some room e)
 
 -- and the bytes are as many as they were
 pub same_bytes : {before after : List ℕ} {h : GridHeld} {at : AnswerLine} {filled : Filled} → FillsText before h at after filled → length after ≡ length before
-same_bytes {before} {after} {h} {at} {filled} f = (same-room before h at filled.next after filled.count f.written).0
+same_bytes {before} {after} {h} {at} {filled} f = (same-room before h at (answered_next filled.next) after filled.count f.written).0

@@ -4,7 +4,6 @@ use mathlib.Core.Path.{◌≡◌, refl, sym, ap, ◌∙◌}
 use mathlib.Core.List.{List, [], ◌∷◌, ◌++◌}
 use mathlib.Core.Bool.{Bool, true, false, cond}
 use native.Mathlib.Numerals.{add-one}
-use native.Mathlib.Nat.{min-le_right}
 use native.Mathlib.Omega.{arith}
 use lib.Dec.{ltb}
 use lib.ListN.{length, get_or, drop, drop_of_length-le}
@@ -17,21 +16,15 @@ use Rattle.track_rules.specs.Tracks.{zero_grid_track}
 use Rattle.track_rules.specs.Records.{listed, records_in}
 use Rattle.track_rules.proofs.Lists.{length-listed, get-listed}
 use Rattle.track_rules.proofs.RecordList.{records-length}
-use Rattle.axis_tables.specs.declared.AxisGrid.{AxisGrid}
 use Rattle.panel_tables.specs.Axes.{grid_in}
 use Rattle.panel_rules.specs.Calls.{words_in, template_in, spares_in, axis_tracks}
 use Rattle.panel_rules.specs.Runs.{names_of, marks_of}
 use Rattle.panel_calls.specs.Carried.{carried_to}
-use Rattle.panel_calls.proofs.Carried.{carried_on_lem, carried-record}
+use Rattle.panel_calls.proofs.Carried.{few_records, carried_on_lem, carried-record}
 use Rattle.panel_text.specs.Lines.{record_line}
-use Rattle.panel_answer.specs.declared.AnswerLine.{AnswerLine}
-use Rattle.panel_answer.specs.declared.AnswerLine.TheVariants.{Size, Record, Place, End}
+use Rattle.panel_answer.specs.Listed.{AnswerLine, Size, Record, Place, End}
 use Rattle.panel_answer.specs.Answer.{GridHeld, records_of_axis, record_count, record_lines, place_line_of, size_line_of, axis_lines, answer_lines}
 use Rattle.panel_answer.specs.Walk.{place_from, after_axis, line_after, following}
-
--- an axis has at most 60,001 records
-few_records : (s : AxisGrid) → records_in (axis_tracks s) ≤ 60001
-few_records s = omega (arith, min-le_right s.implicit.negative 10000, min-le_right s.size.explicit 10000, min-le_right s.implicit.positive 10000)
 
 -- lines for two axes and then m
 parted : (c r p n : ℕ) → c + r + p + 2 ≤ n → (m : ℕ) × (n ≡ suc (c + suc (r + m))) × (p ≤ 0 + m)

@@ -15,8 +15,7 @@ use Rattle.panel_rules.specs.Runs.{names_of}
 use Rattle.panel_calls.specs.Carried.{carried_on}
 use Rattle.panel_text.specs.Lines.{size_line, record_line, place_line, refused_line}
 use Rattle.track_rules.specs.declared.TrackWalk.{TrackWalk}
-use Rattle.panel_answer.specs.declared.AnswerLine.{AnswerLine}
-use Rattle.panel_answer.specs.declared.AnswerLine.TheVariants.{Refused, Size, Record, Place, End}
+use Rattle.panel_answer.specs.Listed.{AnswerLine, Refused, Size, Record, Place, End}
 use Rattle.panel_answer.specs.Answer.{GridHeld, record_count, answer_lines, text_of}
 use Rattle.panel_answer.specs.Walk.{line_text, line_after, following, place_from, after_axis}
 use Rattle.panel_answer.specs.Text.{lines_from, text_from}

@@ -2,15 +2,14 @@
 use Rattle.std.specs.Prelude.{ℕ, suc, ◌+◌, ◌-◌, ◌≤◌, ◌≡◌, false, List, ◌++◌, length}
 use Rattle.std.proofs.lemmas.List.Edits.{sets}
 use Rattle.coordinates.specs.declared.axis.Axis.TheVariants.{Column, Row}
-use Rattle.panel_answer.specs.declared.AnswerLine.{AnswerLine}
-use Rattle.panel_answer.specs.declared.AnswerLine.TheVariants.{Refused, Size, Record, Place, End}
+use Rattle.panel_answer.specs.Listed.{AnswerLine, Refused, Size, Record, Place, End, answered_next}
 use Rattle.panel_answer.specs.declared.Filled.{Filled}
 use Rattle.panel_answer.specs.Answer.{GridHeld, record_count, text_of}
 use Rattle.panel_answer.specs.Walk.{following, is_end}
 
 -- how many lines there are from a line on
 abbrev pub lines_from : GridHeld → AnswerLine → ℕ
-lines_from h (Refused f) = 1
+lines_from h (Refused r) = 1
 lines_from h (Size Column) = suc (record_count h Column + suc (record_count h Row + h.grid.placements))
 lines_from h (Size Row) = suc (record_count h Row + h.grid.placements)
 lines_from h (Record Column i s) = suc (record_count h Column - (i + 1) + suc (record_count h Row + h.grid.placements))
@@ -33,5 +32,5 @@ pub record WritesUpTo (before : List ℕ) (h : GridHeld) (at next : AnswerLine) 
 
 -- and something is written where a line is left and any line fits
 pub record FillsText (before : List ℕ) (h : GridHeld) (at : AnswerLine) (after : List ℕ) (filled : Filled) : Type 0 where
-  pub written : WritesUpTo before h at filled.next after filled.count
+  pub written : WritesUpTo before h at (answered_next filled.next) after filled.count
   pub some : 128 ≤ length before → is_end at ≡ false → 1 ≤ filled.count

@@ -6,14 +6,14 @@ ghost use Rattle.panel_rules.specs.Calls.{explicit_size};
 ghost use Rattle.panel_calls.specs.Carried.{carried_to, carried_record};
 ghost use Rattle.panel_text.specs.Lines.{size_line, record_line};
 ghost use Rattle.panel_text.specs.Written.{WritesLine};
+ghost use Rattle.panel_answer.specs.Listed.{answered_line, answered_next, Record};
 ghost use Rattle.panel_answer.specs.Walk.{after_axis, record_from};
-ghost use Rattle.panel_answer.specs.declared.AnswerLine.TheVariants.{Record};
 
 use crate::AnswerLine;
 use crate::place::place_from;
 use coordinates::Axis;
+use panel_calls::axis_track::{LentAxis, record_count};
 use panel_calls::size::explicit_size;
-use panel_calls::track;
 use panel_tables::Grid;
 use panel_tables::region::{PANEL_BYTES, PANEL_WORDS, marks};
 use track_rules::TrackWalk;
@@ -26,41 +26,40 @@ pub(crate) fn put_size(out: &mut [u8], grid: Grid, axis: Axis) -> usize
     panel_text::size_line(out, axis, size.repetitions, size.explicit)
 }
 
-// The line of a record, by what is carried to it.
-pub(crate) fn put_record(
-    out: &mut [u8],
+// An axis of a panel, with the marks of its `item` lines.
+pub(crate) fn lent_on<'a>(
     grid: Grid,
-    words: &[u64; PANEL_WORDS],
-    bytes: &[u8; PANEL_BYTES],
+    words: &'a [u64; PANEL_WORDS],
+    bytes: &'a [u8; PANEL_BYTES],
     axis: Axis,
-    index: u32,
-    state: TrackWalk,
-) -> usize
-    ensures { WritesLine out.old (record_line index (carried_record (grid_in grid axis) (axis_words_in axis words.now) (marks_in axis bytes.now) state index)) out.new result }
+) -> LentAxis<'a>
+    ensures grid { result.grid ≡ grid_in grid axis }
+    ensures tables { result.tables.now ≡ axis_words_in axis words.now }
+    ensures items { result.items.now ≡ marks_in axis bytes.now }
 {
-    let record = track::record_in(grid, words, axis, marks(bytes, axis), state, index as usize);
-    panel_text::record_line(out, index, record)
+    LentAxis::of_panel(grid, words, axis, marks(bytes, axis))
+}
+
+// The line of a record, by what is carried to it.
+pub(crate) fn put_record(out: &mut [u8], lent: LentAxis, index: u32, state: TrackWalk) -> usize
+    ensures { WritesLine out.old (record_line index (carried_record lent.entry.grid lent.entry.tables.now lent.entry.items.now state index)) out.new result }
+{
+    panel_text::record_line(out, index, lent.carried(state, index as usize))
 }
 
 // The first record of an axis.
-pub(crate) fn first_record(
-    grid: Grid,
-    words: &[u64; PANEL_WORDS],
-    bytes: &[u8; PANEL_BYTES],
-    axis: Axis,
-) -> AnswerLine
-    ensures { result ≡ Record axis 0 (carried_to (grid_in grid axis) (axis_words_in axis words.now) (marks_in axis bytes.now) 0) }
+pub(crate) fn first_record(lent: LentAxis, axis: Axis) -> AnswerLine
+    ensures { answered_line result ≡ Record axis 0 (carried_to lent.entry.grid lent.entry.tables.now lent.entry.items.now 0) }
 {
-    let state = track::first_record(grid, words, axis, marks(bytes, axis));
-    AnswerLine::Record(axis, 0, state)
+    AnswerLine::Record(axis, 0, lent.first())
 }
 
 // What comes after the records of an axis.
-fn after_axis(grid: Grid, axis: Axis) -> AnswerLine
-    ensures { result ≡ after_axis grid axis }
+fn after_axis(grid: Grid, axis: Axis) -> Option<AnswerLine>
+    ensures { answered_next result ≡ after_axis grid axis }
 {
     match axis {
-        Axis::Column => AnswerLine::Size(Axis::Row),
+        Axis::Column => Some(AnswerLine::Size(Axis::Row)),
         Axis::Row => place_from(grid, 0),
     }
 }
@@ -68,17 +67,18 @@ fn after_axis(grid: Grid, axis: Axis) -> AnswerLine
 // The record after record `index`, or what comes after the axis.
 pub(crate) fn next_record(
     grid: Grid,
-    words: &[u64; PANEL_WORDS],
+    lent: LentAxis,
     axis: Axis,
     index: u32,
     state: TrackWalk,
-) -> AnswerLine
-    ensures { result ≡ record_from grid (axis_words_in axis words.now) axis index state }
+) -> Option<AnswerLine>
+    requires { lent.grid ≡ grid_in grid axis }
+    ensures { answered_next result ≡ record_from grid lent.entry.tables.now axis index state }
 {
-    let count = u64::from(track::record_count(grid, axis));
+    let count = u64::from(record_count(lent.grid));
     if u64::from(index) + 1 < count {
-        let next = track::next_record(grid, words, axis, state, index as usize);
-        return AnswerLine::Record(axis, index + 1, next);
+        let next = lent.next(state, index as usize);
+        return Some(AnswerLine::Record(axis, index + 1, next));
     }
     after_axis(grid, axis)
 }

@@ -13,14 +13,13 @@ use sheet_rules::SheetFault;
 use track_rules::TrackWalk;
 
 // A line of an answer: why the sheet is refused; the size of an axis; a record of it, by its index and what is carried to it; a placement, by its
-// index; none.
+// index.
 #[derive(Clone, Copy, Debug, PartialEq)]
 pub enum AnswerLine {
     Refused(SheetFault),
     Size(Axis),
     Record(Axis, u32, TrackWalk),
     Place(u32),
-    End,
 }
 
 // A sheet that was read: what answers, zeros where it is refused, and the first line of its answer.
@@ -30,9 +29,9 @@ pub struct Begun {
     pub first: AnswerLine,
 }
 
-// What was written of an answer: how many bytes, and the line that is next.
+// What was written of an answer: how many bytes, and the line that is next where one is left.
 #[derive(Clone, Copy, Debug, PartialEq)]
 pub struct Filled {
     pub count: usize,
-    pub next: AnswerLine,
+    pub next: Option<AnswerLine>,
 }

@@ -5,7 +5,8 @@ ghost use Rattle.sheet_rules.specs.Answers.{refused_with};
 ghost use Rattle.panel_text.specs.Lines.{refused_line};
 ghost use Rattle.panel_text.specs.Written.{WritesLine};
 ghost use Rattle.panel_answer.specs.Answer.{held_with};
-ghost use Rattle.panel_answer.specs.Walk.{is_end, line_text, next_line};
+ghost use Rattle.panel_answer.specs.Listed.{answered_line, answered_next};
+ghost use Rattle.panel_answer.specs.Walk.{line_text, next_line};
 ghost use Rattle.coordinates.specs.declared.axis.Axis.TheVariants.{Column, Row};
 
 use crate::{AnswerLine, axis, place};
@@ -13,13 +14,6 @@ use coordinates::Fault;
 use panel_tables::region::{PANEL_BYTES, PANEL_WORDS};
 use panel_tables::{Grid, LentPanel};
 use sheet_rules::SheetFault;
-
-// Whether no line is left.
-pub fn is_end(at: AnswerLine) -> bool
-    ensures { result ≡ is_end at }
-{
-    matches!(at, AnswerLine::End)
-}
 
 // The line of a refused sheet.
 fn put_refused(out: &mut [u8], fault: SheetFault) -> usize
@@ -36,40 +30,44 @@ fn put_refused(out: &mut [u8], fault: SheetFault) -> usize
             u32::from(found.fault),
             found.line,
         ),
+        SheetFault::Whole(fault) => panel_text::refused_line(out, u32::from(fault), 0),
     }
 }
 
-// Writes a line at the start of lent bytes and answers its length, 0 at the end.
+// Writes a line at the start of lent bytes and answers its length.
 pub fn put_line(out: &mut [u8], grid: Grid, lent: LentPanel, at: AnswerLine) -> usize
-    ensures { WritesLine out.old (line_text (held_with grid lent.entry) at) out.new result }
+    ensures { WritesLine out.old (line_text (held_with grid lent.entry) (answered_line at)) out.new result }
 {
     match at {
         AnswerLine::Refused(fault) => put_refused(out, fault),
         AnswerLine::Size(axis) => axis::put_size(out, grid, axis),
-        AnswerLine::Record(axis, index, state) => axis::put_record(
-            out, grid, lent.words, lent.bytes, axis, index, state,
-        ),
+        AnswerLine::Record(axis, index, state) => {
+            let lent = axis::lent_on(grid, lent.words, lent.bytes, axis);
+            axis::put_record(out, lent, index, state)
+        }
         AnswerLine::Place(index) => place::put_place(out, grid, lent, index),
-        AnswerLine::End => 0,
     }
 }
 
-// The line after a line.
+// The line after a line, where one is left.
 pub fn next_line(
     grid: Grid,
     words: &[u64; PANEL_WORDS],
     bytes: &[u8; PANEL_BYTES],
     at: AnswerLine,
-) -> AnswerLine
-    ensures { result ≡ next_line grid (axis_words_in Column words.now) (axis_words_in Row words.now) (marks_in Column bytes.now) (marks_in Row bytes.now) at }
+) -> Option<AnswerLine>
+    ensures { answered_next result ≡ next_line grid (axis_words_in Column words.now) (axis_words_in Row words.now) (marks_in Column bytes.now) (marks_in Row bytes.now) (answered_line at) }
 {
     match at {
-        AnswerLine::Refused(_) => AnswerLine::End,
-        AnswerLine::Size(axis) => axis::first_record(grid, words, bytes, axis),
-        AnswerLine::Record(axis, index, state) => axis::next_record(
-            grid, words, axis, index, state,
-        ),
+        AnswerLine::Refused(_) => None,
+        AnswerLine::Size(axis) => {
+            let lent = axis::lent_on(grid, words, bytes, axis);
+            Some(axis::first_record(lent, axis))
+        }
+        AnswerLine::Record(axis, index, state) => {
+            let lent = axis::lent_on(grid, words, bytes, axis);
+            axis::next_record(grid, lent, axis, index, state)
+        }
         AnswerLine::Place(index) => place::place_from(grid, index as u64 + 1),
-        AnswerLine::End => AnswerLine::End,
     }
 }

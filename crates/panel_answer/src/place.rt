@@ -4,6 +4,7 @@ ghost use Rattle.panel_rules.specs.Placing.{resolve_placement};
 ghost use Rattle.panel_resolving.specs.Lent.{lent_names, lent_areas, lent_placements};
 ghost use Rattle.panel_text.specs.Written.{WritesLine};
 ghost use Rattle.panel_answer.specs.Answer.{placed_line};
+ghost use Rattle.panel_answer.specs.Listed.{answered_next};
 ghost use Rattle.panel_answer.specs.Walk.{place_from};
 
 use crate::AnswerLine;
@@ -28,12 +29,12 @@ pub(crate) fn put_place(out: &mut [u8], grid: Grid, lent: LentPanel, index: u32)
     }
 }
 
-// Placement `index`, or the end.
-pub(crate) fn place_from(grid: Grid, index: u64) -> AnswerLine
-    ensures { result ≡ place_from grid index }
+// Placement `index`, where there is one.
+pub(crate) fn place_from(grid: Grid, index: u64) -> Option<AnswerLine>
+    ensures { answered_next result ≡ place_from grid index }
 {
     if index < grid.placements as u64 {
-        return AnswerLine::Place(index as u32);
+        return Some(AnswerLine::Place(index as u32));
     }
-    AnswerLine::End
+    None
 }

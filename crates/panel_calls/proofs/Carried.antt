@@ -1,5 +1,6 @@
 -- What is carried through the records of an axis gives each of them. Assumes nothing.
 use Prim.Native.Nat.{ℕ, ◌+◌, ◌≤◌, ◌<◌}
+use native.Mathlib.Omega.{arith}
 use mathlib.Core.Path.{◌≡◌, refl, sym, ◌∙◌}
 use mathlib.Core.List.{List}
 use lib.ListN.{length, get_or}
@@ -14,6 +15,10 @@ use Rattle.axis_tables.specs.Runs.{part_of}
 use Rattle.panel_rules.proofs.AxisBack.{state-unrefused}
 use Rattle.panel_rules.specs.Calls.{axis_tracks, template_in, spares_in, track_record}
 use Rattle.panel_calls.specs.Carried.{carried_to, carried_record, carried_on}
+
+-- an axis has at most 60,001 records
+pub few_records : (s : AxisGrid) → records_in (axis_tracks s) ≤ 60001
+few_records s = omega arith
 
 module _ (s : AxisGrid) (words items : List ℕ) where
   -- carried on from record i, it is what is carried to the next

@@ -1,17 +1,33 @@
-// The track records of one axis, from its state and its words.
+// An axis that is lent to be read, and its track records.
 ghost use Rattle.std.specs.Prelude.{◌≡◌, min};
+ghost use Rattle.template_rules.specs.Template.{components_of};
 ghost use Rattle.track_rules.specs.Tracks.{answered_record};
-ghost use Rattle.track_rules.specs.Records.{item_at};
+ghost use Rattle.track_rules.specs.Written.{spares_of};
+ghost use Rattle.track_rules.specs.Records.{item_at, records_in};
 ghost use Rattle.track_rules.specs.Steps.{plan_of};
-ghost use Rattle.panel_rules.specs.Calls.{axis_tracks, template_in, track_record};
+ghost use Rattle.panel_tables.specs.Axes.{grid_in};
+ghost use Rattle.panel_tables.specs.Regions.{axis_words_in};
+ghost use Rattle.panel_rules.specs.Calls.{axis_tracks, template_in, spares_in, track_record};
 ghost use Rattle.panel_calls.specs.Carried.{carried_to, carried_record, carried_on};
 
 use crate::part::{spares_on, template_on};
 use axis_tables::AxisGrid;
-use coordinates::Fault;
 use coordinates::line::MOST_TRACKS;
+use coordinates::{Axis, Fault};
+use panel_tables::Grid;
+use panel_tables::axis::grid_in;
+use panel_tables::region::{PANEL_WORDS, axis_words};
 use track_counts::TrackCounts;
+use track_record::LentTracks;
 use track_rules::{AxisTracks, GridTrack, Plan, TrackWalk};
+
+// An axis to be read: what is kept of it, and its words and item bytes, which are lent.
+#[derive(Clone, Copy)]
+pub struct LentAxis<'a> {
+    pub grid: AxisGrid,
+    pub tables: &'a [u64],
+    pub items: &'a [u8],
+}
 
 // A count of tracks, at most 10,000.
 fn held_count(count: u32) -> u16
@@ -32,72 +48,92 @@ pub fn axis_tracks(grid: AxisGrid) -> AxisTracks
     AxisTracks {
         counts,
         repetitions: grid.size.repetitions,
-        gap: sizing::word::sizing_of(grid.space.gap),
+        gap: sizing::Sizing::from(grid.space.gap),
     }
 }
 
-// Record `index`.
-#[tactic(auto, unfolding(panel_rules::specs::Calls::track_record))]
-pub fn record_on(
-    grid: AxisGrid,
-    words: &[u64],
-    items: &[u8],
-    index: u32,
-) -> Result<GridTrack, Fault>
-    ensures { answered_record result ≡ track_record grid words.now items.now index }
+// How many records an axis has: 2N + 1.
+pub fn record_count(grid: AxisGrid) -> u32
+    ensures { result ≡ records_in (axis_tracks grid) }
 {
-    track_record::rule::track_record(
-        template_on(grid, words),
-        spares_on(grid, words),
-        items,
-        axis_tracks(grid),
-        index,
-    )
+    2 * track_record::plan::track_count(axis_tracks(grid)) + 1
 }
 
-// What is worked out once for all records.
-pub fn plan_on(grid: AxisGrid, words: &[u64], items: &[u8]) -> Plan
-    ensures { result ≡ plan_of (axis_tracks grid) (template_in grid words.now) (item_at items.now) }
-{
-    track_record::plan::make_plan(template_on(grid, words), items, axis_tracks(grid))
-}
+impl<'a> LentAxis<'a> {
+    // An axis of a panel.
+    pub fn of_panel(
+        grid: Grid,
+        words: &'a [u64; PANEL_WORDS],
+        axis: Axis,
+        items: &'a [u8],
+    ) -> LentAxis<'a>
+        ensures grid { result.grid ≡ grid_in grid axis }
+        ensures tables { result.tables.now ≡ axis_words_in axis words.now }
+        ensures items { result.items.now ≡ items.now }
+    {
+        LentAxis {
+            grid: grid_in(grid, axis),
+            tables: axis_words(words, axis),
+            items,
+        }
+    }
 
-// What is carried to record `index`.
-pub fn begin_on(grid: AxisGrid, words: &[u64], items: &[u8], index: usize) -> TrackWalk
-    ensures { result ≡ carried_to grid words.now items.now index }
-{
-    track_run::state::begin_at(template_on(grid, words), items, axis_tracks(grid), index)
-}
+    // The tables of its tracks.
+    pub(crate) fn tracks(self) -> LentTracks<'a>
+        ensures template { components_of result.template ≡ template_in self.entry.grid self.entry.tables.now }
+        ensures spares { spares_of result.spares.minimums.now result.spares.maximums.now ≡ spares_in self.entry.grid self.entry.tables.now }
+        ensures items { result.items.now ≡ self.entry.items.now }
+    {
+        LentTracks {
+            template: template_on(self.grid, self.tables),
+            spares: spares_on(self.grid, self.tables),
+            items: self.items,
+        }
+    }
 
-// What is carried to record 0.
-pub fn first_on(grid: AxisGrid, words: &[u64], items: &[u8]) -> TrackWalk
-    ensures { result ≡ carried_to grid words.now items.now 0 }
-{
-    begin_on(grid, words, items, 0)
-}
+    // Record `index`.
+    #[tactic(auto, unfolding(panel_rules::specs::Calls::track_record))]
+    pub fn record(self, index: u32) -> Result<GridTrack, Fault>
+        ensures { answered_record result ≡ track_record self.entry.grid self.entry.tables.now self.entry.items.now index }
+    {
+        self.tracks().track_record(axis_tracks(self.grid), index)
+    }
 
-// Record `index`, by what is carried to it.
-pub fn carried_on(
-    grid: AxisGrid,
-    words: &[u64],
-    items: &[u8],
-    at: TrackWalk,
-    index: usize,
-) -> GridTrack
-    ensures { result ≡ carried_record grid words.now items.now at index }
-{
-    track_run::state::record_at(
-        template_on(grid, words),
-        spares_on(grid, words),
-        items,
-        at,
-        index,
-    )
-}
+    // What is worked out once for all records.
+    pub fn plan(self) -> Plan
+        ensures { result ≡ plan_of (axis_tracks self.entry.grid) (template_in self.entry.grid self.entry.tables.now) (item_at self.entry.items.now) }
+    {
+        let template = template_on(self.grid, self.tables);
+        track_record::plan::make_plan(template, self.items, axis_tracks(self.grid))
+    }
 
-// What is carried on from record `index`.
-pub fn next_on(grid: AxisGrid, words: &[u64], at: TrackWalk, index: usize) -> TrackWalk
-    ensures { result ≡ carried_on grid words.now at index }
-{
-    track_run::state::advance(template_on(grid, words).components, at, index)
+    // What is carried to record `index`.
+    pub fn begin(self, index: usize) -> TrackWalk
+        ensures { result ≡ carried_to self.entry.grid self.entry.tables.now self.entry.items.now index }
+    {
+        let template = template_on(self.grid, self.tables);
+        track_record::rule::begin_at(template, self.items, axis_tracks(self.grid), index)
+    }
+
+    // What is carried to record 0.
+    pub fn first(self) -> TrackWalk
+        ensures { result ≡ carried_to self.entry.grid self.entry.tables.now self.entry.items.now 0 }
+    {
+        self.begin(0)
+    }
+
+    // Record `index`, by what is carried to it.
+    #[tactic(auto, unfolding(track_run::specs::Steps::state_record))]
+    pub fn carried(self, at: TrackWalk, index: usize) -> GridTrack
+        ensures { result ≡ carried_record self.entry.grid self.entry.tables.now self.entry.items.now at index }
+    {
+        self.tracks().record_with(at, index as u64)
+    }
+
+    // What is carried on from record `index`.
+    pub fn next(self, at: TrackWalk, index: usize) -> TrackWalk
+        ensures { result ≡ carried_on self.entry.grid self.entry.tables.now at index }
+    {
+        track_run::state::advance(template_on(self.grid, self.tables).components, at, index)
+    }
 }

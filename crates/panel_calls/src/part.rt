@@ -6,7 +6,7 @@ ghost use Rattle.axis_tables.specs.Runs.{part_of};
 ghost use Rattle.panel_rules.specs.Calls.{template_in, spares_in};
 
 use axis_tables::AxisGrid;
-use axis_tables::layout::{MAXIMUMS, MINIMUMS, SPARE_MAXIMUMS, SPARE_MINIMUMS, part_from};
+use axis_tables::layout::{SPARE_MAXIMUMS, SPARE_MINIMUMS, part_from, template_in};
 use template_rules::Template;
 use track_rules::SpareSizes;
 
@@ -17,11 +17,7 @@ pub fn template_on(grid: AxisGrid, words: &[u64]) -> Template
     ensures minimums { result.minimums.now ≡ part_of words.now 64 grid.template.tracks }
     ensures maximums { result.maximums.now ≡ part_of words.now 2112 grid.template.tracks }
 {
-    Template {
-        components: part_from(words, 0, grid.template.components),
-        minimums: part_from(words, MINIMUMS, grid.template.tracks),
-        maximums: part_from(words, MAXIMUMS, grid.template.tracks),
-    }
+    template_in(words, grid.template)
 }
 
 // The spare sizes.

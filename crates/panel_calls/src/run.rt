@@ -5,12 +5,10 @@ ghost use Rattle.panel_tables.specs.Regions.{axis_words_in};
 ghost use Rattle.track_run.specs.Run.{answered_fill, fill_answer_of, run_after};
 ghost use Rattle.panel_rules.specs.Calls.{axis_tracks, template_in, spares_in};
 
-use crate::axis_track::axis_tracks;
-use crate::part::{spares_on, template_on};
+use crate::axis_track::{LentAxis, axis_tracks};
 use coordinates::{Axis, Fault};
 use panel_tables::Grid;
-use panel_tables::axis::grid_in;
-use panel_tables::region::{PANEL_WORDS, axis_words};
+use panel_tables::region::PANEL_WORDS;
 use track_rules::GridTrack;
 
 // Writes the records of an axis into a lent run, 2N + 1 of them. Refuses fewer records, and fewer than N item bytes, by 10, and
@@ -25,13 +23,6 @@ pub fn initialize_grid_tracks(
     ensures { (answered_fill result ≡ fill_answer_of (axis_tracks (grid_in grid axis)) (length records.old) (length items.now))
         × (records.new ≡ run_after (axis_tracks (grid_in grid axis)) (template_in (grid_in grid axis) (axis_words_in axis words.now)) (spares_in (grid_in grid axis) (axis_words_in axis words.now)) items.now records.old) }
 {
-    let own = grid_in(grid, axis);
-    let tables = axis_words(words, axis);
-    track_run::initialize_grid_tracks(
-        records,
-        template_on(own, tables),
-        spares_on(own, tables),
-        items,
-        axis_tracks(own),
-    )
+    let lent = LentAxis::of_panel(grid, words, axis, items);
+    track_run::initialize_grid_tracks(records, lent.tracks(), axis_tracks(lent.grid))
 }

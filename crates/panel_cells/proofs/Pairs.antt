@@ -5,6 +5,7 @@ use mathlib.Core.List.{List, [], ◌∷◌, ◌++◌}
 use mathlib.Core.Bool.{Bool, true, false, cond, ◌&&◌, false≢true}
 use mathlib.Core.Logic.{◌⊎◌, inl, inr, ◌↔◌}
 use native.Mathlib.Omega.{arith}
+use Rattle.std.proofs.lemmas.Bool.{and_parts}
 use lib.Dec.{ltb}
 use lib.ListN.{length, get_or, length-append}
 use borrow.Author.Tests.{ltb-true, ltb-false, lt-ltb}
@@ -23,11 +24,6 @@ four true true false d e = absurd (false≢true e)
 four true false c d e = absurd (false≢true e)
 four false b c d e = absurd (false≢true e)
 
-both : (a b : Bool) → a && b ≡ true → (a ≡ true) × (b ≡ true)
-both true true e = (refl, refl)
-both true false e = absurd (false≢true e)
-both false b e = absurd (false≢true e)
-
 larger : (a b : ℕ) → (n : ℕ) × (a ≤ n) × (b ≤ n) × ((m : ℕ) → a < m → b < m → n < m)
 larger a b = go (ltb a b) refl
   where
@@ -41,7 +37,7 @@ shares_exactly a b = (to, back)
   where
     to : shares a b ≡ true → ShareCell a b
     to e =
-        let t = both (meet (record { start = a.rowstart; end = a.rowend }) (record { start = b.rowstart; end = b.rowend })) (meet (record { start = a.columnstart; end = a.columnend }) (record { start = b.columnstart; end = b.columnend })) e in
+        let t = and_parts (meet (record { start = a.rowstart; end = a.rowend }) (record { start = b.rowstart; end = b.rowend })) (meet (record { start = a.columnstart; end = a.columnend }) (record { start = b.columnstart; end = b.columnend })) e in
         let r = four (ltb a.rowstart a.rowend) (ltb a.rowstart b.rowend) (ltb b.rowstart a.rowend) (ltb b.rowstart b.rowend) t.0 in
         let c = four (ltb a.columnstart a.columnend) (ltb a.columnstart b.columnend) (ltb b.columnstart a.columnend) (ltb b.columnstart b.columnend) t.1 in
         let row = larger a.rowstart b.rowstart in

@@ -2,7 +2,7 @@
 use Rattle.std.specs.Prelude.{ℕ, zero, suc, ◌+◌, min, List, [], ◌∷◌, Bool, cond, ◌&&◌, ltb, Option, Some, None}
 use Rattle.coordinates.specs.declared.axis.Axis.TheVariants.{Column, Row}
 use Rattle.panel_tables.specs.declared.AreaEdges.{AreaEdges}
-use Rattle.coordinates.specs.declared.line.LinePair.{LinePair}
+use Rattle.coordinates.specs.Types.{LinePair}
 use Rattle.panel_tables.specs.View.{Area}
 use Rattle.panel_tables.specs.Areas.{area_at, edges_in}
 

@@ -26,11 +26,11 @@ fn edges_in(edges: AreaEdges, axis: Axis) -> LinePair
     }
 }
 
-// Whether two pairs of edges have a track in common: each start is before each end.
+// Whether two pairs of edges have a track in common: the later start is before the earlier end.
 fn meet(a: LinePair, b: LinePair) -> bool
     ensures { result ≡ meet a b }
 {
-    (a.start < a.end && a.start < b.end) && (b.start < a.end && b.start < b.end)
+    a.start.max(b.start) < a.end.min(b.end)
 }
 
 // Whether two areas share a cell.

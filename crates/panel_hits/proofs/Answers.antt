@@ -18,7 +18,7 @@ use Rattle.panel_positions.specs.Cursor.{answered_between}
 use Rattle.placement_hits.specs.Steps.{Listed, listed_of, place_of}
 use Rattle.std.specs.Prelude.{Option}
 use Rattle.placement_hits.specs.declared.Question.TheVariants.{Within, Around as AroundPlace}
-use Rattle.panel_hits.specs.declared.Span.{Span}
+use Rattle.panel_hits.specs.declared.AxisSpan.{AxisSpan}
 use Rattle.panel_hits.specs.declared.Around.{Around}
 use Rattle.panel_hits.specs.Settled.{Lent, counts_in, settled_hits}
 use Rattle.panel_hits.specs.Lists.{answered_hits, lower, checked_of, store_refusal, line_refusal, hits_for, older_of, placements_within, placements_around}
@@ -89,7 +89,7 @@ module _ {B : Type 0} (g : Grid) (words : List ℕ) (l : Lent) (items hits : Lis
       let both = lower-none (refused_by lines) (refused_by stores) (sym (checked-number lines stores) ∙ ap refused_by e) in
       stores_long (shorter_store l.names) (sym stores_told ∙ both.1)
 
-  module _ (s : Span) (asked : answered_between lines ≡ lines_within g words s.axis items s.low s.high) where
+  module _ (s : AxisSpan) (asked : answered_between lines ≡ lines_within g words s.axis items s.bits.low s.bits.high) where
     pub within-refused : (fault : Fault) → checked_of lines stores ≡ Err fault → record { answer = answered_hits (Err fault); hits = hits } ≡ placements_within g words l items s hits
     unfolding placements_within
     within-refused fault e =

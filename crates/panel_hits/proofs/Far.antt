@@ -9,7 +9,7 @@ use Rattle.coordinates.specs.Refusals.{count, short}
 use Rattle.coordinates.specs.declared.axis.Axis.{Axis}
 use Rattle.name_rules.specs.Css.{AxisNames, free}
 use Rattle.name_resolver.specs.declared.GridPlacement.TheVariants.{Auto}
-use Rattle.name_resolver.specs.declared.Line.{Line}
+use Rattle.name_resolver.specs.Types.{WrittenLine}
 use Rattle.name_resolver.specs.Placements.{Resolution}
 use Rattle.name_resolver.specs.Placements.{resolved_ends, resolved_line, held_line, refused_resolution, resolution_of}
 use Rattle.panel_tables.specs.declared.Grid.{Grid}
@@ -20,7 +20,7 @@ use Rattle.panel_rules.specs.Calls.{names_in, short_names}
 use Rattle.panel_hits.specs.Settled.{Lent, settled}
 
 -- an end that says `auto` stays free
-auto_free : (x : AxisNames) (names : List ℕ) (l : Line) → l.start ≡ Auto → (resolved_ends (resolution_of x names l).line).first ≡ free
+auto_free : (x : AxisNames) (names : List ℕ) (l : WrittenLine) → l.start ≡ Auto → (resolved_ends (resolution_of x names l).line).first ≡ free
 unfolding resolution_of
 auto_free x names l e = by (leb x.explicit 10000)
   where

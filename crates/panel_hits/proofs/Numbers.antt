@@ -10,8 +10,8 @@ use lib.ListN.{length, get_or, drop, get_or-append}
 use lib.Seq.{sets, sets-eq, get_or-append-add}
 use Rattle.coordinates.specs.declared.axis.Axis.{Axis}
 use Rattle.track_counts.specs.declared.counts.TrackCounts.{TrackCounts}
-use Rattle.name_resolver.specs.declared.NonNamedGridPlacement.{NonNamedGridPlacement}
-use Rattle.name_resolver.specs.declared.NonNamedGridPlacement.TheVariants as Plain
+use Rattle.name_resolver.specs.Types.{NonNamedGridPlacement}
+use Rattle.coordinates.specs.declared.line.GenericGridPlacement.TheVariants as Plain
 use Rattle.name_resolver.specs.Placements.{resolved_kind_of, resolved_number_of, resolved_of}
 use Rattle.panel_tables.specs.declared.Grid.{Grid}
 use Rattle.panel_rules.specs.Placing.{PlacementAnswer}

@@ -33,7 +33,7 @@ use Rattle.placement_hits.specs.declared.Question.{Question}
 use Rattle.placement_hits.specs.declared.Question.TheVariants.{Within as WithinPlaces, Around as AroundPlace}
 use Rattle.placement_hits.proofs.Listing.{passing-in-order}
 use Rattle.placement_hits.proofs.Theorem.{within-inside, inside-within, around-between, between-around}
-use Rattle.panel_hits.specs.declared.Span.{Span}
+use Rattle.panel_hits.specs.declared.AxisSpan.{AxisSpan}
 use Rattle.panel_hits.specs.declared.Around.{Around}
 use Rattle.panel_hits.specs.Settled.{Lent, settled, counts_in, settled_hit, settled_hits}
 use Rattle.panel_hits.specs.Lists.{WrittenHits, lower, store_refusal, line_refusal, hits_for, older_of, placements_within, placements_around}
@@ -98,7 +98,7 @@ around_in_order g l s not-0 =
     (λ i m. parts-hit g l s.axis (AroundPlace (place_of (counts_in g s.axis) s.line)) i m.axis (between-around (counts_in g s.axis) s.line not-0 (resolved_ends (settled g l i).line) m.lines))
 
 -- within a span, where the lines inside it are those from place `below` on and before place `upto`
-pub within_in_order : (g : Grid) (words : List ℕ) (l : Lent) (items : List ℕ) (s : Span) (below upto : ℕ)
+pub within_in_order : (g : Grid) (words : List ℕ) (l : Lent) (items : List ℕ) (s : AxisSpan) (below upto : ℕ)
     → ((k : ℕ) → k ≤ tracks_of (counts_in g s.axis) → below ≤ k → k < upto → InsideSpan g words items s k)
     → ((k : ℕ) → k ≤ tracks_of (counts_in g s.axis) → InsideSpan g words items s k → (below ≤ k) × (k < upto))
     → InOrder g.placements (InSpan g words l items s) (settled_hits g l s.axis (WithinPlaces below upto))
@@ -136,15 +136,15 @@ not_line_0 (negsuc k) e z = let q : ◌≡◌ {A = ℕ} 0 1 = cc in omega arith
 
 module _ (g : Grid) (words : List ℕ) (l : Lent) (items : List ℕ) where
   -- the lines within a span are those between the two counts
-  inside : (s : Span) (k : ℕ) → (lines_within g words s.axis items s.low s.high).number ≡ 0 → k ≤ tracks_of (counts_in g s.axis)
-      → (InsideSpan g words items s k → ((lines_within g words s.axis items s.low s.high).below ≤ k) × (k < (lines_within g words s.axis items s.low s.high).upto))
-      × (((lines_within g words s.axis items s.low s.high).below ≤ k) × (k < (lines_within g words s.axis items s.low s.high).upto) → InsideSpan g words items s k)
+  inside : (s : AxisSpan) (k : ℕ) → (lines_within g words s.axis items s.bits.low s.bits.high).number ≡ 0 → k ≤ tracks_of (counts_in g s.axis)
+      → (InsideSpan g words items s k → ((lines_within g words s.axis items s.bits.low s.bits.high).below ≤ k) × (k < (lines_within g words s.axis items s.bits.low s.bits.high).upto))
+      × (((lines_within g words s.axis items s.bits.low s.bits.high).below ≤ k) × (k < (lines_within g words s.axis items s.bits.low s.bits.high).upto) → InsideSpan g words items s k)
   unfolding lines_within lines_on
   inside s k z h =
       let a = grid_in g s.axis in
       let w = axis_words_in s.axis words in
-      (cursor-theorem a w items).within s.low s.high
-      (unrefused (cursor_refusal a w items s.low s.high) (lines_before (inner_in a.space) (records_on a w items) (pixels s.low)) (lines_up_to (inner_in a.space) (records_on a w items) (pixels s.high)) z)
+      (cursor-theorem a w items).within s.bits.low s.bits.high
+      (unrefused (cursor_refusal a w items s.bits.low s.bits.high) (lines_before (inner_in a.space) (records_on a w items) (pixels s.bits.low)) (lines_up_to (inner_in a.space) (records_on a w items) (pixels s.bits.high)) z)
       k (rw (tracks-among a w items) h)
 
   pub hits-theorem : HitsTheorem g words l items
@@ -152,7 +152,7 @@ module _ (g : Grid) (words : List ℕ) (l : Lent) (items : List ℕ) where
   hits-theorem =
       record {
         within = λ s hits e.
-            let lines = lines_within g words s.axis items s.low s.high in
+            let lines = lines_within g words s.axis items s.bits.low s.bits.high in
             let list = settled_hits g l s.axis (WithinPlaces lines.below lines.upto) in
             let a = listed (older_of lines l.names) list hits e in
             let z : lines.number ≡ 0 = (lower-none lines.number (store_refusal (shorter_store l.names)) a.0).0 in

@@ -10,7 +10,7 @@ use Rattle.panel_positions.specs.Cursor.{lines_within}
 use Rattle.panel_positions.specs.Cursor.{LinesWithin}
 use Rattle.placement_hits.specs.Steps.{place_of}
 use Rattle.placement_hits.specs.declared.Question.TheVariants.{Within, Around as AroundPlace}
-use Rattle.panel_hits.specs.declared.Span.{Span}
+use Rattle.panel_hits.specs.declared.AxisSpan.{AxisSpan}
 use Rattle.panel_hits.specs.declared.Around.{Around}
 use Rattle.panel_hits.specs.Settled.{Lent, counts_in, settled_hits}
 
@@ -69,10 +69,10 @@ abbrev pub older_of : LinesWithin → NameTables → ℕ
 older_of lines t = lower lines.number (store_refusal (shorter_store t))
 
 -- "the placements with both lines within a pixel span, ends included"
-unfoldable pub placements_within : Grid → List ℕ → Lent → List ℕ → Span → List ℕ → WrittenHits
+unfoldable pub placements_within : Grid → List ℕ → Lent → List ℕ → AxisSpan → List ℕ → WrittenHits
 unfolding lines_within settled_hits
 placements_within g words l items s hits =
-    let lines = lines_within g words s.axis items s.low s.high in
+    let lines = lines_within g words s.axis items s.bits.low s.bits.high in
     hits_for (older_of lines l.names) (settled_hits g l s.axis (Within lines.below lines.upto)) hits
 
 -- "those with a given grid line strictly between their own"

@@ -10,7 +10,8 @@ mod refusal;
 mod settled;
 
 use coordinates::{Axis, Fault};
-use panel_positions::{SpanBits, lines_within};
+use line_positions::Span;
+use panel_positions::lines_within;
 use panel_tables::{Grid, LentPanel};
 use placement_hits::Question;
 use placement_hits::list::MOST_HITS;
@@ -19,10 +20,9 @@ use refusal::{check_line, check_stores, checked};
 
 // A span of pixels on an axis, by the bits of its ends.
 #[derive(Clone, Copy, Debug, PartialEq, Eq)]
-pub struct Span {
+pub struct AxisSpan {
     pub axis: Axis,
-    pub low: u32,
-    pub high: u32,
+    pub bits: Span<u32>,
 }
 
 // A grid line of an axis.
@@ -38,23 +38,18 @@ pub fn placements_within(
     grid: Grid,
     lent: LentPanel,
     items: &[u8],
-    span: Span,
+    span: AxisSpan,
     hits: &mut [u32; MOST_HITS],
 ) -> Result<u32, Fault>
     ensures { record { answer = answered_hits result; hits = hits.new } ≡ placements_within grid lent.entry.words.now (lent_of lent.entry) items.now span hits.old }
 {
-    let axis = span.axis;
-    let bits = SpanBits {
-        low: span.low,
-        high: span.high,
-    };
-    let lines = lines_within(grid, lent.words, axis, items, bits);
-    let stores = check_stores(lent.columnstore.len().min(lent.rowstore.len()));
+    let lines = lines_within(grid, lent.words, span.axis, items, span.bits);
+    let stores = check_stores(lent);
     let within = checked(lines, stores)?;
     Ok(settled::write_settled(
         grid,
         lent,
-        axis,
+        span.axis,
         Question::Within(within.below, within.upto),
         hits,
     ))
@@ -72,9 +67,8 @@ pub fn placements_around(
     ensures { record { answer = answered_hits result; hits = hits.new } ≡ placements_around grid lent.entry.words.now (lent_of lent.entry) items.now around hits.old }
 {
     let axis = around.axis;
-    let whole = SpanBits { low: 0, high: 0 };
-    let lines = lines_within(grid, lent.words, axis, items, whole);
-    let stores = check_stores(lent.columnstore.len().min(lent.rowstore.len()));
+    let lines = lines_within(grid, lent.words, axis, items, Span::at(0));
+    let stores = check_stores(lent);
     checked(checked(lines, stores), check_line(around.line))?;
     let place = line_place(settled::counts_in(grid, axis), around.line);
     Ok(settled::write_settled(grid, lent, axis, Question::Around(place), hits))

@@ -1,10 +1,13 @@
 // What a list is refused by: the lowest number first.
 ghost use Rattle.std.specs.Prelude.{◌≡◌};
 ghost use Rattle.coordinates.specs.Refusals.{refused_by};
+ghost use Rattle.panel_rules.specs.Calls.{shorter_store};
+ghost use Rattle.panel_resolving.specs.Lent.{lent_names};
 ghost use Rattle.panel_hits.specs.Lists.{lower_fault, checked_of, store_refusal, line_refusal};
 
 use axis_tables::layout::AXIS_BYTES;
 use coordinates::Fault;
+use panel_tables::LentPanel;
 
 // The fault with the lower number.
 fn lower(a: Fault, b: Fault) -> Fault
@@ -28,10 +31,10 @@ pub(crate) fn checked<A: Copy>(
 }
 
 // Whether the shorter store is long enough.
-pub(crate) fn check_stores(shorter: usize) -> Result<(), Fault>
-    ensures { refused_by result ≡ store_refusal shorter }
+pub(crate) fn check_stores(lent: LentPanel) -> Result<(), Fault>
+    ensures { refused_by result ≡ store_refusal (shorter_store (lent_names lent.entry)) }
 {
-    if shorter < AXIS_BYTES {
+    if lent.columnstore.len().min(lent.rowstore.len()) < AXIS_BYTES {
         return Err(Fault::Short);
     }
     Ok(())

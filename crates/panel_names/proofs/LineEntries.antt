@@ -2,16 +2,18 @@
 use Prim.Native.Nat.{ℕ}
 use mathlib.Core.Path.{◌≡◌, refl, sym, ap, ◌∙◌}
 use mathlib.Core.Bool.{Bool, true, false, cond}
-use mathlib.Core.List.{[]}
+use mathlib.Core.List.{List, []}
 use lib.ListN.{get_or}
 use Rattle.coordinates.specs.declared.axis.Axis.{Axis}
+use Rattle.coordinates.specs.declared.axis.Axis.TheVariants.{Column, Row}
 use Rattle.name_entries.specs.declared.NameEntry.{NameEntry}
 use Rattle.name_entries.specs.Entries.{name_in}
-use Rattle.name_entries.specs.LineNames.{explicit_line_names}
+use Rattle.name_entries.specs.LineNames.{explicit_line_names, of_axis}
 use Rattle.name_entries.specs.LineEntries.{no_entry, explicit_line_entries}
 use Rattle.name_entries.proofs.Showing.{entry-name}
 use Rattle.panel_tables.specs.declared.Grid.{Grid}
 use Rattle.panel_tables.specs.Axes.{grid_in}
+use Rattle.panel_tables.specs.Regions.{axis_words_in}
 use Rattle.panel_rules.specs.Calls.{NameTables, words_in, store_in, short_names, entry_words_in, book_in, line_name_in}
 use Rattle.std.specs.Prelude.{Option, Some, None}
 use Rattle.std.specs.Option.{unwrap_or}
@@ -48,3 +50,8 @@ module _ (p : Grid) (t : NameTables) (a : Axis) (line place : ℕ) (o : Option N
 
   pub no-name : o ≡ None → [] ≡ line_name_in p t a line place
   no-name f = ap (λ (x : Option NameEntry). name_in (store_in t a) (unwrap_or x no_entry)) (sym f ∙ told) ∙ ap (name_in (store_in t a)) (shown-entry p t a line place) ∙ line_entry_name p t a line place
+
+-- the words of an axis by a choice between both
+pub words_of : (a : Axis) (words : List ℕ) → of_axis a (axis_words_in Column words) (axis_words_in Row words) ≡ axis_words_in a words
+words_of Column words = refl
+words_of Row words = refl

@@ -10,6 +10,7 @@ use axis_tables::AxisState;
 use axis_tables::layout::ENTRIES;
 use axis_tables::name::put_bytes;
 use coordinates::{Axis, Fault};
+use name_entries::NameEntry;
 use name_entries::enter::check_entry;
 use panel_tables::Panel;
 use panel_tables::axis::{state_in, with_state};
@@ -31,9 +32,12 @@ fn enter_on(
     let entries = state.grid.entries;
     let used = state.room.used;
     let first = first_word(axis);
-    words[first + (ENTRIES + entries as usize)] = line as u64
-        + used as u64 * 0x1_0000
-        + length as u64 * 0x1_0000_0000;
+    let entry = NameEntry {
+        line,
+        offset: used,
+        length: length as u32,
+    };
+    words[first + (ENTRIES + entries as usize)] = u64::from(entry);
     put_bytes(store, used as usize, name);
     let mut after = state;
     after.grid.entries = entries + 1;
@@ -56,16 +60,11 @@ fn enter_in(
     ensures others { (area_words_in words.new ≡ area_words_in words.old) × (placement_words_in words.new ≡ placement_words_in words.old) }
 {
     let state = state_in(panel, axis);
-    match axis {
-        Axis::Column => {
-            let own = enter_on(state, words, Axis::Column, columnstore, line, name);
-            with_state(panel, Axis::Column, own)
-        }
-        Axis::Row => {
-            let own = enter_on(state, words, Axis::Row, rowstore, line, name);
-            with_state(panel, Axis::Row, own)
-        }
-    }
+    let own = match axis {
+        Axis::Column => enter_on(state, words, axis, columnstore, line, name),
+        Axis::Row => enter_on(state, words, axis, rowstore, line, name),
+    };
+    with_state(panel, axis, own)
 }
 
 // Enters a line and a name in an axis. 2: no name; 4: a line outside 1 to 20,000; 8: no room; 10: a store below 32,768 bytes.

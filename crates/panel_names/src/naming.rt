@@ -1,32 +1,15 @@
 // The line names of a panel, and the entries that show them.
 ghost use Rattle.std.specs.Prelude.{◌≡◌};
-ghost use Rattle.std.specs.List.{slice_get};
-ghost use Rattle.name_entries.specs.LineEntries.{explicit_line_entries};
-ghost use Rattle.panel_rules.specs.Calls.{NameTables, entry_words_in, line_name_in};
+ghost use Rattle.panel_rules.specs.Calls.{line_name_in};
 ghost use Rattle.panel_names.specs.Lent.{lent_tables};
 ghost use Rattle.panel_names.specs.LineEntries.{shown_entry_in};
 
 use crate::LentNames;
-use crate::store::entries_of;
-use axis_tables::AxisGrid;
-use axis_tables::layout::AXIS_BYTES;
 use coordinates::Axis;
+use name_entries::NameEntry;
 use name_entries::entry::name_in;
-use name_entries::{NameEntry, Names};
 use panel_tables::Grid;
 use panel_tables::axis::grid_in;
-use panel_tables::region::axis_words;
-
-// The entry that shows a name of a line of one axis, by its place from 0.
-fn entry_on(grid: AxisGrid, words: &[u64], store: &[u8], line: u32, place: u32) -> Option<NameEntry>
-    ensures { result ≡ slice_get (explicit_line_entries grid.size.explicit (entry_words_in grid words.now) store.now line) place }
-{
-    let names = Names {
-        entries: entries_of(grid, words),
-        store,
-    };
-    names.line_entry(grid.size.explicit, line, place)
-}
 
 // The entry that shows a name of a line of an axis, by its place from 0: none where that line and place hold none, or a store is
 // below 32,768 bytes.
@@ -40,11 +23,9 @@ pub fn line_entry(
 ) -> Option<NameEntry>
     ensures { result ≡ shown_entry_in grid (lent_tables lent.entry) axis line place }
 {
-    if lent.columnstore.len().min(lent.rowstore.len()) < AXIS_BYTES {
-        return None;
-    }
-    let words = axis_words(lent.words, axis);
-    entry_on(grid_in(grid, axis), words, lent.store(axis), line, place)
+    lent.check_stores().ok()?;
+    let explicit = grid_in(grid, axis).size.explicit;
+    lent.names(grid, axis).line_entry(explicit, line, place)
 }
 
 // A name of a line of an axis, by its place from 0: a part of the column store or of the row store. It is empty where that line

@@ -19,7 +19,7 @@ use Rattle.panel_tables.specs.declared.Grid.{Grid}
 use Rattle.panel_tables.specs.Axes.{grid_in}
 use Rattle.panel_tables.specs.Regions.{axis_words_in}
 use Rattle.panel_rules.specs.Calls.{axis_tracks}
-use Rattle.line_positions.specs.declared.PixelSpan.{PixelSpan}
+use Rattle.line_positions.specs.declared.Span.{Span}
 use Rattle.line_positions.specs.declared.LineWalk.{LineWalk}
 use Rattle.line_positions.specs.Positions.{all_definite, start_of, position_of, tracks_among, nearest_of, lines_before, lines_up_to}
 use Rattle.line_positions.specs.Steps.{walked_to, gathered}
@@ -41,7 +41,7 @@ module _ (g : AxisGrid) (words items : List ℕ) (low high : ℕ) where
   abbrev whole : Bool
   whole = all_definite (inner_in g.space) (records_on g words items)
 
-  abbrev span : PixelSpan
+  abbrev span : Span Float
   span = record { low = pixels low; high = pixels high }
 
   -- the older checks come first
@@ -169,11 +169,11 @@ module _ (g : AxisGrid) (words items : List ℕ) (cursor : ℕ) (s : Sought) (e 
 
 -- ---- on a panel
 
-module _ (p : Grid) (x : Axis) (words items : List ℕ) (g : AxisGrid) (w : List ℕ) (e : g ≡ grid_in p x) (f : w ≡ axis_words_in x words) where
-  pub nearest-of : (cursor : ℕ) (r : LineAnswer) → r ≡ nearest_on g w items cursor → r ≡ nearest_line p words x items cursor
+module _ (p : Grid) (x : Axis) (words items : List ℕ) (g : AxisGrid) (w i : List ℕ) (e : g ≡ grid_in p x) (f : w ≡ axis_words_in x words) (k : i ≡ items) where
+  pub nearest-of : (cursor : ℕ) (r : LineAnswer) → r ≡ nearest_on g w i cursor → r ≡ nearest_line p words x items cursor
   unfolding nearest_line
-  nearest-of cursor r h = h ∙ ap₂ (λ (y : AxisGrid) (z : List ℕ). nearest_on y z items cursor) e f
+  nearest-of cursor r h = h ∙ ap₂ (λ (y : AxisGrid) (z : List ℕ). nearest_on y z i cursor) e f ∙ ap (λ (z : List ℕ). nearest_on (grid_in p x) (axis_words_in x words) z cursor) k
 
-  pub lines_of : (low high : ℕ) (r : LinesWithin) → r ≡ lines_on g w items low high → r ≡ lines_within p words x items low high
+  pub lines_of : (low high : ℕ) (r : LinesWithin) → r ≡ lines_on g w i low high → r ≡ lines_within p words x items low high
   unfolding lines_within
-  lines_of low high r h = h ∙ ap₂ (λ (y : AxisGrid) (z : List ℕ). lines_on y z items low high) e f
+  lines_of low high r h = h ∙ ap₂ (λ (y : AxisGrid) (z : List ℕ). lines_on y z i low high) e f ∙ ap (λ (z : List ℕ). lines_on (grid_in p x) (axis_words_in x words) z low high) k

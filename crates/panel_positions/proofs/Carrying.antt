@@ -25,7 +25,7 @@ use Rattle.axis_tables.specs.declared.AxisGrid.{AxisGrid}
 use Rattle.panel_rules.specs.Calls.{axis_tracks, template_in, spares_in}
 use Rattle.panel_calls.specs.Carried.{carried_to, carried_record, carried_on}
 use Rattle.panel_calls.proofs.Carried.{carried_on_lem, carried-record}
-use Rattle.line_positions.specs.declared.PixelSpan.{PixelSpan}
+use Rattle.line_positions.specs.declared.Span.{Span}
 use Rattle.line_positions.specs.declared.LineWalk.{LineWalk}
 use Rattle.line_positions.specs.Positions.{tracks_among}
 use Rattle.line_positions.specs.Steps.{position_step, walked_to}
@@ -86,7 +86,7 @@ module _ (g : AxisGrid) (words items : List ℕ) where
       ap (λ (r : GridTrack). gutter_of at.axis.gap (r.collapsed || leb at.plan.opened (d + 1))) t
       ∙ with_pair at.axis at.plan (template_in g words) (spares_in g words) (item_at items) at.cursor d
 
-  module _ (span : PixelSpan) (inner : Option Float) (count : ℕ) (all : count ≡ tracks_in (axis_tracks g)) where
+  module _ (span : Span Float) (inner : Option Float) (count : ℕ) (all : count ≡ tracks_in (axis_tracks g)) where
     at-step : (i : ℕ) → i ≤ 2 * count → (w : LineWalk) (track : GridTrack) → track ≡ carried_record g words items (carried_to g words items i) i → w ≡ walked_to span inner (records_on g words items) i
         → position_step span inner w (2 * count) i track ≡ walked_to span inner (records_on g words items) (i + 1)
     at-step i h w track e f =

@@ -7,9 +7,9 @@ use lib.IntN.{ℤ, pos, negsuc, ◌-ℤ◌}
 use mir.Syntax.{w32}
 use mir.Val.{SFits, to_z, of_z}
 use mir.Facts.{to_z-of_z}
+use Rattle.std.proofs.lemmas.Bool.{cases_lt}
 use Rattle.coordinates.specs.Lines.{to_grid_line}
 use Rattle.coordinates.proofs.Integers.{minus_at, minus_past, minus_before}
-use Rattle.track_rules.proofs.Lists.{lt_or_ge}
 
 -- place k, m tracks before the first explicit line, n explicit tracks
 pub at_or_after : (k m n : ℕ) → m ≤ k → pos (k - m + 1) ≡ to_grid_line n (pos k -ℤ pos m)
@@ -23,7 +23,7 @@ fits_32 k m n a b c =
     ⊎_elim
     (λ (h : k < m). subst (SFits w32) (before_it k m n h) (record { sfits = omega arith }))
     (λ (h : m ≤ k). subst (SFits w32) (at_or_after k m n h) (record { sfits = omega arith }))
-    (lt_or_ge k m)
+    (cases_lt k m)
 
 -- such a number is handed on as it is
 pub handed_on : (k m n : ℕ) (r : ℤ) → k ≤ 30000 → m ≤ 10000 → n ≤ 10000 → r ≡ to_grid_line n (pos k -ℤ pos m) → to_z w32 (of_z w32 r) ≡ to_grid_line n (pos k -ℤ pos m)

@@ -8,13 +8,13 @@ use mathlib.Core.List.{List, ◌++◌, append-nil}
 use lib.Dec.{eqb, ltb}
 use lib.ListN.{length, replicate, drop_of_length-le, length-replicate}
 use borrow.Author.Tests.{ne_eqb, lt-ltb}
+use Rattle.std.proofs.lemmas.Bool.{cases_lt}
 use Rattle.coordinates.specs.declared.axis.Axis.TheVariants.{Column}
 use Rattle.sizing.specs.Ranges.{length_in_range}
 use Rattle.sheet_end.specs.End.{inner_in}
 use Rattle.track_rules.specs.declared.GridTrack.{GridTrack}
 use Rattle.track_rules.specs.Tracks.{zero_grid_track}
 use Rattle.track_rules.specs.Records.{tracks_in, records_in}
-use Rattle.track_rules.proofs.Lists.{lt_or_ge}
 use Rattle.track_run.specs.Run.{run_after}
 use Rattle.track_run.proofs.Filling.{run-accepted}
 use Rattle.axis_tables.specs.declared.AxisGrid.{AxisGrid}
@@ -133,7 +133,7 @@ module _ (items : List ℕ) where
         ∙ short-nearest (not (length_in_range cursor && length_in_range cursor)) (forged g) _ _
         ∙ ap (λ (t : Bool). nearest_by cursor t (records_on g other items)) (sym s))
         (λ (h : tracks_in (axis_tracks g) ≤ length items). ap (nearest_by cursor (ltb (length items) (tracks_in (axis_tracks g)))) (same h))
-        (lt_or_ge (length items) (tracks_in (axis_tracks g)))
+        (cases_lt (length items) (tracks_in (axis_tracks g)))
 
     lines_same : (low high : ℕ) → lines_on g words items low high ≡ lines_on g other items low high
     unfolding lines_on cursor_refusal
@@ -145,7 +145,7 @@ module _ (items : List ℕ) where
         ∙ short-lines (not (length_in_range low && length_in_range high)) (forged g) _ _ _ _
         ∙ ap (λ (t : Bool). lines_by low high t (records_on g other items)) (sym s))
         (λ (h : tracks_in (axis_tracks g) ≤ length items). ap (lines_by low high (ltb (length items) (tracks_in (axis_tracks g)))) (same h))
-        (lt_or_ge (length items) (tracks_in (axis_tracks g)))
+        (cases_lt (length items) (tracks_in (axis_tracks g)))
 
 module _ (p q : Run) (d : DifferInRows p q) where
   abbrev ours : AxisGrid

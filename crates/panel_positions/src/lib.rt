@@ -9,9 +9,10 @@ ghost use Rattle.panel_positions.specs.Cursor.{answered_nearest_line, answered_b
 mod walk;
 
 use coordinates::{Axis, Fault};
+use line_positions::Span;
+use panel_calls::axis_track::LentAxis;
 use panel_tables::Grid;
-use panel_tables::axis::grid_in;
-use panel_tables::region::{PANEL_WORDS, axis_words};
+use panel_tables::region::PANEL_WORDS;
 
 // A grid line, or a refusal and 0, for C.
 #[repr(C)]
@@ -36,13 +37,6 @@ impl From<Result<i32, Fault>> for LineAnswer {
     }
 }
 
-// A span of pixels, by the bits of its ends.
-#[derive(Clone, Copy, Debug, PartialEq, Eq)]
-pub struct SpanBits {
-    pub low: u32,
-    pub high: u32,
-}
-
 // How many lines of an axis lie before a span, and how many up to its end: the lines within it are those between.
 #[derive(Clone, Copy, Debug, PartialEq, Eq)]
 pub struct Between {
@@ -61,7 +55,7 @@ pub fn nearest_line(
 ) -> Result<i32, Fault>
     ensures { answered_nearest_line result ≡ nearest_line grid words.now axis items.now cursor }
 {
-    walk::nearest_on(grid_in(grid, axis), axis_words(words, axis), items, cursor)
+    walk::nearest_on(LentAxis::of_panel(grid, words, axis, items), cursor)
 }
 
 // How many lines of an axis lie before a span, and how many at its end or before: the lines within it are those between. Refuses as
@@ -71,15 +65,15 @@ pub fn lines_within(
     words: &[u64; PANEL_WORDS],
     axis: Axis,
     items: &[u8],
-    span: SpanBits,
+    span: Span<u32>,
 ) -> Result<Between, Fault>
     ensures { answered_between result ≡ lines_within grid words.now axis items.now span.low span.high }
 {
-    walk::lines_on(grid_in(grid, axis), axis_words(words, axis), items, span)
+    walk::lines_on(LentAxis::of_panel(grid, words, axis, items), span)
 }
 
 // What positions on no axis are refused by: their range first.
-pub fn positions_on_no_axis(span: SpanBits) -> Fault
+pub fn positions_on_no_axis(span: Span<u32>) -> Fault
     ensures { number_of result ≡ no_axis_positions span.low span.high }
 {
     if walk::are_lengths(span) {

@@ -11,20 +11,18 @@ ghost use Rattle.coordinates.specs.Refusals.{refused_by};
 ghost use Rattle.panel_positions.specs.Cursor.{records_on, forged, answered_nearest_line, nearest_on, answered_between, lines_on};
 ghost use Rattle.panel_positions.specs.Steps.{older_refusal, answered_sought, sought_on};
 
-use crate::{Between, SpanBits};
+use crate::Between;
 use axis_tables::AxisGrid;
 use coordinates::Fault;
-use line_positions::{LineWalk, PixelSpan, step};
-use panel_calls::axis_track;
+use coordinates::line::MOST_TRACKS;
+use line_positions::{LineWalk, Span, step};
+use panel_calls::axis_track::{LentAxis, axis_tracks};
 use sheet_end::size::inner_in;
 use sizing::range::length_in_range;
 use sizing::word::length_of;
 use track_record::collapse::gutter_collapses;
 use track_rules::grid_track::gutter;
 use track_rules::{GridTrack, TrackWalk};
-
-// The most explicit tracks, and the most implicit ones on each side.
-const MOST_TRACKS: u32 = 10000;
 
 // The gutter after a track, whose record is known.
 fn gutter_after(at: TrackWalk, track: GridTrack, number: u64) -> GridTrack
@@ -35,22 +33,22 @@ fn gutter_after(at: TrackWalk, track: GridTrack, number: u64) -> GridTrack
 }
 
 // What the records of an axis say of its lines, the first gutter and then a track and the gutter after it at a time.
-pub(crate) fn walked(grid: AxisGrid, words: &[u64], items: &[u8], span: PixelSpan) -> LineWalk
-    ensures { result ≡ walked_to span (inner_in grid.space) (records_on grid words.now items.now) (records_in (axis_tracks grid)) }
+pub(crate) fn walked(lent: LentAxis, span: Span<f32>) -> LineWalk
+    ensures { result ≡ walked_to span (inner_in lent.entry.grid.space) (records_on lent.entry.grid lent.entry.tables.now lent.entry.items.now) (records_in (axis_tracks lent.entry.grid)) }
 {
-    let inner = inner_in(grid.space);
-    let tracks = axis_track::axis_tracks(grid);
+    let inner = inner_in(lent.grid.space);
+    let tracks = axis_tracks(lent.grid);
     let count = track_record::plan::track_count(tracks);
     let first = gutter(tracks.gap, true);
     let begun = step::begin();
-    let mut at = axis_track::first_on(grid, words, items);
+    let mut at = lent.first();
     let mut walk = step::position_step(span, inner, begun, 2 * count, 0, first);
     for done in 0..count {
-        let track = axis_track::carried_on(grid, words, items, at, 2 * done as usize + 1);
+        let track = lent.carried(at, 2 * done as usize + 1);
         let after = gutter_after(at, track, done as u64 + 1);
         let met = step::position_step(span, inner, walk, 2 * count, 2 * done + 1, track);
         walk = step::position_step(span, inner, met, 2 * count, 2 * done + 2, after);
-        at = axis_track::next_on(grid, words, at, 2 * done as usize + 2);
+        at = lent.next(at, 2 * done as usize + 2);
     }
     walk
 }
@@ -59,13 +57,12 @@ pub(crate) fn walked(grid: AxisGrid, words: &[u64], items: &[u8], span: PixelSpa
 fn is_forged(grid: AxisGrid) -> bool
     ensures { result ≡ forged grid }
 {
-    MOST_TRACKS < grid.size.explicit
-        || MOST_TRACKS < grid.implicit.negative
-        || MOST_TRACKS < grid.implicit.positive
+    let most = u32::from(MOST_TRACKS);
+    most < grid.size.explicit || most < grid.implicit.negative || most < grid.implicit.positive
 }
 
 // Whether bits are those of two lengths in range.
-pub(crate) fn are_lengths(span: SpanBits) -> bool
+pub(crate) fn are_lengths(span: Span<u32>) -> bool
     ensures { result ≡ (length_in_range span.low && length_in_range span.high) }
 {
     length_in_range(span.low) && length_in_range(span.high)
@@ -73,7 +70,7 @@ pub(crate) fn are_lengths(span: SpanBits) -> bool
 
 // What is refused before the records are walked.
 #[tactic(auto, unfolding(crate::specs::Steps::older_refusal))]
-fn check_span(grid: AxisGrid, items: usize, span: SpanBits) -> Result<(), Fault>
+fn check_span(grid: AxisGrid, items: usize, span: Span<u32>) -> Result<(), Fault>
     ensures { refused_by result ≡ older_refusal grid items span.low span.high }
 {
     if !are_lengths(span) {
@@ -82,22 +79,22 @@ fn check_span(grid: AxisGrid, items: usize, span: SpanBits) -> Result<(), Fault>
     if is_forged(grid) {
         return Err(Fault::Count);
     }
-    if items < track_record::plan::track_count(axis_track::axis_tracks(grid)) as usize {
+    if items < track_record::plan::track_count(axis_tracks(grid)) as usize {
         return Err(Fault::Short);
     }
     Ok(())
 }
 
 // What is sought of the lines of an axis: a walk over records that are all definite.
-fn sought_on(grid: AxisGrid, words: &[u64], items: &[u8], span: SpanBits) -> Result<LineWalk, Fault>
-    ensures { answered_sought result ≡ sought_on grid words.now items.now span.low span.high }
+fn sought_on(lent: LentAxis, span: Span<u32>) -> Result<LineWalk, Fault>
+    ensures { answered_sought result ≡ sought_on lent.entry.grid lent.entry.tables.now lent.entry.items.now span.low span.high }
 {
-    check_span(grid, items.len(), span)?;
-    let pixels = PixelSpan {
+    check_span(lent.grid, lent.items.len(), span)?;
+    let pixels = Span {
         low: length_of(span.low),
         high: length_of(span.high),
     };
-    let walk = walked(grid, words, items, pixels);
+    let walk = walked(lent, pixels);
     if walk.definite {
         Ok(walk)
     } else {
@@ -120,32 +117,19 @@ fn grid_line_at(place: u32, negative: u32, explicit: u32) -> i32
 }
 
 // The line of an axis nearest to a cursor.
-pub(crate) fn nearest_on(
-    grid: AxisGrid,
-    words: &[u64],
-    items: &[u8],
-    cursor: u32,
-) -> Result<i32, Fault>
-    ensures { answered_nearest_line result ≡ nearest_on grid words.now items.now cursor }
+pub(crate) fn nearest_on(lent: LentAxis, cursor: u32) -> Result<i32, Fault>
+    ensures { answered_nearest_line result ≡ nearest_on lent.entry.grid lent.entry.tables.now lent.entry.items.now cursor }
 {
-    let span = SpanBits {
-        low: cursor,
-        high: cursor,
-    };
-    let sought = sought_on(grid, words, items, span)?;
+    let grid = lent.grid;
+    let sought = sought_on(lent, Span::at(cursor))?;
     Ok(grid_line_at(sought.nearest, grid.implicit.negative, grid.size.explicit))
 }
 
 // The lines of an axis around a span.
-pub(crate) fn lines_on(
-    grid: AxisGrid,
-    words: &[u64],
-    items: &[u8],
-    span: SpanBits,
-) -> Result<Between, Fault>
-    ensures { answered_between result ≡ lines_on grid words.now items.now span.low span.high }
+pub(crate) fn lines_on(lent: LentAxis, span: Span<u32>) -> Result<Between, Fault>
+    ensures { answered_between result ≡ lines_on lent.entry.grid lent.entry.tables.now lent.entry.items.now span.low span.high }
 {
-    let sought = sought_on(grid, words, items, span)?;
+    let sought = sought_on(lent, span)?;
     Ok(Between {
         below: sought.below,
         upto: sought.upto,

@@ -4,7 +4,7 @@ use Rattle.std.specs.Prelude.{OnOk}
 use Rattle.std.specs.Result.{result_and}
 use Rattle.std.specs.Io.KnownBytes.{Appends}
 use Rattle.std.proofs.KnownBytes.{Appends-nil, Appends-trans}
-use Rattle.panel_answer.specs.declared.AnswerLine.{AnswerLine}
+use Rattle.panel_answer.specs.Listed.{AnswerLine, answered_next}
 use Rattle.panel_answer.specs.declared.Filled.{Filled}
 use Rattle.panel_answer.specs.Answer.{GridHeld}
 use Rattle.panel_answer.specs.Text.{FillsText, text_from}
@@ -55,12 +55,12 @@ none_ok a before whole = record { if_ok = none_printed before whole }
 -- one part more
 pub part_ok : {A E : Type 0} {s r : Result A E} (t : Result A E) {out₀ out : List ℕ} {h : GridHeld} {at : AnswerLine} {filled : Filled} {before mid : Option (List ℕ)} (after : Option (List ℕ)) {whole : List ℕ}
     → FillsText out₀ h at out filled → r ≡ result_and s t → PrintedOk A E s before mid (text_from h at) whole → OnOk t (Appends mid after (take filled.count out))
-    → PrintedOk A E r before after (text_from h filled.next) whole
+    → PrintedOk A E r before after (text_from h (answered_next filled.next)) whole
 part_ok {A} {E} {s} {r} t {out₀} {out} {h} {at} {filled} {before} {mid} after {whole} f e p q =
-    subst (λ z. PrintedOk A E z before after (text_from h filled.next) whole) (sym e) (go s t p.if_ok q)
+    subst (λ z. PrintedOk A E z before after (text_from h (answered_next filled.next)) whole) (sym e) (go s t p.if_ok q)
   where
     go : (x y : Result A E) → OnOk x (PrintedUpTo before mid (text_from h at) whole) → OnOk y (Appends mid after (take filled.count out))
-        → PrintedOk A E (result_and x y) before after (text_from h filled.next) whole
+        → PrintedOk A E (result_and x y) before after (text_from h (answered_next filled.next)) whole
     go (Ok a) (Ok b) u v = record { if_ok = more-printed f.written.part u (subst (Appends mid after) (filled_part f) v) f.written.whole }
     go (Ok a) (Err d) u v = record { if_ok = tt }
     go (Err d) y u v = record { if_ok = tt }

@@ -6,8 +6,8 @@ use borrow.Author.Tests.{lt-ltb, ltb-true, ltb-false}
 use lib.Seq.{length-take-le}
 use Rattle.std.specs.Io.KnownBytes.{Appends, Consumes, IsAtEnd}
 use Rattle.sheet_rules.specs.Panels.{Tables}
-use Rattle.sheet_rules.specs.Read.{SheetRead, read_sheet, strict_by}
-use Rattle.sheet_rules.specs.Sheet.{Outcome, broken_of, display_of, fold_of, no_overlap, outcome, overlap_of, with_broken}
+use Rattle.sheet_rules.specs.Read.{read_sheet, strict_by}
+use Rattle.sheet_rules.specs.Sheet.{broken_of, display_of, fold_of, no_overlap, outcome, overlap_of, with_broken}
 use Rattle.panel_tables.specs.View.{empty_view}
 use Rattle.panel_answer.specs.Answer.{answer_text}
 

@@ -5,13 +5,13 @@
 ghost use Rattle.std.specs.Prelude.{◌≡◌, ◌<◌, ◌≤◌, length, take, true, IfSome, OnOk};
 ghost use Rattle.std.specs.Io.KnownBytes.{Appends, Consumes, IsAtEnd};
 ghost use Rattle.panel_answer.specs.Answer.{answer_text};
+ghost use Rattle.panel_answer.specs.Listed.{answered_next};
 ghost use Rattle.panel_answer.specs.Walk.{is_end};
 ghost use Rattle.panel_program.specs.Printed.{zero_tables};
 
 use axis_tables::layout::AXIS_BYTES;
 use panel_answer::AnswerLine;
 use panel_answer::fill::{begin_answer, fill};
-use panel_answer::line::is_end;
 use panel_tables::LentPanel;
 use panel_tables::region::{PANEL_BYTES, PANEL_WORDS};
 use std::io;
@@ -38,8 +38,8 @@ pub fn read_full<R: Read>(input: &mut R, buffer: &mut [u8]) -> (usize, io::Resul
 }
 
 // Prints the answer to a sheet, part after part of its text: the line that is left then, which is none, and whether no write failed.
-fn print_answer<W: Write>(output: &mut W, sheet: &[u8]) -> (AnswerLine, io::Result<()>)
-    ensures ended { is_end result.0 ≡ true }
+fn print_answer<W: Write>(output: &mut W, sheet: &[u8]) -> (Option<AnswerLine>, io::Result<()>)
+    ensures ended { is_end (answered_next result.0) ≡ true }
     ensures printed { OnOk result.1 (Appends (W.contents output.old) (W.contents output.new) (answer_text sheet.now zero_tables)) }
 {
     let mut words = [0u64; PANEL_WORDS];
@@ -59,10 +59,10 @@ fn print_answer<W: Write>(output: &mut W, sheet: &[u8]) -> (AnswerLine, io::Resu
         columnstore: &columnstore,
         rowstore: &rowstore,
     };
-    let mut next = begun.first;
+    let mut next = Some(begun.first);
     let mut out = [0u8; 65536];
     let mut written = Ok(());
-    while !is_end(next) {
+    while next.is_some() {
         let filled = fill(&mut out, begun.grid, lent, next);
         written = written.and(output.write_all(&out[..filled.count]));
         next = filled.next;
@@ -79,5 +79,5 @@ pub fn answer_input<R: Read, W: Write>(input: &mut R, output: &mut W) -> (bool, 
     let mut sheet = [0u8; SHEET_ROOM];
     let (length, taken) = read_full(input, &mut sheet);
     let (left, written) = print_answer(output, &sheet[..length]);
-    (is_end(left), taken.and(written))
+    (left.is_none(), taken.and(written))
 }

@@ -3,28 +3,18 @@
 #![tactic(auto)]
 
 ghost use Rattle.std.specs.Prelude.{◌≡◌};
-ghost use Rattle.least_resize.specs.Answer.{answered_resize, inner_by};
+ghost use Rattle.least_resize.specs.Answer.{answered_resize};
 ghost use Rattle.panel_resize.specs.Resize.{axis_resize, least_resize_in};
 
-use axis_tables::{AxisGrid, AxisSpace};
+use axis_tables::AxisGrid;
 use coordinates::{Axis, Fault};
 use least_resize::answer::resize_answer;
 use panel_calls::part::template_on;
 use panel_tables::Grid;
 use panel_tables::axis::grid_in;
 use panel_tables::region::{PANEL_WORDS, axis_words};
-use sheet_end::size::strategy_in;
-use sizing::word::sizing_of;
-
-// The bits of the inner size of an axis that has one.
-fn inner_given(space: AxisSpace) -> Option<u32>
-    ensures { result ≡ inner_by space.definite space.inner }
-{
-    match space.definite {
-        0 => None,
-        _ => Some(space.inner),
-    }
-}
+use sizing::Sizing;
+use template_rules::AutoRepeatStrategy;
 
 // The least resize of one axis, from its state and its words.
 fn resize_on(grid: AxisGrid, words: &[u64]) -> Result<Option<u32>, Fault>
@@ -32,9 +22,9 @@ fn resize_on(grid: AxisGrid, words: &[u64]) -> Result<Option<u32>, Fault>
 {
     resize_answer(
         template_on(grid, words),
-        inner_given(grid.space),
-        strategy_in(grid.space),
-        sizing_of(grid.space.gap),
+        grid.space.inner_bits(),
+        AutoRepeatStrategy::from(grid.space.rule),
+        Sizing::from(grid.space.gap),
     )
 }
 

@@ -25,8 +25,8 @@ use Rattle.panel_rules.specs.Calls.{NameTables, NamedWords, entry_words_in, name
 use Rattle.panel_rules.specs.Placing.{resolve_placement}
 use Rattle.library_numbers.specs.declared.PlacementNumbers.{PlacementNumbers}
 use Rattle.library_numbers.specs.Answers.{placement_numbers}
-use Rattle.panel_resolving.specs.declared.write.Run.{Run}
-use Rattle.panel_resolving.specs.Chosen.{chosen_sets, on_axis, numbers_by, run_of}
+use Rattle.panel_resolving.specs.declared.axis_run.Run.{Run}
+use Rattle.panel_resolving.specs.Chosen.{chosen_sets, on_axis, numbers_by, IsRunOf}
 use Rattle.panel_resolving.specs.Placements.{numbers_of, run_numbers}
 use Rattle.panel_resolving.proofs.Numbers.{put_on}
 
@@ -193,8 +193,8 @@ module _ (p : Grid) (t : NameTables) (areas placements : NamedWords) where
 
     -- what the two runs leave, one after the other
     pub axes-written : (columns rows : Run) (column_words row_words : List ℕ) (middle after : List ℤ)
-        → columns ≡ run_of Column p.columns.size.explicit p.areas first count → column_words ≡ entry_words_in p.columns t.columns
-        → rows ≡ run_of Row p.rows.size.explicit p.areas first count → row_words ≡ entry_words_in p.rows t.rows
+        → IsRunOf Column p.columns.size.explicit p.areas first count columns → column_words ≡ entry_words_in p.columns t.columns
+        → IsRunOf Row p.rows.size.explicit p.areas first count rows → row_words ≡ entry_words_in p.rows t.rows
         → middle ≡ chosen_sets (on_axis columns.around.axis placements.words)
         (numbers_by (resolution_of (axis_names columns.around.explicit columns.around.axis column_words t.column_store (part_of areas.words 0 columns.around.areas) (part_of areas.words 64 columns.around.areas) areas.bytes) placements.bytes) placements.words)
         0 columns.first columns.count lent
@@ -203,6 +203,6 @@ module _ (p : Grid) (t : NameTables) (areas placements : NamedWords) where
         0 rows.first rows.count middle
         → after ≡ sets lent 0 (run_numbers p t areas placements first count)
     axes-written columns rows column_words row_words middle after a b d e f g =
-        (rw (d, e) at g)
-        ∙ ap (λ (xs : List ℤ). chosen_sets (on_axis Row placements.words) (axis_numbers Row) 0 first count xs) (rw (a, b) at f)
+        (rw (d.around, d.first, d.count, e) at g)
+        ∙ ap (λ (xs : List ℤ). chosen_sets (on_axis Row placements.words) (axis_numbers Row) 0 first count xs) (rw (a.around, a.first, a.count, b) at f)
         ∙ both-axes

@@ -12,11 +12,11 @@ use Rattle.name_groups.specs.Keys.{key_count}
 use Rattle.name_groups.specs.Groups.{Grouped}
 use Rattle.name_groups.specs.declared.key.Grouping.{Grouping}
 use Rattle.name_groups.specs.declared.key.Grouping.TheVariants.{Whole, Few, Many}
-use Rattle.name_resolver.specs.declared.Line.{Line}
+use Rattle.name_resolver.specs.Types.{WrittenLine}
 use Rattle.name_resolver.specs.Placements.{Resolution}
 use Rattle.name_resolver.specs.Placements.{resolution_of}
 use Rattle.axis_tables.specs.Runs.{part_of}
-use Rattle.panel_resolving.specs.declared.write.Run.{Run}
+use Rattle.panel_resolving.specs.declared.axis_run.Run.{Run}
 use Rattle.panel_resolving.specs.Names.{bears_by, resolution_by}
 use Rattle.panel_resolving.specs.Chosen.{GroupsFit, chosen_sets, on_axis, numbers_by, run_grouped, grouping_for}
 use Rattle.panel_resolving.proofs.Grouping.{grouped-resolving}
@@ -65,5 +65,5 @@ pub grouped_run : (run grouped : Run) (g : Grouping) → grouped ≡ run_grouped
     (numbers_by (resolution_of (axis_names run.around.explicit run.around.axis entries store (part_of areas 0 run.around.areas) (part_of areas 64 run.around.areas) areabytes) names) placements)
     0 run.first run.count lent
 grouped_run run grouped g e entries index store areas areabytes placements names h lent after f =
-    (rw e at f) ∙ ap (λ (r : Line → Resolution). chosen_sets (on_axis run.around.axis placements) (numbers_by r placements) 0 run.first run.count lent)
+    (rw e at f) ∙ ap (λ (r : WrittenLine → Resolution). chosen_sets (on_axis run.around.axis placements) (numbers_by r placements) 0 run.first run.count lent)
     (grouped-resolving (run_grouped run g).around entries store index areas areabytes h names)

@@ -12,15 +12,12 @@ use Rattle.name_rules.specs.Rule.{any, drawn?, named?}
 use Rattle.name_lines.specs.Areas.{axis_names, bears}
 use Rattle.name_groups.specs.Groups.{Grouped}
 use Rattle.name_groups.proofs.Ungrouped.{whole_grouped}
-use Rattle.name_resolver.specs.declared.Line.{Line}
+use Rattle.name_resolver.specs.Types.{WrittenLine}
 use Rattle.name_resolver.specs.Placements.{Resolution}
 use Rattle.name_resolver.specs.Placements.{resolved_line, held_line, refused_resolution, resolution_of}
 use Rattle.name_resolver.specs.Questions.{answered_line}
 use Rattle.name_resolver.proofs.Questions.{line-answer}
 use Rattle.axis_tables.specs.Runs.{part_of}
-use Rattle.panel_tables.specs.declared.Grid.{Grid}
-use Rattle.panel_tables.specs.Axes.{grid_in}
-use Rattle.panel_rules.specs.Calls.{NameTables, NamedWords, words_in, store_in, entry_words_in, names_in}
 use Rattle.panel_resolving.specs.declared.Around.{Around}
 use Rattle.panel_resolving.specs.Whole.{whole_around}
 use Rattle.panel_resolving.specs.Names.{areas_around, bears_by, resolution_by}
@@ -36,7 +33,7 @@ module _ (x : Around) (entries store index areas areabytes : List ℕ) where
   names_same g = fun_ext (λ (nm : Bytes). fun_ext (λ (number : ℕ). ap (λ (b : Bool). b || any (drawn? nm number) (areas_around x areas areabytes)) (g.whole nm number)))
 
   -- so a placement is resolved alike
-  pub grouped-resolution : Grouped x.grouping entries store index → (bytes : List ℕ) (l : Line)
+  pub grouped-resolution : Grouped x.grouping entries store index → (bytes : List ℕ) (l : WrittenLine)
       → resolution_by x.explicit (bears_by x index store areas areabytes) bytes l ≡ resolution_of names_around bytes l
   unfolding resolution_by resolution_of
   grouped-resolution g bytes l = rw (names_same g) (go (leb x.explicit 10000) refl)
@@ -50,21 +47,14 @@ module _ (x : Around) (entries store index areas areabytes : List ℕ) where
   -- whatever the placement
   pub grouped-resolving : Grouped x.grouping entries store index → (bytes : List ℕ)
       → resolution_by x.explicit (bears_by x index store areas areabytes) bytes ≡ resolution_of names_around bytes
-  grouped-resolving g bytes = fun_ext (λ (l : Line). grouped-resolution g bytes l)
+  grouped-resolving g bytes = fun_ext (λ (l : WrittenLine). grouped-resolution g bytes l)
 
 -- entries that are kept together
 module _ (axis : Axis) (explicit held : ℕ) (x : Around) (e : x ≡ whole_around axis explicit held) (entries words store : List ℕ) (f : entries ≡ words) where
   -- a placement is resolved beside them
-  pub whole-resolution : (areas areabytes bytes : List ℕ) (l : Line) (r : Resolution)
+  pub whole-resolution : (areas areabytes bytes : List ℕ) (l : WrittenLine) (r : Resolution)
       → r ≡ resolution_by x.explicit (bears_by x entries store areas areabytes) bytes l
       → r ≡ resolution_of (axis_names explicit axis words store (part_of areas 0 held) (part_of areas 64 held) areabytes) bytes l
   whole-resolution areas areabytes bytes l r h =
       (rw e at h) ∙ grouped-resolution (whole_around axis explicit held) entries store entries areas areabytes (whole_grouped entries store) bytes l
       ∙ ap (λ (ws : List ℕ). resolution_of (axis_names explicit axis ws store (part_of areas 0 held) (part_of areas 64 held) areabytes) bytes l) f
-
--- the names of an axis that is known
-pub axis_resolution : (p : Grid) (t : NameTables) (areas : NamedWords) (axis known : Axis) → axis ≡ known → (bytes : List ℕ) (l : Line) (r : Resolution)
-    → r ≡ resolution_of (axis_names (grid_in p known).size.explicit axis (entry_words_in (grid_in p known) (words_in t known)) (store_in t known)
-    (part_of areas.words 0 p.areas) (part_of areas.words 64 p.areas) areas.bytes) bytes l
-    → r ≡ resolution_of (names_in p t areas axis) bytes l
-axis_resolution p t areas axis known e bytes l r h = h ∙ rw e

@@ -1,13 +1,17 @@
 -- Resolved placements as numbers: they are small, eight for each, and how many are written. Assumes nothing.
 use Prim.Native.Nat.{ℕ, suc, ◌+◌, ◌≤◌, ◌<◌}
-use mathlib.Core.Path.{◌≡◌, refl}
+use mathlib.Core.Path.{◌≡◌, refl, sym, ◌∙◌}
 use mathlib.Core.Bool.{Bool, true, false, cond}
 use mathlib.Core.List.{List, ◌++◌}
 use native.Mathlib.Omega.{arith}
 use borrow.Author.Tests.{eq-eqb, ne_eqb, leb-false, ltb-false}
 use lib.Dec.{leb, ltb}
 use lib.IntN.{ℤ}
-use lib.Seq.{sets}
+use lib.ListN.{length, take, drop}
+use lib.Seq.{sets, drop-drop}
+use borrow.Rule.Slice.PartMut.{put_mid}
+use Rattle.std.proofs.Common.{append_assoc}
+use Rattle.std.proofs.lemmas.List.Edits.{sets-eq}
 use Rattle.coordinates.specs.declared.axis.Axis.{Axis}
 use Rattle.coordinates.specs.declared.axis.Axis.TheVariants.{Column, Row}
 use Rattle.std.specs.Prelude.{Result, Ok, Err}
@@ -15,8 +19,8 @@ use Rattle.coordinates.specs.declared.refusal.Fault.{Fault}
 use Rattle.coordinates.specs.declared.refusal.Fault.TheVariants.{Unread, Name, Value, Count, Area, Twice, Late, Crowded, ZeroLine, Short, Indefinite, Overlap, Unequal, Broken, Unplaced}
 use Rattle.coordinates.specs.Refusals.{number_of, count, short}
 use Rattle.coordinates.proofs.Faults.{fault_some}
-use Rattle.name_resolver.specs.declared.NonNamedGridPlacement.{NonNamedGridPlacement}
-use Rattle.name_resolver.specs.declared.NonNamedGridPlacement.TheVariants.{Auto, Line as AtLine, Span}
+use Rattle.name_resolver.specs.Types.{NonNamedGridPlacement}
+use Rattle.coordinates.specs.declared.line.GenericGridPlacement.TheVariants.{Auto, Line as AtLine, Span}
 use Rattle.name_resolver.specs.Placements.{resolved_kind_of}
 use Rattle.panel_tables.specs.declared.Grid.{Grid}
 use Rattle.coordinates.specs.Axes.{axis_number}
@@ -120,3 +124,10 @@ module _ (p : Grid) (t : NameTables) (areas placements : NamedWords) (first : �
       record { answer = answered_count_numbers (Ok n); numbers = after } ≡ placements_written p t areas placements first lent
   unfolding placements_written
   run-written n after z e w = rw (eq-eqb (numbers_refusal p.placements (shorter_store t) first) 0 z, w, e)
+
+-- numbers copied over a part are those set from its first place on
+pub numbers_put : (numbers after written : List ℤ) (place n : ℕ) → after ≡ written → n ≡ length written → place + n ≤ length numbers
+    → put_mid place n numbers after ≡ sets numbers place written
+numbers_put numbers after written place n a e h =
+    let k : place + length written ≤ length numbers = omega arith in
+    rw (a, e, drop-drop (length written) place numbers) (sym (append_assoc (take place numbers) written (drop (place + length written) numbers)) ∙ sym (sets-eq written numbers place k))

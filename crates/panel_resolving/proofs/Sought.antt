@@ -1,6 +1,6 @@
 -- The lines of a name in its group, by the entries that can have it. Assumes nothing.
 use mathlib.Core.Path.{◌≡◌, refl, sym, ◌∙◌, ap, fun_ext}
-use mathlib.Core.Bool.{Bool, true, false, ◌&&◌, ◌||◌}
+use mathlib.Core.Bool.{Bool, true, false, ◌||◌}
 use mathlib.Core.List.{List, ◌++◌}
 use Prim.Native.Nat.{ℕ, suc}
 use Rattle.coordinates.specs.declared.axis.Axis.{Axis}
@@ -10,7 +10,6 @@ use Rattle.name_entries.specs.Entries.{entries_of}
 use Rattle.name_lines.specs.Areas.{areas_of, edged_by, bears_joined, sought_in}
 use Rattle.name_lines.specs.Suffixes.{tail_of}
 use Rattle.name_lines.proofs.Marking.{or_false}
-use Rattle.name_lines.proofs.Suffixes.{never}
 use Rattle.name_groups.specs.Listed.{listed, listed_from}
 use Rattle.name_groups.specs.Keys.{joined_key}
 use Rattle.name_groups.specs.Groups.{group_at, group_part, Lists}
@@ -22,11 +21,6 @@ use Rattle.panel_resolving.proofs.Listing.{ascends, all_named, none_named}
 use Rattle.panel_resolving.proofs.DrawnAreas.{none_edged_by}
 use Rattle.std.specs.Prelude.{Option}
 use Rattle.name_lines.specs.declared.GridAreaEnd.{GridAreaEnd}
-
--- what is asked of listed entries only
-pub has_when : (flag x has : Bool) → has ≡ (flag && x) → flag ≡ true → has ≡ x
-has_when true x has e p = e
-has_when false x has e p = never p
 
 module _ (axis : Axis) (store edges areas areastore : List ℕ) (stem : Bytes) (edge : Option GridAreaEnd) (part own : List ℕ) (flag has : Bool)
     (l : flag ≡ true → listed store part ≡ true) (f : flag ≡ true → has ≡ first_named store part (stem ++ tail_of edge)) (o : own ≡ named_part part flag has) where

@@ -2,7 +2,7 @@
 use Rattle.std.specs.Prelude.{◌≡◌, ℕ, zero, suc, ◌+◌, ◌/◌, Bool, true, false, cond, List, eqb, leb, ℤ}
 use Rattle.std.proofs.lemmas.List.Edits.{sets}
 use Rattle.coordinates.specs.declared.axis.Axis.{Axis}
-use Rattle.name_resolver.specs.declared.Line.{Line}
+use Rattle.name_resolver.specs.Types.{WrittenLine}
 use Rattle.name_resolver.specs.Placements.{Resolution}
 use Rattle.coordinates.specs.Axes.{axis_number}
 use Rattle.panel_tables.specs.Placements.{placement_at}
@@ -11,7 +11,7 @@ use Rattle.library_numbers.specs.Answers.{placement_numbers}
 use Rattle.name_groups.specs.Groups.{index_fits}
 use Rattle.name_groups.specs.declared.key.Grouping.{Grouping}
 use Rattle.name_groups.specs.declared.key.Grouping.TheVariants.{Whole, Few, Many}
-use Rattle.panel_resolving.specs.declared.write.Run.{Run}
+use Rattle.panel_resolving.specs.declared.axis_run.Run.{Run}
 use Rattle.panel_resolving.specs.Placements.{numbers_of}
 use Rattle.panel_resolving.specs.Whole.{whole_around}
 
@@ -26,7 +26,7 @@ abbrev pub on_axis : Axis → List ℕ → ℕ → Bool
 on_axis a placements i = eqb (axis_number (placement_at placements i).axis) (axis_number a)
 
 -- its numbers, by what resolves a placement
-abbrev pub numbers_by : (Line → Resolution) → List ℕ → ℕ → List ℤ
+abbrev pub numbers_by : (WrittenLine → Resolution) → List ℕ → ℕ → List ℤ
 numbers_by resolve placements i =
     numbers_of (placement_numbers (placed_by (resolve (line_placement (placement_at placements i))) (placement_at placements i).axis false))
 
@@ -37,6 +37,7 @@ run_grouped r g =
       around = record { axis = r.around.axis; explicit = r.around.explicit; areas = r.around.areas; grouping = g };
       first = r.first;
       count = r.count;
+      in_range = r.in_range;
     }
 
 -- how entries are kept for so many placements: which of these it is changes no answer, only how long one takes
@@ -52,10 +53,12 @@ pub record GroupsFit (g : Grouping) (entries keys words : ℕ) : Type 0 where
   pub fit : index_fits g entries keys words ≡ true
 
 -- the placements of an axis in a run, its entries kept together
-abbrev pub run_of : Axis → ℕ → ℕ → ℕ → ℕ → Run
-run_of axis explicit areas first count = record { around = whole_around axis explicit areas; first = first; count = count }
+pub record IsRunOf (axis : Axis) (explicit areas from n : ℕ) (run : Run) : Type 0 where
+  pub around : run.around ≡ whole_around axis explicit areas
+  pub first : run.first ≡ from
+  pub count : run.count ≡ n
 
 -- a run of one placement of the axis answers it
-abbrev pub OnlyOne : Run → List ℕ → (Line → Resolution) → Resolution → Type 0
+abbrev pub OnlyOne : Run → List ℕ → (WrittenLine → Resolution) → Resolution → Type 0
 OnlyOne run placements resolve r =
     run.count ≡ 1 → on_axis run.around.axis placements run.first ≡ true → r ≡ resolve (line_placement (placement_at placements run.first))

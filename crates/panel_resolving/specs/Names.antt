@@ -7,7 +7,7 @@ use Rattle.name_groups.specs.Keys.{joined_key, key_of}
 use Rattle.name_groups.specs.Groups.{group_at, group_part}
 use Rattle.name_search.specs.Sought.{marks_of}
 use Rattle.name_search.specs.declared.Sought.{Sought}
-use Rattle.name_resolver.specs.declared.Line.{Line}
+use Rattle.name_resolver.specs.Types.{WrittenLine}
 use Rattle.name_resolver.specs.Placements.{Resolution}
 use Rattle.name_resolver.specs.Placements.{refused_resolution}
 use Rattle.name_resolver.specs.Questions.{answered_line}
@@ -34,7 +34,7 @@ sought_by x s index store areas areabytes stem =
     marks_of s (group_part index (group_at x.grouping index (joined_key x.grouping stem s.edge))) store (part_of areas 0 x.areas) (part_of areas 64 x.areas) areabytes stem
 
 -- a placement beside these names; an explicit count above 10,000 is refused by 4
-unfoldable pub resolution_by : ℕ → (Bytes → ℕ → Bool) → List ℕ → Line → Resolution
+unfoldable pub resolution_by : ℕ → (Bytes → ℕ → Bool) → List ℕ → WrittenLine → Resolution
 resolution_by explicit names bytes l =
     cond (leb explicit 10000)
     (answered_line names bytes explicit l)

@@ -28,8 +28,5 @@ fn has_area(areas: DrawnAreas, name: &[u8]) -> bool
 pub(crate) fn is_drawn(areas: DrawnAreas, stem: &[u8], edge: Option<GridAreaEnd>) -> bool
     ensures { result ≡ edges_drawn areas.entry.edges.now areas.entry.names.now areas.entry.store.now stem.now edge }
 {
-    match edge {
-        Some(_) => has_area(areas, stem),
-        None => false,
-    }
+    edge.is_some() && has_area(areas, stem)
 }

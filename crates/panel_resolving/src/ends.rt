@@ -2,26 +2,22 @@
 ghost use Rattle.std.specs.Prelude.{◌≡◌};
 ghost use Rattle.panel_rules.specs.Placing.{held_index, held_span, name_at, end_by, end_placement, line_placement};
 
-use coordinates::GridLine;
-use coordinates::signed::{Signed, joined, split};
-use name_resolver::{GridPlacement, Line, Name};
+use coordinates::{GridLine, Line};
+use name_resolver::{GridPlacement, Name, WrittenLine};
 use panel_tables::{EndPlace, PlacementPlace};
 
 // A line index, or the nearest.
 fn held_index(number: i32) -> i16
     ensures { result ≡ held_index number }
 {
-    joined(split(number))
+    number.clamp(i16::MIN.into(), i16::MAX.into()) as i16
 }
 
 // A span, or the nearest.
 fn held_span(number: i32) -> u16
     ensures { result ≡ held_span number }
 {
-    match split(number) {
-        Signed::NonNegative(n) => n.min(65535) as u16,
-        Signed::Negative(_) => 0,
-    }
+    number.clamp(0, u16::MAX.into()) as u16
 }
 
 // Where the name of an end lies.
@@ -57,7 +53,7 @@ fn end_placement(end: EndPlace) -> GridPlacement
 }
 
 // Both ends.
-pub fn line_placement(place: PlacementPlace) -> Line
+pub fn line_placement(place: PlacementPlace) -> WrittenLine
     ensures { result ≡ line_placement place }
 {
     Line {

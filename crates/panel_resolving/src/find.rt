@@ -1,7 +1,6 @@
 // The one look into the tables: the line that a question asks for.
 ghost use Rattle.name_lines.specs.Marks.{seek_of};
 ghost use Rattle.name_lines.specs.Suffixes.{stem_of};
-ghost use Rattle.name_groups.specs.Groups.{Lists};
 ghost use Rattle.name_resolver.specs.Placements.{name_of};
 ghost use Rattle.name_resolver.specs.Questions.{found_by};
 ghost use Rattle.panel_tables.specs.Regions.{placement_bytes_in};
@@ -11,8 +10,8 @@ ghost use Rattle.std.specs.Prelude.{cond, ◌≡◌};
 
 use crate::Beside;
 use crate::search::find_line;
+use axis_tables::layout::part_from;
 use coordinates::Axis;
-use name_entries::{NameEntry, entry};
 use name_lines::suffix::{edge_of, stem_of};
 use name_lines::{GridAreaEnd, Way};
 use name_resolver::{Name, Question};
@@ -23,24 +22,14 @@ use panel_tables::region::placement_bytes;
 fn name_of(names: &[u8], name: Name) -> &[u8]
     ensures { result.now ≡ name_of names.now name }
 {
-    entry::name_in(
-        names,
-        NameEntry {
-            line: 0,
-            offset: name.offset,
-            length: name.length,
-        },
-    )
+    part_from(names, name.offset as usize, name.length)
 }
 
 // Whether the lines of the name itself are asked for first, and not an edge of its area.
 fn asks_own(edge: Option<GridAreaEnd>) -> bool
     ensures { result ≡ asks_own edge }
 {
-    match edge {
-        Some(_) => false,
-        None => true,
-    }
+    edge.is_none()
 }
 
 // What is sought for a question: the lines of the name itself, or the first edge of its area.
@@ -73,9 +62,8 @@ fn stem_sought(name: &[u8], own: bool, edge: Option<GridAreaEnd>) -> &[u8]
 }
 
 // The line that a question asks for: an edge of the name's area first, where it asks for one, then the lines of the name. One call for
-// both is faster than two: it stands in its place as code.
+// both is faster than two: it is compiled in its place.
 pub(crate) fn find_named_line(beside: Beside, question: Question) -> Result<u32, u32>
-    requires { Lists beside.around.grouping beside.index.now beside.store.now }
     ensures { seek_of result ≡ found_by (names_beside beside.entry) (name_of (placement_bytes_in beside.entry.bytes.now) question.name) question }
 {
     let name = name_of(placement_bytes(beside.bytes), question.name);

@@ -2,6 +2,7 @@
 
 #![tactic(auto)]
 
+mod axis_run;
 mod drawn;
 pub mod ends;
 mod find;
@@ -12,6 +13,8 @@ mod resolve;
 pub mod run;
 mod search;
 mod write;
+
+ghost use Rattle.name_groups.specs.Groups.{Lists};
 
 use coordinates::Axis;
 use name_groups::key::Grouping;
@@ -27,6 +30,7 @@ pub(crate) struct Around {
 }
 
 // What a placement of a run is resolved beside: the index of the name entries with the store of their names, and the words and bytes of the panel.
+// What the index says to be listed is.
 #[derive(Clone, Copy)]
 pub(crate) struct Beside<'a> {
     pub around: Around,
@@ -34,4 +38,5 @@ pub(crate) struct Beside<'a> {
     pub store: &'a [u8],
     pub words: &'a [u64; PANEL_WORDS],
     pub bytes: &'a [u8; PANEL_BYTES],
+    ghost lists: { Lists around.grouping index.now store.now },
 }

@@ -1,8 +1,9 @@
 // One placement of a panel with its names resolved.
-ghost use Rattle.std.specs.Prelude.{◌≡◌, ◌<◌, true};
+ghost use Rattle.std.specs.Prelude.{◌≡◌, ◌<◌, true, false};
 ghost use Rattle.name_resolver.specs.Placements.{answered_resolution, resolution_of};
 ghost use Rattle.panel_rules.specs.Calls.{NameTables, NamedWords, names_in};
 ghost use Rattle.name_groups.specs.declared.key.Grouping.TheVariants.{Whole};
+ghost use Rattle.panel_tables.specs.Axes.{grid_in};
 ghost use Rattle.panel_tables.specs.Placements.{placement_at};
 ghost use Rattle.panel_tables.specs.Regions.{area_bytes_in, area_words_in, placement_bytes_in, placement_words_in};
 ghost use Rattle.panel_rules.specs.Placing.{answered_placement, line_placement, placed_by, resolve_placement};
@@ -12,31 +13,28 @@ ghost use Rattle.panel_resolving.specs.Names.{bears_by, resolution_by};
 ghost use Rattle.panel_resolving.specs.Whole.{whole_around};
 
 use crate::Around;
+use crate::axis_run::Run;
 use crate::put::PLACEMENT_NUMBERS;
-use crate::write::{Run, write_beside};
-use axis_tables::layout::AXIS_BYTES;
+use crate::write::write_beside;
 use coordinates::{Axis, Fault};
 use name_entries::Names;
 use name_groups::key::Grouping;
 use name_resolver::ResolvedPlacement;
-use panel_names::store::entries_of;
+use panel_names::LentNames;
 use panel_rules::PlacedLine;
+use panel_tables::axis::grid_in;
 use panel_tables::placement::placement_at;
-use panel_tables::region::{PANEL_BYTES, PANEL_WORDS, axis_words, placement_words};
+use panel_tables::region::{PANEL_BYTES, PANEL_WORDS, placement_words};
 use panel_tables::{Grid, LentPanel};
 
-// The answer for a placement of an axis: the resolver's refusal, then 10 where a store is short.
-pub(crate) fn placed_by(
+// The answer for a placement of an axis, or the resolver's refusal.
+pub(crate) fn placed_on(
     resolved: Result<ResolvedPlacement, Fault>,
     axis: Axis,
-    short: bool,
 ) -> Result<PlacedLine, Fault>
-    ensures { answered_placement result ≡ placed_by (answered_resolution resolved) axis short }
+    ensures { answered_placement result ≡ placed_by (answered_resolution resolved) axis false }
 {
     let ResolvedPlacement { line, held } = resolved?;
-    if short {
-        return Err(Fault::Short);
-    }
     Ok(PlacedLine { axis, line, held })
 }
 
@@ -78,29 +76,10 @@ fn resolve_in(grid: Grid, lent: LentPanel, index: u32) -> Result<ResolvedPlaceme
     requires { index < 4294967295 }
     ensures { answered_resolution result ≡ resolution_of (names_in grid (lent_names lent.entry) (lent_areas lent.entry) (placement_at (placement_words_in lent.entry.words.now) index).axis) (placement_bytes_in lent.entry.bytes.now) (line_placement (placement_at (placement_words_in lent.entry.words.now) index)) }
 {
-    let held = grid.areas;
-    let place = placement_at(placement_words(lent.words), index);
-    let axis = place.axis;
-    match axis {
-        Axis::Column => {
-            let own = grid.columns;
-            let around = whole_around(axis, own.size.explicit, held);
-            let names = Names {
-                entries: entries_of(own, axis_words(lent.words, Axis::Column)),
-                store: lent.columnstore,
-            };
-            resolve_one(around, names, lent.words, lent.bytes, index)
-        }
-        Axis::Row => {
-            let own = grid.rows;
-            let around = whole_around(axis, own.size.explicit, held);
-            let names = Names {
-                entries: entries_of(own, axis_words(lent.words, Axis::Row)),
-                store: lent.rowstore,
-            };
-            resolve_one(around, names, lent.words, lent.bytes, index)
-        }
-    }
+    let axis = placement_at(placement_words(lent.words), index).axis;
+    let around = whole_around(axis, grid_in(grid, axis).size.explicit, grid.areas);
+    let names = LentNames::from(lent).names(grid, axis);
+    resolve_one(around, names, lent.words, lent.bytes, index)
 }
 
 // Placement `index` of a panel with its names resolved. 4: no such placement; 10: a store below 32,768 bytes.
@@ -111,7 +90,7 @@ pub fn resolve_placement(grid: Grid, lent: LentPanel, index: u32) -> Result<Plac
         return Err(Fault::Count);
     }
     let place = placement_at(placement_words(lent.words), index);
-    let resolved = resolve_in(grid, lent, index);
-    let shorter = lent.columnstore.len().min(lent.rowstore.len());
-    placed_by(resolved, place.axis, shorter < AXIS_BYTES)
+    let placed = placed_on(resolve_in(grid, lent, index), place.axis)?;
+    LentNames::from(lent).check_stores()?;
+    Ok(placed)
 }

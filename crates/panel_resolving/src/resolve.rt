@@ -1,6 +1,5 @@
 // A placement beside the names of an axis: each end asks for a line, or is resolved as written.
 ghost use Rattle.std.specs.Prelude.{◌≤◌, cond, ◌≡◌};
-ghost use Rattle.name_groups.specs.Groups.{Lists};
 ghost use Rattle.name_resolver.specs.Placements.{answered_resolution};
 ghost use Rattle.name_resolver.specs.Questions.{answered};
 ghost use Rattle.name_resolver.specs.Steps.{first_end, question_of, second_end};
@@ -9,19 +8,20 @@ ghost use Rattle.panel_resolving.specs.Names.{names_beside, resolution_by};
 
 use crate::Beside;
 use crate::find::find_named_line;
-use coordinates::Fault;
+use coordinates::{Fault, Marked};
 use name_resolver::ask::question_of;
 use name_resolver::ends::{first_end, resolved_ends, second_end};
 use name_resolver::found::found_end;
-use name_resolver::{Asked, End, Line, NonNamedGridPlacement, ResolvedEnd, ResolvedPlacement};
+use name_resolver::{
+    Asked, End, NonNamedGridPlacement, ResolvedEnd, ResolvedPlacement, WrittenLine,
+};
 
 // The most explicit tracks.
-const MOST_TRACKS: u32 = 10000;
+const MOST_TRACKS: u32 = coordinates::line::MOST_TRACKS as u32;
 
 // One end.
 fn resolve_end(beside: Beside, end: End) -> ResolvedEnd
-    requires explicit_bound { beside.around.explicit ≤ 10000 }
-    requires lists { Lists beside.around.grouping beside.index.now beside.store.now }
+    requires { beside.around.explicit ≤ 10000 }
     ensures { result ≡ answered (names_beside beside.entry) (placement_bytes_in beside.entry.bytes.now) beside.entry.around.explicit (question_of beside.entry.around.explicit end) }
 {
     let explicit = beside.around.explicit as u16;
@@ -35,7 +35,7 @@ fn resolve_end(beside: Beside, end: End) -> ResolvedEnd
 }
 
 // The end that is resolved next: the first, then the other beside its line.
-fn next_end(line: Line, last: bool, first: ResolvedEnd) -> End
+fn next_end(line: WrittenLine, last: bool, first: ResolvedEnd) -> End
     ensures { result ≡ cond last (second_end line first) (first_end line) }
 {
     if last {
@@ -46,19 +46,18 @@ fn next_end(line: Line, last: bool, first: ResolvedEnd) -> End
 }
 
 // Both ends, by one look into the tables for each that asks. Refused by 4 where the explicit count is above 10,000. One call for both
-// ends is faster than two: it stands in its place as code.
+// ends is faster than two: it is compiled in its place.
 #[tactic(auto, unfolding(crate::specs::Names::resolution_by, name_resolver::specs::Questions::answered_line))]
-pub(crate) fn resolve_line_names(beside: Beside, line: Line) -> Result<ResolvedPlacement, Fault>
-    requires { Lists beside.around.grouping beside.index.now beside.store.now }
+pub(crate) fn resolve_line_names(
+    beside: Beside,
+    line: WrittenLine,
+) -> Result<ResolvedPlacement, Fault>
     ensures { answered_resolution result ≡ resolution_by beside.entry.around.explicit (names_beside beside.entry) (placement_bytes_in beside.entry.bytes.now) line }
 {
     if MOST_TRACKS < beside.around.explicit {
         return Err(Fault::Count);
     }
-    let mut first = ResolvedEnd {
-        placement: NonNamedGridPlacement::Auto,
-        held: false,
-    };
+    let mut first = Marked::unmarked(NonNamedGridPlacement::Auto);
     let mut last = false;
     loop {
         let resolved = resolve_end(beside, next_end(line, last, first));

@@ -4,37 +4,34 @@ ghost use Rattle.std.proofs.lemmas.List.Edits.{sets};
 ghost use Rattle.panel_rules.specs.Calls.{NameTables, NamedWords, shorter_store};
 ghost use Rattle.coordinates.specs.Refusals.{refused_by};
 ghost use Rattle.library_numbers.specs.Answers.{answered_count_numbers};
-ghost use Rattle.panel_resolving.specs.Chosen.{run_of};
+ghost use Rattle.panel_resolving.specs.Chosen.{IsRunOf};
+ghost use Rattle.panel_names.specs.Lent.{lent_tables};
 ghost use Rattle.panel_resolving.specs.Lent.{lent_areas, lent_names, lent_placements};
 ghost use Rattle.panel_resolving.specs.Placements.{WrittenNumbers, numbers_count, numbers_refusal, placements_written, run_numbers};
 
+use crate::axis_run::Run;
 use crate::placing::whole_around;
-use crate::write::{Run, write_axis};
-use axis_tables::layout::AXIS_BYTES;
+use crate::put::PLACEMENT_NUMBERS;
+use crate::write::write_axis;
 use coordinates::{Axis, Fault};
-use name_entries::Names;
-use panel_names::store::entries_of;
-use panel_tables::region::axis_words;
+use panel_names::LentNames;
 use panel_tables::{Grid, LentPanel};
 
 // The most placements of a run, which is as many as a panel holds.
 const MOST_PLACEMENTS: u32 = 256;
 
 // The numbers of a run: eight for each placement.
-pub const PLACEMENT_RUN: usize = 2048;
+pub const PLACEMENT_RUN: usize = MOST_PLACEMENTS as usize * PLACEMENT_NUMBERS;
 
-// Whether a run can be given: `held` placements, the bytes of the shorter store.
+// Whether a run can be given, of so many placements that are held.
 #[tactic(auto, unfolding(crate::specs::Placements::numbers_refusal))]
-fn check_numbers(held: u32, shorter: usize, first: u32) -> Result<(), Fault>
-    ensures { refused_by result ≡ numbers_refusal held shorter first }
+fn check_numbers(held: u32, names: LentNames, first: u32) -> Result<(), Fault>
+    ensures { refused_by result ≡ numbers_refusal held (shorter_store (lent_tables names.entry)) first }
 {
     if held <= first {
         return Err(Fault::Count);
     }
-    if shorter < AXIS_BYTES {
-        return Err(Fault::Short);
-    }
-    Ok(())
+    names.check_stores()
 }
 
 // How many placements are written from one that there is.
@@ -48,7 +45,8 @@ fn numbers_count(held: u32, first: u32) -> u32
 
 // The placements of an axis in a run, its name entries kept together.
 fn run_of(axis: Axis, explicit: u32, areas: u32, first: u32, count: u32) -> Run
-    ensures { result ≡ run_of axis explicit areas first count }
+    requires { first + count ≤ 4294967295 }
+    ensures { IsRunOf axis explicit areas first count result }
 {
     Run {
         around: whole_around(axis, explicit, areas),
@@ -64,18 +62,11 @@ fn write_numbers(grid: Grid, lent: LentPanel, first: u32, count: u32, numbers: &
     ensures { numbers.new ≡ sets numbers.old 0 (run_numbers grid (lent_names lent.entry) (lent_areas lent.entry) (lent_placements lent.entry) first count) }
 {
     let held = grid.areas;
-    let columns = grid.columns;
-    let rows = grid.rows;
-    let ofcolumns = run_of(Axis::Column, columns.size.explicit, held, first, count);
-    let ofrows = run_of(Axis::Row, rows.size.explicit, held, first, count);
-    let columnnames = Names {
-        entries: entries_of(columns, axis_words(lent.words, Axis::Column)),
-        store: lent.columnstore,
-    };
-    let rownames = Names {
-        entries: entries_of(rows, axis_words(lent.words, Axis::Row)),
-        store: lent.rowstore,
-    };
+    let ofcolumns = run_of(Axis::Column, grid.columns.size.explicit, held, first, count);
+    let ofrows = run_of(Axis::Row, grid.rows.size.explicit, held, first, count);
+    let names = LentNames::from(lent);
+    let columnnames = names.names(grid, Axis::Column);
+    let rownames = names.names(grid, Axis::Row);
     write_axis(ofcolumns, columnnames, lent.words, lent.bytes, numbers);
     write_axis(ofrows, rownames, lent.words, lent.bytes, numbers);
 }
@@ -89,8 +80,8 @@ pub fn write_placements(
 ) -> Result<u64, Fault>
     ensures { record { answer = answered_count_numbers result; numbers = numbers.new } ≡ placements_written grid (lent_names lent.entry) (lent_areas lent.entry) (lent_placements lent.entry) first numbers.old }
 {
-    let shorter = lent.columnstore.len().min(lent.rowstore.len());
-    check_numbers(grid.placements, shorter, first)?;
+    let names = LentNames::from(lent);
+    check_numbers(grid.placements, names, first)?;
     let count = numbers_count(grid.placements, first);
     write_numbers(grid, lent, first, count, numbers);
     Ok(u64::from(count))

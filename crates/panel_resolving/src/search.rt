@@ -1,8 +1,7 @@
 // The lines of a name, sought among the entries of its group and the drawn areas.
-ghost use Rattle.std.specs.Prelude.{◌&&◌, ◌++◌, ◌≡◌};
+ghost use Rattle.std.specs.Prelude.{◌++◌, ◌≡◌};
 ghost use Rattle.name_lines.specs.Marks.{seek_of};
 ghost use Rattle.name_lines.specs.Suffixes.{tail_of};
-ghost use Rattle.name_groups.specs.Groups.{Lists};
 ghost use Rattle.name_search.specs.Sought.{line_sought};
 ghost use Rattle.panel_resolving.specs.Listing.{first_named, named_part};
 ghost use Rattle.panel_resolving.specs.Names.{sought_beside};
@@ -14,29 +13,22 @@ use axis_tables::layout::part_from;
 use name_entries::Names;
 use name_groups::group::{group_of, group_part};
 use name_lines::GridAreaEnd;
-use name_search::{DrawnAreas, Sought, nth_line};
+use name_search::{DrawnAreas, Search, Sought};
 use panel_tables::area::AREA_NAMES;
 use panel_tables::region::{area_bytes, area_words};
 
-// Whether the entries are listed and have the name. Entries that are not listed are not looked at.
-fn list_name(
-    part: &[u64],
+// The entries of a group that can have the name: none where they list another name. Entries that are not listed are not looked at.
+#[tactic(auto, unfolding(crate::specs::Listing::named_part))]
+fn named_part<'a>(
+    part: &'a [u64],
     listed: bool,
     store: &[u8],
     stem: &[u8],
     edge: Option<GridAreaEnd>,
-) -> bool
-    ensures { result ≡ (listed && first_named store.now part.now (stem.now ++ tail_of edge)) }
+) -> &'a [u64]
+    ensures { result.now ≡ named_part part.now listed (first_named store.now part.now (stem.now ++ tail_of edge)) }
 {
-    listed && first_has_name(part, store, stem, edge)
-}
-
-// The entries of a group that can have the name: none where they list another name.
-#[tactic(auto, unfolding(crate::specs::Listing::named_part))]
-fn named_part(part: &[u64], listed: bool, named: bool) -> &[u64]
-    ensures { result.now ≡ named_part part.now listed named }
-{
-    if listed && !named {
+    if listed && !first_has_name(part, store, stem, edge) {
         return &part[..0];
     }
     part
@@ -44,7 +36,6 @@ fn named_part(part: &[u64], listed: bool, named: bool) -> &[u64]
 
 // The line that is sought, as far as the lists of lines go or by the search over all lines.
 pub(crate) fn find_line(beside: Beside, sought: Sought, stem: &[u8]) -> Result<u32, u32>
-    requires { Lists beside.around.grouping beside.index.now beside.store.now }
     ensures { seek_of result ≡ line_sought sought (sought_beside beside.entry sought stem.now) }
 {
     let edge = sought.edge;
@@ -59,8 +50,7 @@ pub(crate) fn find_line(beside: Beside, sought: Sought, stem: &[u8]) -> Result<u
         store: area_bytes(beside.bytes),
     };
     let listed = group.listed;
-    let named = list_name(part, listed, beside.store, stem, edge);
-    let own = named_part(part, listed, named);
+    let own = named_part(part, listed, beside.store, stem, edge);
     if listed && !is_drawn(drawn, stem, edge) {
         return nth_listed(own, sought.way, sought.from, sought.over);
     }
@@ -68,5 +58,11 @@ pub(crate) fn find_line(beside: Beside, sought: Sought, stem: &[u8]) -> Result<u
         entries: own,
         store: beside.store,
     };
-    nth_line(sought, names, drawn, stem)
+    let search = Search {
+        sought,
+        names,
+        areas: drawn,
+        stem,
+    };
+    search.nth_line()
 }

@@ -1,5 +1,5 @@
 // The placements of one axis in a run, resolved and written as numbers.
-ghost use Rattle.std.specs.Prelude.{◌≡◌, ◌*◌, ◌+◌, ◌≤◌, length};
+ghost use Rattle.std.specs.Prelude.{◌≡◌, ◌*◌, ◌≤◌, length};
 ghost use Rattle.name_lines.specs.Areas.{axis_names};
 ghost use Rattle.name_groups.specs.Groups.{Lists};
 ghost use Rattle.name_resolver.specs.Placements.{answered_resolution, resolution_of};
@@ -8,31 +8,24 @@ ghost use Rattle.axis_tables.specs.Runs.{part_of};
 ghost use Rattle.panel_resolving.specs.Chosen.{GroupsFit, OnlyOne, chosen_sets, grouping_for, numbers_by, on_axis, run_grouped};
 ghost use Rattle.panel_resolving.specs.Names.{bears_by, resolution_by};
 
+use crate::axis_run::Run;
 use crate::ends::line_placement;
-use crate::placing::placed_by;
-use crate::put::put_placement;
+use crate::placing::placed_on;
+use crate::put::{PLACEMENT_NUMBERS, put_placement};
 use crate::resolve::resolve_line_names;
 use crate::{Around, Beside};
 use coordinates::Fault;
-use name_entries::Names;
+use name_entries::{MOST_ENTRIES, Names};
 use name_groups::index::group_entries;
 use name_groups::key::Grouping;
 use name_resolver::ResolvedPlacement;
 use panel_tables::placement::placement_at;
 use panel_tables::region::{PANEL_BYTES, PANEL_WORDS, placement_words};
 
-// The placements of an axis among `count` from `first` on, and what they are resolved beside.
-#[derive(Clone, Copy, Debug, PartialEq, Eq)]
-pub(crate) struct Run {
-    pub around: Around,
-    pub first: u32,
-    pub count: u32,
-}
-
 // Up to so many entries are kept in few groups, up to so many in many.
 const FEW_ENTRIES: usize = 128;
 
-const MANY_ENTRIES: usize = 4096;
+const MANY_ENTRIES: usize = MOST_ENTRIES;
 
 // So many entries that are passed over take as long as the making of groups.
 const PASSED_OVER: usize = 256;
@@ -52,7 +45,7 @@ pub(crate) fn write_beside(
     bytes: &[u8; PANEL_BYTES],
     numbers: &mut [i32],
 ) -> Result<ResolvedPlacement, Fault>
-    requires count_bound { (run.first + run.count ≤ 4294967295) × (8 * run.count ≤ length numbers.old) }
+    requires count_bound { 8 * run.count ≤ length numbers.old }
     requires lists { Lists run.around.grouping index.now store.now }
     ensures { (numbers.new ≡ chosen_sets (on_axis run.around.axis (placement_words_in words.now)) (numbers_by (resolution_by run.around.explicit (bears_by run.around index.now store.now (area_words_in words.now) (area_bytes_in bytes.now)) (placement_bytes_in bytes.now)) (placement_words_in words.now)) 0 run.first run.count numbers.old) × OnlyOne run (placement_words_in words.now) (resolution_by run.around.explicit (bears_by run.around index.now store.now (area_words_in words.now) (area_bytes_in bytes.now)) (placement_bytes_in bytes.now)) (answered_resolution result) }
 {
@@ -70,13 +63,17 @@ pub(crate) fn write_beside(
         if place.axis == around.axis {
             let line = line_placement(place);
             last = resolve_line_names(beside, line);
-            put_placement(numbers, 8 * i as usize, placed_by(last, place.axis, false));
+            put_placement(
+                numbers,
+                PLACEMENT_NUMBERS * i as usize,
+                placed_on(last, place.axis),
+            );
         }
     }
     last
 }
 
-// The same run beside entries in groups.
+// The same run beside entries that are kept so.
 fn run_grouped(run: Run, grouping: Grouping) -> Run
     ensures { result ≡ run_grouped run grouping }
 {
@@ -85,30 +82,29 @@ fn run_grouped(run: Run, grouping: Grouping) -> Run
             grouping,
             ..run.around
         },
-        ..run
+        first: run.first,
+        count: run.count,
     }
 }
 
 // Writes the placements of the axis beside entries that are grouped first, by an index of so many words.
 fn write_grouped<const KEYS: usize, const WORDS: usize>(
-    grouping: Grouping,
     run: Run,
     names: Names,
     words: &[u64; PANEL_WORDS],
     bytes: &[u8; PANEL_BYTES],
     numbers: &mut [i32],
 )
-    requires count_bound { (run.first + run.count ≤ 4294967295) × (8 * run.count ≤ length numbers.old) }
+    requires count_bound { 8 * run.count ≤ length numbers.old }
     requires keys_bound { KEYS ≤ 4096 }
     requires words_bound { WORDS ≤ 5120 }
-    requires grouped { GroupsFit grouping (length names.entries.now) KEYS WORDS }
+    requires grouped { GroupsFit run.around.grouping (length names.entries.now) KEYS WORDS }
     ensures { numbers.new ≡ chosen_sets (on_axis run.around.axis (placement_words_in words.now)) (numbers_by (resolution_of (axis_names run.around.explicit run.around.axis names.entry.entries.now names.entry.store.now (part_of (area_words_in words.now) 0 run.around.areas) (part_of (area_words_in words.now) 64 run.around.areas) (area_bytes_in bytes.now)) (placement_bytes_in bytes.now)) (placement_words_in words.now)) 0 run.first run.count numbers.old }
 {
     let mut index = [0u64; WORDS];
     let mut keys = [0u16; KEYS];
-    group_entries(grouping, names, &mut keys, &mut index);
-    let grouped = run_grouped(run, grouping);
-    let _last = write_beside(grouped, &index, names.store, words, bytes, numbers);
+    group_entries(run.around.grouping, names, &mut keys, &mut index);
+    let _last = write_beside(run, &index, names.store, words, bytes, numbers);
 }
 
 // How the entries are kept for a run of so many placements: together where they are few, or more than an axis has.
@@ -136,33 +132,19 @@ pub(crate) fn write_axis(
     bytes: &[u8; PANEL_BYTES],
     numbers: &mut [i32],
 )
-    requires { (run.first + run.count ≤ 4294967295) × (8 * run.count ≤ length numbers.old) }
+    requires { 8 * run.count ≤ length numbers.old }
     ensures { numbers.new ≡ chosen_sets (on_axis run.around.axis (placement_words_in words.now)) (numbers_by (resolution_of (axis_names run.around.explicit run.around.axis names.entry.entries.now names.entry.store.now (part_of (area_words_in words.now) 0 run.around.areas) (part_of (area_words_in words.now) 64 run.around.areas) (area_bytes_in bytes.now)) (placement_bytes_in bytes.now)) (placement_words_in words.now)) 0 run.first run.count numbers.old }
 {
-    match grouping_for(names.entries.len(), run.count) {
+    let grouped = run_grouped(run, grouping_for(names.entries.len(), run.count));
+    match grouped.around.grouping {
         Grouping::Whole => {
-            let together = run_grouped(run, Grouping::Whole);
-            let _last = write_beside(together, names.entries, names.store, words, bytes, numbers);
+            let _last = write_beside(grouped, names.entries, names.store, words, bytes, numbers);
         }
         Grouping::Few => {
-            write_grouped::<FEW_ENTRIES, FEW_WORDS>(
-                Grouping::Few,
-                run,
-                names,
-                words,
-                bytes,
-                numbers,
-            )
+            write_grouped::<FEW_ENTRIES, FEW_WORDS>(grouped, names, words, bytes, numbers)
         }
         Grouping::Many => {
-            write_grouped::<MANY_ENTRIES, MANY_WORDS>(
-                Grouping::Many,
-                run,
-                names,
-                words,
-                bytes,
-                numbers,
-            )
+            write_grouped::<MANY_ENTRIES, MANY_WORDS>(grouped, names, words, bytes, numbers)
         }
     }
 }

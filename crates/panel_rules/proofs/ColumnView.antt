@@ -10,7 +10,7 @@ use native.Mathlib.Omega.{arith}
 use borrow.Author.Tests.{eqb-true}
 use Rattle.coordinates.specs.declared.axis.Axis.{Axis}
 use Rattle.coordinates.specs.declared.axis.Axis.TheVariants.{Column, Row}
-use Rattle.name_entries.proofs.Booleans.{both}
+use Rattle.std.proofs.lemmas.Bool.{and_parts}
 use Rattle.text.specs.Split.{same}
 use Rattle.text.proofs.Which.{same_equal}
 use Rattle.sheet_forms.specs.Said.{Record}
@@ -192,10 +192,10 @@ unfolding row_template_line record_step same
 row_line_lem v fs t = go (record_of fs) (record_says fs)
   where
     word : template_word (at fs 0) ≡ true
-    word = (both (template_word (at fs 0)) (same (at fs 1) (get_or axis_words 1 [])) t).0
+    word = (and_parts (template_word (at fs 0)) (same (at fs 1) (get_or axis_words 1 [])) t).0
 
     axis_word_lem : at fs 1 ≡ get_or axis_words 1 []
-    axis_word_lem = same_equal (at fs 1) (get_or axis_words 1 []) (both (template_word (at fs 0)) (same (at fs 1) (get_or axis_words 1 [])) t).1
+    axis_word_lem = same_equal (at fs 1) (get_or axis_words 1 []) (and_parts (template_word (at fs 0)) (same (at fs 1) (get_or axis_words 1 [])) t).1
 
     on-rows : (a : Axis) (o : AxisOutcome) → OnAxis fs a → only_columns (step_in v a o).panel ≡ only_columns v
     on-rows a o h = rw (one_axis fs a Row h axis_word_lem)

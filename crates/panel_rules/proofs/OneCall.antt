@@ -11,7 +11,7 @@ use Rattle.coordinates.specs.declared.axis.Axis.{Axis}
 use Rattle.coordinates.specs.declared.axis.Axis.TheVariants.{Column, Row}
 use Rattle.coordinates.specs.Refusals.{refusal_of}
 use Rattle.name_rules.specs.Css.{Bytes, Entry}
-use Rattle.name_entries.proofs.Booleans.{neither}
+use Rattle.std.proofs.lemmas.Bool.{or_parts}
 use Rattle.axis_tables.specs.declared.AxisState.{AxisState}
 use Rattle.panel_tables.specs.declared.Panel.{Panel}
 use Rattle.panel_tables.specs.View.{PanelView}
@@ -42,8 +42,8 @@ module _ (v : PanelView) (t : Tables) (columns rows : List Entry) (long : short_
     (few : EntriesFit v.columns columns) (less : EntriesFit v.rows rows) where
   -- the stores are long enough
   long-store : (a : Axis) → 32768 ≤ length (store_in (names_of t) a)
-  long-store Column = ltb-false (length t.column_store) 32768 (neither (ltb (length t.column_store) 32768) (ltb (length t.row_store) 32768) long).0
-  long-store Row = ltb-false (length t.row_store) 32768 (neither (ltb (length t.column_store) 32768) (ltb (length t.row_store) 32768) long).1
+  long-store Column = ltb-false (length t.column_store) 32768 (or_parts (ltb (length t.column_store) 32768) (ltb (length t.row_store) 32768) long).0
+  long-store Row = ltb-false (length t.row_store) 32768 (or_parts (ltb (length t.column_store) 32768) (ltb (length t.row_store) 32768) long).1
 
   -- both stores are as long as they were
   both_long : 32768 ≤ shorter_store (names_of (held_after v t columns rows).tables)

@@ -22,7 +22,7 @@ use Rattle.name_rules.specs.Conditions.{NoZero}
 use Rattle.name_rules.specs.Rule.{eq_bytes}
 use Rattle.name_rules.specs.Template as Css
 use Rattle.name_rules.proofs.Names.{all_lie}
-use Rattle.name_entries.proofs.Booleans.{both}
+use Rattle.std.proofs.lemmas.Bool.{and_parts}
 use Rattle.name_entries.proofs.Same.{same_sound}
 use Rattle.axis_tables.specs.View.{Item, components_of}
 use Rattle.panel_tables.specs.View.{Placement, PanelView}
@@ -53,14 +53,14 @@ written_once (Css.repeat n ps ∷ l) = (leb 1 n && leb 1 (Css.tracks_in ps)) && 
 line_at_most_lem : (n : ℕ) (es : List Entry) → line_at_most n es ≡ true → (e : Entry) → Memᴰ e es → e.line ≤ n
 line_at_most_lem n [] t e m = absurd (Memᴰ.not-nil m)
 line_at_most_lem n (d ∷ es) t e m =
-    let p = both (leb d.line n) (line_at_most n es) t in
+    let p = and_parts (leb d.line n) (line_at_most n es) t in
     ⊎_elim (λ (s : e ≡ d). rw s (leb-true d.line n p.0)) (λ k. line_at_most_lem n es p.1 e k) (Memᴰ.cases_cons m)
 
 edges_at_most_lem : (n : ℕ) (list : List Area) → edges_at_most n list ≡ true → (a : Area) (s : Side) → Memᴰ a list → edge a s ≤ n
 edges_at_most_lem n [] t a s m = absurd (Memᴰ.not-nil m)
 edges_at_most_lem n (d ∷ list) t a s m =
-    let p = both (leb d.from n && leb d.to n) (edges_at_most n list) t in
-    let q = both (leb d.from n) (leb d.to n) p.0 in
+    let p = and_parts (leb d.from n && leb d.to n) (edges_at_most n list) t in
+    let q = and_parts (leb d.from n) (leb d.to n) p.0 in
     ⊎_elim (λ (e : a ≡ d). rw e (side s q.0 q.1)) (λ k. edges_at_most_lem n list p.1 a s k) (Memᴰ.cases_cons m)
   where
     side : (s : Side) → leb d.from n ≡ true → leb d.to n ≡ true → edge d s ≤ n
@@ -71,8 +71,8 @@ written_once_lem : (l : List Css.Item) → written_once l ≡ true → Css.Writt
 written_once_lem [] t = tt
 written_once_lem (Css.single p ∷ l) t = written_once_lem l t
 written_once_lem (Css.repeat n ps ∷ l) t =
-    let p = both (leb 1 n && leb 1 (Css.tracks_in ps)) (written_once l) t in
-    let q = both (leb 1 n) (leb 1 (Css.tracks_in ps)) p.0 in
+    let p = and_parts (leb 1 n && leb 1 (Css.tracks_in ps)) (written_once l) t in
+    let q = and_parts (leb 1 n) (leb 1 (Css.tracks_in ps)) p.0 in
     (leb-true 1 n q.0, leb-true 1 (Css.tracks_in ps) q.1, written_once_lem l p.1)
 
 module _ (v : PanelView) (a : Axis) (calls : List Call) where
@@ -91,10 +91,10 @@ module _ (v : PanelView) (a : Axis) (calls : List Call) where
 
   pub regular-by-test : regular_test ≡ true → RegularAxis m v a calls
   regular-by-test t =
-      let q = both (written_once (items_of m.repetitions m.template)) _ t in
-      let r = both (leb (sheet_tracks m) 10000) _ q.1 in
-      let s = both (leb x.explicit 10000) _ r.1 in
-      let u = both (line_at_most (suc x.explicit) x.book) _ s.1 in
+      let q = and_parts (written_once (items_of m.repetitions m.template)) _ t in
+      let r = and_parts (leb (sheet_tracks m) 10000) _ q.1 in
+      let s = and_parts (leb x.explicit 10000) _ r.1 in
+      let u = and_parts (line_at_most (suc x.explicit) x.book) _ s.1 in
       record {
         template = record {
           repetitions = found-counted (view_in v a);
@@ -117,7 +117,7 @@ valid_test is = valid_of (meaning_of zero32 (components_of is)) && tracked (comp
 
 pub valid_by_test : (is : List Item) → valid_test is ≡ true → ValidTemplate is
 valid_by_test is t =
-    let p = both (valid_of (meaning_of zero32 (components_of is))) (tracked (components_of is) is) t in
+    let p = and_parts (valid_of (meaning_of zero32 (components_of is))) (tracked (components_of is) is) t in
     record { components = (valid_css zero32 (components_of is)).0 p.0; named = λ e. no_items (components_of is) is p.1 e }
   where
     no_items : (cs : List Component) (is : List Item) → tracked cs is ≡ true → cs ≡ [] → is ≡ []
@@ -164,8 +164,8 @@ non_zero_test (p ∷ ps) = (non_zero (css_end p.start) && non_zero (css_end p.en
 pub non_zero_by_test : (ps : List Placement) → non_zero_test ps ≡ true → (p : Placement) → Memᴰ p ps → NoZero (css_end p.start) × NoZero (css_end p.end)
 non_zero_by_test [] t p m = absurd (Memᴰ.not-nil m)
 non_zero_by_test (q ∷ ps) t p m =
-    let u = both (non_zero (css_end q.start) && non_zero (css_end q.end)) (non_zero_test ps) t in
-    let w = both (non_zero (css_end q.start)) (non_zero (css_end q.end)) u.0 in
+    let u = and_parts (non_zero (css_end q.start) && non_zero (css_end q.end)) (non_zero_test ps) t in
+    let w = and_parts (non_zero (css_end q.start)) (non_zero (css_end q.end)) u.0 in
     ⊎_elim (λ (e : p ≡ q). rw e (non_zero_lem (css_end q.start) w.0, non_zero_lem (css_end q.end) w.1)) (λ k. non_zero_by_test ps u.1 p k) (Memᴰ.cases_cons m)
 
 -- ---- entries among others
@@ -184,7 +184,7 @@ among-member e (d ∷ l) t = go (eqb e.line d.line && eq_bytes e.name d.name) re
   where
     same : (eqb e.line d.line && eq_bytes e.name d.name) ≡ true → e ≡ d
     same h =
-        let p = both (eqb e.line d.line) (eq_bytes e.name d.name) h in
+        let p = and_parts (eqb e.line d.line) (eq_bytes e.name d.name) h in
         let a = eqb-true e.line d.line p.0 in
         let b = same_sound e.name d.name p.1 in
         rw (a, b)
@@ -196,5 +196,5 @@ among-member e (d ∷ l) t = go (eqb e.line d.line && eq_bytes e.name d.name) re
 pub all_among_lem : (l m : List Entry) → all_among l m ≡ true → (e : Entry) → Memᴰ e l → Memᴰ e m
 all_among_lem [] m t e k = absurd (Memᴰ.not-nil k)
 all_among_lem (d ∷ l) m t e k =
-    let p = both (among d m) (all_among l m) t in
+    let p = and_parts (among d m) (all_among l m) t in
     ⊎_elim (λ (s : e ≡ d). rw s (among-member d m p.0)) (λ j. all_among_lem l m p.1 e j) (Memᴰ.cases_cons k)

@@ -33,7 +33,7 @@ use Rattle.sheet_forms.specs.Sizes.{kind_of, size_of as size_read, inner_of}
 use Rattle.sheet_forms.specs.Ends.{end_kind, end_name, end_number, end_of}
 use Rattle.sheet_forms.specs.Records.{axis_line, area_line, name_line, sizes_line, repeat_line, end_line, extra_line, item_line, place_line, fixed_kind, by_kind, record_of as record_read}
 use Rattle.name_entries.specs.Names.{is_name}
-use Rattle.name_entries.proofs.Booleans.{both}
+use Rattle.std.proofs.lemmas.Bool.{and_parts}
 use Rattle.name_entries.specs.LineNames.{shown_after, explicit_line_names}
 use Rattle.track_rules.specs.Tracks.{RecordAnswer}
 use Rattle.track_rules.specs.Tracks.{refused_record}
@@ -372,7 +372,7 @@ named-panel = record { lines = lines; components = components; areas = same_list
 
 same_runs : (w z : Worked) → same_entries w z Column ≡ true → same_entries w z Row ≡ true → SameEntries (found w) (view_of w) w.calls (found z) (view_of z) z.calls
 same_runs w z c r a e =
-    let b = both (all_among (entries_in w a) (entries_in z a)) (all_among (entries_in z a) (entries_in w a)) (tested a) in
+    let b = and_parts (all_among (entries_in w a) (entries_in z a)) (all_among (entries_in z a) (entries_in w a)) (tested a) in
     (all_among_lem (entries_in w a) (entries_in z a) b.0 e, all_among_lem (entries_in z a) (entries_in w a) b.1 e)
   where
     tested : (a : Axis) → same_entries w z a ≡ true

@@ -7,9 +7,7 @@ use Rattle.coordinates.specs.Refusals.{Refusal, no_refusal, refusal_of, number_o
 use Rattle.name_resolver.specs.declared.Name.{Name}
 use Rattle.name_resolver.specs.declared.GridPlacement.{GridPlacement}
 use Rattle.name_resolver.specs.declared.GridPlacement.TheVariants.{Auto, Line as AtLine, NamedLine, Span, NamedSpan}
-use Rattle.name_resolver.specs.declared.Line.{Line}
-use Rattle.name_resolver.specs.declared.ResolvedLine.{ResolvedLine}
-use Rattle.name_resolver.specs.declared.HeldEnds.{HeldEnds}
+use Rattle.name_resolver.specs.Types.{WrittenLine, ResolvedLine, HeldEnds}
 use Rattle.name_resolver.specs.Placements.{Resolution}
 use Rattle.name_resolver.specs.Placements.{grid_line_of, zero_line, no_marks, resolution_of}
 use Rattle.panel_tables.specs.declared.Grid.{Grid}
@@ -43,7 +41,7 @@ end_by (suc (suc (suc (suc (suc k))))) e = Auto
 abbrev pub end_placement : EndPlace → GridPlacement
 end_placement e = end_by e.end.kind e
 
-abbrev pub line_placement : PlacementPlace → Line
+abbrev pub line_placement : PlacementPlace → WrittenLine
 line_placement p = record { start = end_placement p.start; end = end_placement p.end }
 
 -- a resolved placement with its axis and the marks of its ends, or a refusal and zeros

@@ -6,7 +6,7 @@ use Rattle.panel_tables.specs.View.{Area, End, Placement, PanelView}
 use Rattle.picture_rules.specs.Picture.{Picture, width_of}
 use Rattle.panel_tables.specs.Areas.{edges_in}
 use Rattle.panel_tables.specs.Axes.{view_in}
-use Rattle.axis_tables.proofs.Runs.{All}
+use Rattle.axis_tables.specs.Runs.{All}
 use Rattle.sheet_rules.specs.Contents.{drawn_in}
 
 -- "largest area end - 1" of an axis, 0 without areas

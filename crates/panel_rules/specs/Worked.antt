@@ -12,8 +12,8 @@ use Rattle.sizing.specs.declared.Sizing.TheVariants.{Length, Fraction, Auto, Min
 use Rattle.template_rules.specs.Template.{Component}
 use Rattle.template_rules.specs.Css.{Automatic}
 use Rattle.name_rules.specs.Css.{Bytes}
-use Rattle.name_resolver.specs.declared.NonNamedGridPlacement.{NonNamedGridPlacement}
-use Rattle.name_resolver.specs.declared.NonNamedGridPlacement.TheVariants as Placed
+use Rattle.name_resolver.specs.Types.{NonNamedGridPlacement}
+use Rattle.coordinates.specs.declared.line.GenericGridPlacement.TheVariants as Placed
 use Rattle.name_resolver.specs.Placements.{grid_line_of, no_marks}
 use Rattle.track_rules.specs.declared.GridTrack.{GridTrack}
 use Rattle.track_rules.specs.declared.GridTrackKind.TheVariants as Kind

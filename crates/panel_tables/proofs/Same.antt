@@ -13,7 +13,7 @@ use Rattle.axis_tables.specs.Lay.{pad, Region, joined}
 use Rattle.axis_tables.specs.Runs.{bytes_of, words_from, put_bytes}
 use Rattle.axis_tables.specs.View.{empty_axis}
 use Rattle.axis_tables.specs.declared.AxisState.{AxisState}
-use Rattle.axis_tables.specs.declared.AxisReading.{AxisReading}
+use Rattle.axis_tables.specs.Readings.{AxisReading}
 use Rattle.axis_tables.specs.Store.{name_word, zero_state, zero_reading}
 use Rattle.axis_tables.specs.Written.{regions_of, words_with, axis_words, names_store, state_of, reading_of, Held, held_of}
 use Rattle.axis_tables.proofs.Same.{axis_empty}

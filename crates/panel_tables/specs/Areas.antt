@@ -13,7 +13,7 @@ use Rattle.axis_tables.specs.Reads.{name_place}
 use Rattle.panel_tables.specs.declared.Room.{Room}
 use Rattle.panel_tables.specs.declared.Panel.{Panel}
 use Rattle.panel_tables.specs.declared.AreaEdges.{AreaEdges}
-use Rattle.coordinates.specs.declared.line.LinePair.{LinePair}
+use Rattle.coordinates.specs.Types.{LinePair}
 use Rattle.panel_tables.specs.declared.AreaPlace.{AreaPlace}
 use Rattle.panel_tables.specs.View.{Area, edges_outside}
 

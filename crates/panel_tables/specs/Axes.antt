@@ -1,37 +1,35 @@
 -- One axis of a panel: taken out, and put back.
 use Rattle.std.specs.Prelude.{ℕ}
 use Rattle.coordinates.specs.Refusals.{fault_number}
+use Rattle.coordinates.specs.Axes.{of_axis}
 use Rattle.coordinates.specs.declared.axis.Axis.{Axis}
 use Rattle.coordinates.specs.declared.axis.Axis.TheVariants.{Column, Row}
 use Rattle.axis_tables.specs.declared.AxisGrid.{AxisGrid}
 use Rattle.axis_tables.specs.declared.AxisRoom.{AxisRoom}
 use Rattle.axis_tables.specs.declared.AxisState.{AxisState}
-use Rattle.axis_tables.specs.declared.AxisReading.{AxisReading}
+use Rattle.axis_tables.specs.Readings.{AxisReading}
 use Rattle.axis_tables.specs.Store.{AxisPut}
 use Rattle.axis_tables.specs.View.{AxisView, AxisOutcome}
 use Rattle.axis_tables.specs.Written.{Held}
 use Rattle.panel_tables.specs.declared.Grid.{Grid}
 use Rattle.panel_tables.specs.declared.Room.{Room}
 use Rattle.panel_tables.specs.declared.Panel.{Panel}
-use Rattle.panel_tables.specs.declared.Reading.{Reading}
+use Rattle.panel_tables.specs.Readings.{Reading}
 use Rattle.panel_tables.specs.View.{PanelView, PanelOutcome}
 use Rattle.panel_tables.specs.Written.{PanelHeld, PanelStepped}
 
 -- what answers on an axis, what edits it, and both
 abbrev pub grid_in : Grid → Axis → AxisGrid
-grid_in g Column = g.columns
-grid_in g Row = g.rows
+grid_in g a = of_axis a g.columns g.rows
 
 abbrev pub room_in : Room → Axis → AxisRoom
-room_in r Column = r.columns
-room_in r Row = r.rows
+room_in r a = of_axis a r.columns r.rows
 
 abbrev pub state_in : Panel → Axis → AxisState
 state_in p a = record { grid = grid_in p.grid a; room = room_in p.room a }
 
 abbrev pub reading_in : Reading → Axis → AxisReading
-reading_in r Column = r.columns
-reading_in r Row = r.rows
+reading_in r a = of_axis a r.columns r.rows
 
 abbrev pub with_grid : Grid → Axis → AxisGrid → Grid
 with_grid g Column own = record { columns = own; rows = g.rows; areas = g.areas; placements = g.placements }

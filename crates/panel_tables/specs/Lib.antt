@@ -1,5 +1,7 @@
 -- What the contracts on the tables of a panel cite.
 pub mod View
+pub mod Widths
+pub mod Readings
 pub mod Numbers
 pub mod Areas
 pub mod Placements

@@ -8,8 +8,7 @@ use Rattle.axis_tables.specs.Written.{grid_of, room_of, reading_of, axis_words, 
 use Rattle.picture_rules.specs.Picture.{Picture, width_of}
 use Rattle.picture_rules.specs.Steps.{taken_of}
 use Rattle.panel_tables.specs.declared.Panel.{Panel}
-use Rattle.panel_tables.specs.declared.PictureReading.{PictureReading}
-use Rattle.panel_tables.specs.declared.Reading.{Reading}
+use Rattle.panel_tables.specs.Readings.{PictureReading, Reading}
 use Rattle.panel_tables.specs.View.{Area, End, Placement, PanelView, PanelOutcome}
 use Rattle.panel_tables.specs.Areas.{edges_word, InAreas}
 use Rattle.coordinates.specs.Axes.{axis_number}

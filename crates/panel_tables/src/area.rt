@@ -1,10 +1,11 @@
 // The drawn areas: 64 words of edges, then 64 words of names; the bytes of the names one after the other.
-ghost use Rattle.std.specs.Prelude.{◌≡◌, ◌≤◌};
-ghost use Rattle.panel_tables.specs.Areas.{edges_word, edges_of, word_of, area_at, area_name, has_area_in};
+ghost use Rattle.std.specs.Prelude.{◌≡◌};
+ghost use Rattle.panel_tables.specs.Areas.{edges_word, edges_of, area_at, area_name, has_area_in};
 
+use crate::region::word_under;
 use crate::{AreaEdges, AreaPlace};
 use axis_tables::NamePlace;
-use axis_tables::layout::{part_from, word_at};
+use axis_tables::layout::part_from;
 
 pub const AREA_WORDS: usize = 128;
 
@@ -44,25 +45,14 @@ impl From<u64> for AreaEdges {
     }
 }
 
-// The word of area i in the region that starts there; 0 past its end.
-fn word_of(words: &[u64], start: usize, index: u32) -> u64
-    requires { start ≤ 64 }
-    ensures { result ≡ word_of words.now start index }
-{
-    if index < MOST_AREAS {
-        word_at(words, start + index as usize)
-    } else {
-        0
-    }
-}
-
 // Area i of the table. Any words give one.
 #[tactic(auto, unfolding(crate::specs::Areas::area_at))]
 pub fn area_at(words: &[u64], index: u32) -> AreaPlace
     ensures { result ≡ area_at words.now index }
 {
-    let edges = AreaEdges::from(word_of(words, 0, index));
-    let name = NamePlace::from(word_of(words, AREA_NAMES, index));
+    let at = index as usize;
+    let edges = AreaEdges::from(word_under(words, index, MOST_AREAS, at));
+    let name = NamePlace::from(word_under(words, index, MOST_AREAS, AREA_NAMES + at));
     AreaPlace {
         edges,
         offset: name.offset,

@@ -7,11 +7,16 @@ pub mod axis;
 pub mod number;
 pub mod placement;
 pub mod region;
+pub mod stage;
 pub mod state;
+
+ghost use Rattle.std.specs.Prelude.{◌≡◌, eqb};
+ghost use Rattle.panel_tables.specs.Widths.{is_unread};
 
 use axis_tables::{AxisGrid, AxisReading, AxisRoom};
 use coordinates::Axis;
 use region::{PANEL_BYTES, PANEL_WORDS};
+use stage::Stage;
 
 // What answers are read from, beside the tables: both axes, and how many areas and placements the tables hold.
 #[repr(C)]
@@ -50,19 +55,20 @@ pub struct LentPanel<'a> {
     pub rowstore: &'a [u8],
 }
 
-// What reading keeps of a picture: how many rows were read, the number of words of the first, and whether the cells of a name are no rectangle.
-#[derive(Clone, Copy, Debug, PartialEq, Eq, Default)]
+// What reading keeps of a picture: how many rows were read, the number of words of the last where there is one, and whether the cells of a
+// name are no rectangle.
+#[derive(Clone, Copy, Debug, PartialEq, Eq)]
 pub struct PictureReading {
     pub rows: u32,
-    pub width: u32,
+    pub width: Option<u32>,
     pub broken: bool,
+    ghost counted: { eqb rows 0 ≡ is_unread width },
 }
 
-// What only reading needs: the kind order (0 where nothing but `axis` records was read, 1 after an `area`, 2 after a `row`, 3 after any
-// other), the picture, and what each axis needs.
-#[derive(Clone, Copy, Debug, PartialEq, Eq, Default)]
+// What only reading needs: how far the sheet has come in the order of its kinds, the picture, and what each axis needs.
+#[derive(Clone, Copy, Debug, PartialEq, Eq)]
 pub struct Reading {
-    pub stage: u32,
+    pub stage: Stage,
     pub picture: PictureReading,
     pub columns: AxisReading,
     pub rows: AxisReading,

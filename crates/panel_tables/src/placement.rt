@@ -1,15 +1,22 @@
 // The placements: two words each, start and end; the bytes of their names one after the other.
-ghost use Rattle.std.specs.Prelude.{◌≡◌, cond, []};
-ghost use Rattle.panel_tables.specs.Placements.{end_of, start_word, finish_word, placement_at, uses_name};
+ghost use Rattle.std.specs.Prelude.{◌≡◌};
+ghost use Rattle.coordinates.specs.Axes.{axis_number};
+ghost use Rattle.panel_tables.specs.Placements.{end_of, end_word, placement_at};
 
-use crate::number::number_of;
+use crate::number::{count_of, number_of};
+use crate::region::word_under;
 use crate::{EndPlace, PlacementEnd, PlacementPlace};
-use axis_tables::layout::word_at;
 use coordinates::Axis;
 
-pub const PLACEMENT_WORDS: usize = 512;
+// The most placements of a panel.
+pub const MOST_PLACEMENTS: u32 = 256;
+
+pub const PLACEMENT_WORDS: usize = 2 * MOST_PLACEMENTS as usize;
 
 pub const PLACEMENT_BYTES: usize = 16384;
+
+// What the number of a placement's axis counts in its first word.
+const AXIS_PART: u64 = 0x100_0000_0000_0000;
 
 impl From<u64> for EndPlace {
     ghost from_gives = { λ word end. end ≡ end_of word };
@@ -29,38 +36,26 @@ impl From<u64> for EndPlace {
     }
 }
 
-// The name of an end of that kind, empty where the kind uses none.
-pub fn used_name(kind: u32, name: &[u8]) -> &[u8]
-    ensures { result.now ≡ cond (uses_name kind) name.now [] }
-{
-    match kind {
-        2 | 4 => name,
-        _ => &[],
+impl From<EndPlace> for u64 {
+    ghost from_gives = { λ end word. word ≡ end_word 0 end.end end.offset end.length };
+
+    // The word of an end, the second of a placement.
+    #[tactic(auto, unfolding(crate::specs::Placements::end_word))]
+    fn from(end: EndPlace) -> u64 {
+        let kind = u64::from(end.end.kind) % 8;
+        let count = u64::from(count_of(end.end.number)) % 0x2_0000;
+        let offset = u64::from(end.offset) % 0x1_0000;
+        let length = u64::from(end.length) % 0x100;
+        kind + count * 8 + offset * 0x1_0000_0000 + length * 0x1_0000_0000_0000
     }
 }
 
-// The first word of placement i, 0 past the end.
-fn start_word(words: &[u64], index: u32) -> u64
-    ensures { result ≡ start_word words.now index }
+// The first word of a placement: that of its start, with its axis.
+#[tactic(auto, unfolding(crate::specs::Placements::end_word))]
+pub fn start_with_axis(axis: Axis, start: EndPlace) -> u64
+    ensures { result ≡ end_word (axis_number axis) start.end start.offset start.length }
 {
-    let at = index as usize;
-    if index < 256 {
-        word_at(words, at + at)
-    } else {
-        0
-    }
-}
-
-// The second.
-fn finish_word(words: &[u64], index: u32) -> u64
-    ensures { result ≡ finish_word words.now index }
-{
-    let at = index as usize;
-    if index < 256 {
-        word_at(words, at + at + 1)
-    } else {
-        0
-    }
+    u64::from(start) + u64::from(u32::from(axis)) * AXIS_PART
 }
 
 // Placement i of the table. Any words give one.
@@ -68,9 +63,10 @@ fn finish_word(words: &[u64], index: u32) -> u64
 pub fn placement_at(words: &[u64], index: u32) -> PlacementPlace
     ensures { result ≡ placement_at words.now index }
 {
-    let first = start_word(words, index);
-    let axis = Axis::from((first / 0x100_0000_0000_0000) as u32);
+    let at = index as usize;
+    let first = word_under(words, index, MOST_PLACEMENTS, at + at);
+    let axis = Axis::from((first / AXIS_PART) as u32);
     let start = EndPlace::from(first);
-    let end = EndPlace::from(finish_word(words, index));
+    let end = EndPlace::from(word_under(words, index, MOST_PLACEMENTS, at + at + 1));
     PlacementPlace { axis, start, end }
 }

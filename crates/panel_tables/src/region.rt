@@ -1,37 +1,41 @@
 // The lent words and bytes of a panel: regions one after the other, at fixed places.
-ghost use Rattle.std.specs.Prelude.{◌≡◌, ◌≤◌, length};
+ghost use Rattle.std.specs.Prelude.{◌≡◌, ◌≤◌, cond, get_or, ltb};
 ghost use Rattle.panel_tables.specs.Regions.{first_word, first_mark, axis_words_in, area_words_in, placement_words_in, marks_in, area_bytes_in, placement_bytes_in};
 
 use crate::area::{AREA_BYTES, AREA_WORDS};
 use crate::placement::{PLACEMENT_BYTES, PLACEMENT_WORDS};
-use axis_tables::layout::{AXIS_MARKS, AXIS_WORDS};
+use axis_tables::layout::{AXIS_MARKS, AXIS_WORDS, word_at};
 use coordinates::Axis;
 
 pub const PANEL_WORDS: usize = 25600;
 
 pub const PANEL_BYTES: usize = 78432;
 
-pub const ROWS: usize = 12480;
+pub const ROWS: usize = AXIS_WORDS;
 
-pub const AREAS: usize = 24960;
+pub const AREAS: usize = ROWS + AXIS_WORDS;
 
-pub const PLACEMENTS: usize = 25088;
+pub const PLACEMENTS: usize = AREAS + AREA_WORDS;
 
-pub const ROW_MARKS: usize = 30000;
+pub const ROW_MARKS: usize = AXIS_MARKS;
 
-pub const AREA_NAMES_START: usize = 60000;
+pub const AREA_NAMES_START: usize = ROW_MARKS + AXIS_MARKS;
 
-pub const PLACEMENT_NAMES_START: usize = 62048;
+pub const PLACEMENT_NAMES_START: usize = AREA_NAMES_START + AREA_BYTES;
+
+// The word at a place, of row `index` of a table of `most`; 0 past the last row.
+pub(crate) fn word_under(words: &[u64], index: u32, most: u32, at: usize) -> u64
+    ensures { result ≡ cond (ltb index most) (get_or words.now at 0) 0 }
+{
+    if index < most { word_at(words, at) } else { 0 }
+}
 
 // Where the words of an axis start.
 pub fn first_word(axis: Axis) -> usize
     ensures value { result ≡ first_word axis }
     ensures below { result ≤ 12480 }
 {
-    match axis {
-        Axis::Column => 0,
-        Axis::Row => ROWS,
-    }
+    axis.of(0, ROWS)
 }
 
 // Where the item marks of an axis start.
@@ -39,10 +43,7 @@ pub fn first_mark(axis: Axis) -> usize
     ensures value { result ≡ first_mark axis }
     ensures below { result ≤ 30000 }
 {
-    match axis {
-        Axis::Column => 0,
-        Axis::Row => ROW_MARKS,
-    }
+    axis.of(0, ROW_MARKS)
 }
 
 // The words of an axis.

@@ -9,15 +9,17 @@ use native.Mathlib.Nat.{pow-suc}
 use lib.Dec.{ltb}
 use lib.IntN.{ℤ, pos, negsuc}
 use lib.ListN.{length, length-append}
-use borrow.Author.Tests.{ltb-true, ltb-false, lt-ltb, le-leb, lt-leb}
+use borrow.Author.Tests.{ltb-true, ltb-false, le-leb, lt-leb}
 use Rattle.text.specs.Whole.{whole_of, whole}
 use Rattle.text.specs.Hexadecimal.{bits_of}
 use Rattle.std.specs.Prelude.{Some}
 use Rattle.text.specs.Spelling.{Digits, NoLeadingZero, value_from, decimal as decimal_digit, WritesNatural, Writes, HexDigit, HexDigits, hexadecimal as hexadecimal_digit, WritesBits}
 use Rattle.text.proofs.Decimals.{whole-written}
 use Rattle.text.proofs.Hexadecimals.{hex_written}
-use Rattle.panel_text.specs.Numerals.{digit, decimal, whole_number, hexadecimal_digits, hexadecimal}
-use Rattle.panel_text.proofs.Decimals.{decimal-one, decimal-next}
+use Rattle.text.specs.Decimal.{decimal}
+use Rattle.text.specs.Decimal.{digit as decimal_byte}
+use Rattle.panel_text.specs.Numerals.{digit, whole_number, hexadecimal_digits, hexadecimal}
+use Rattle.text.proofs.Digits.{decimal-one, decimal-next}
 
 value-append : (base : ℕ) (d : ℕ → ℕ) (v : ℕ) (f : List ℕ) (b : ℕ) → value_from base d v (f ++ (b ∷ [])) ≡ value_from base d v f * base + d b
 unfolding value_from
@@ -26,11 +28,8 @@ value-append base d v (x ∷ f) b = value-append base d (v * base + d x) f b
 
 -- ---- decimal digits
 
-low_digit : (d : ℕ) → d < 10 → digit d ≡ 48 + d
-low_digit d h = rw (lt-ltb d 10 h)
-
-digits_append : (f : List ℕ) (d : ℕ) → d < 10 → Digits f → Digits (f ++ (digit d ∷ []))
-digits_append [] d h g = rw (low_digit d h) (omega arith, omega arith, tt)
+digits_append : (f : List ℕ) (d : ℕ) → d < 10 → Digits f → Digits (f ++ (decimal_byte d ∷ []))
+digits_append [] d h g = (omega arith, omega arith, tt)
 digits_append (x ∷ f) d h g = (g.0, g.1, digits_append f d h g.2)
 
 -- the first digit is there, and no zero
@@ -52,23 +51,22 @@ record Good (n : ℕ) (f : List ℕ) : Type 0 where
   pub leads : 1 ≤ n → Leads f
   pub value : value_from 10 decimal_digit 0 f ≡ n
 
-good-one : (n : ℕ) → n < 10 → Good n (digit n ∷ [])
+good-one : (n : ℕ) → n < 10 → Good n (decimal_byte n ∷ [])
 unfolding value_from
 good-one n h =
-    rw (low_digit n h)
-    (record {
+    record {
       digits = (omega arith, omega arith, tt);
       leads = λ g e. omega arith;
       value = omega arith;
-    })
+    }
 
-good-next : (n : ℕ) (f : List ℕ) → 10 ≤ n → Good (n / 10) f → Good n (f ++ (digit (n % 10) ∷ []))
+good-next : (n : ℕ) (f : List ℕ) → 10 ≤ n → Good (n / 10) f → Good n (f ++ (decimal_byte (n % 10) ∷ []))
 good-next n f h g =
-    let v : value_from 10 decimal_digit 0 (f ++ (digit (n % 10) ∷ [])) ≡ n / 10 * 10 + (48 + n % 10 - 48) =
-    rw (value-append 10 decimal_digit 0 f (digit (n % 10)), g.value, low_digit (n % 10) (omega arith)) in
+    let v : value_from 10 decimal_digit 0 (f ++ (decimal_byte (n % 10) ∷ [])) ≡ n / 10 * 10 + (48 + n % 10 - 48) =
+    rw (value-append 10 decimal_digit 0 f (decimal_byte (n % 10)), g.value) in
     record {
       digits = digits_append f (n % 10) (omega arith) g.digits;
-      leads = λ k. leads_append f (digit (n % 10) ∷ []) (g.leads (omega arith));
+      leads = λ k. leads_append f (decimal_byte (n % 10) ∷ []) (g.leads (omega arith));
       value = omega (arith, v);
     }
 

@@ -12,8 +12,9 @@ use Rattle.track_rules.specs.declared.GridTrack.{GridTrack}
 use Rattle.track_rules.specs.declared.GridTrackKind.TheVariants.{Track, Gutter}
 use Rattle.track_rules.specs.declared.TrackSource.{TrackSource}
 use Rattle.track_rules.specs.declared.TrackSource.TheVariants as Source
-use Rattle.name_resolver.specs.declared.NonNamedGridPlacement.TheVariants as End
-use Rattle.panel_text.specs.Numerals.{decimal, decimal_up_to, hexadecimal_digits}
+use Rattle.coordinates.specs.declared.line.GenericGridPlacement.TheVariants as End
+use Rattle.text.specs.Decimal.{decimal, decimal_up_to}
+use Rattle.panel_text.specs.Numerals.{hexadecimal_digits}
 use Rattle.panel_text.specs.Lines.{size_line, record_line, place_line, refused_line}
 
 -- the bytes of a text of codes below 128

@@ -10,10 +10,11 @@ use Rattle.track_rules.specs.declared.GridTrack.{GridTrack}
 use Rattle.track_rules.specs.declared.GridTrackKind.{GridTrackKind}
 use Rattle.track_rules.specs.declared.TrackSource.{TrackSource}
 use Rattle.track_rules.specs.Numbers.{kind_number, source_number}
-use Rattle.name_resolver.specs.declared.NonNamedGridPlacement.{NonNamedGridPlacement}
-use Rattle.name_resolver.specs.declared.ResolvedLine.{ResolvedLine}
+use Rattle.name_resolver.specs.Types.{NonNamedGridPlacement}
+use Rattle.name_resolver.specs.Types.{ResolvedLine}
 use Rattle.name_resolver.specs.Placements.{resolved_kind_of, resolved_number_of}
-use Rattle.panel_text.specs.Numerals.{decimal, whole_number, hexadecimal}
+use Rattle.text.specs.Decimal.{decimal}
+use Rattle.panel_text.specs.Numerals.{whole_number, hexadecimal}
 
 -- "lines of text end in a line feed, fields parted by tabs"
 abbrev pub line_of : List (List ℕ) → List ℕ

@@ -1,18 +1,10 @@
 -- How numbers are written (document 01, panel sheet).
 use Rattle.std.specs.Prelude.{ℕ, zero, suc, ◌+◌, ◌/◌, ◌%◌, List, [], ◌∷◌, ◌++◌, cond, ltb, ℤ, pos, negsuc}
+use Rattle.text.specs.Decimal.{decimal}
 
 -- the byte of a digit below 16: `0` to `9`, then `a` to `f`
 abbrev pub digit : ℕ → ℕ
 digit d = cond (ltb d 10) (48 + d) (87 + d)
-
--- the decimal digits of n, where there are no more of them than the first number says
-unfoldable pub decimal_up_to : ℕ → ℕ → List ℕ
-decimal_up_to zero n = []
-decimal_up_to (suc k) n = cond (ltb n 10) (digit n ∷ []) (decimal_up_to k (n / 10) ++ (digit (n % 10) ∷ []))
-
--- "decimal digits", no leading zero; n has at most n + 1 of them
-unfoldable pub decimal : ℕ → List ℕ
-decimal n = decimal_up_to (suc n) n
 
 -- "`-` before a negative one"; `negsuc k` is -(k + 1)
 abbrev pub whole_number : ℤ → List ℕ

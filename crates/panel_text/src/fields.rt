@@ -4,7 +4,8 @@ ghost use Rattle.sizing.specs.Words.{bits_of};
 ghost use Rattle.sizing.specs.Kinds.{number_of_kind};
 ghost use Rattle.sheet_forms.specs.Words.{size_words, end_words};
 ghost use Rattle.name_resolver.specs.Placements.{resolved_kind_of, resolved_number_of};
-ghost use Rattle.panel_text.specs.Numerals.{decimal, whole_number, hexadecimal};
+ghost use Rattle.text.specs.Decimal.{decimal};
+ghost use Rattle.panel_text.specs.Numerals.{whole_number, hexadecimal};
 ghost use Rattle.panel_text.specs.Lines.{axis_word, track_word, collapsed_word, size_word, source_letter};
 ghost use Rattle.panel_text.specs.Written.{AddsField, AddsTwo};
 
@@ -12,12 +13,8 @@ use crate::line::PrintedLine;
 use coordinates::Axis;
 use name_resolver::NonNamedGridPlacement;
 use sizing::{Kind, Sizing};
+use text::TAB;
 use track_rules::{GridTrackKind, TrackSource};
-
-// What parts the fields of a line, and what ends it.
-pub(crate) const TAB: u8 = b'\t';
-
-pub(crate) const LINE_FEED: u8 = b'\n';
 
 // The word of a kind of size.
 fn kind_word(kind: Kind) -> &'static [u8]

@@ -10,10 +10,13 @@ mod line;
 mod numerals;
 
 use coordinates::Axis;
-use fields::{LINE_FEED, TAB};
 use line::PrintedLine;
 use name_resolver::ResolvedLine;
+use text::{LINE_FEED, TAB};
 use track_rules::GridTrack;
+
+// The most bytes of a line.
+pub const LINE_BYTES: usize = 128;
 
 // The line of an axis: its repetitions and its explicit count.
 pub fn size_line(out: &mut [u8], axis: Axis, repetitions: u32, count: u32) -> usize

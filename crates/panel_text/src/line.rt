@@ -3,10 +3,8 @@ ghost use Rattle.std.specs.Prelude.{◌≡◌, ◌≤◌, ℕ, List, [], ◌∷�
 ghost use Rattle.std.proofs.lemmas.List.Edits.{sets};
 ghost use Rattle.panel_text.specs.Written.{Adds, AddsField};
 
+use crate::LINE_BYTES;
 use std::marker::Model;
-
-// The most bytes of a line.
-const LINE_BYTES: usize = 128;
 
 // A line as far as it is written: its bytes, and how many there are. What would be past the most bytes of a line is left out.
 #[derive(Drop)]
@@ -46,9 +44,8 @@ impl PrintedLine {
     }
 
     // The bytes of a word.
-    fn word(&mut self, word: &[u8])
-        requires { length word.now ≤ 8 }
-        ensures { Adds self.old word.now self.new 8 }
+    pub(crate) fn word(&mut self, word: &[u8])
+        ensures { Adds self.old word.now self.new (length word.now) }
     {
         for byte in word {
             self.byte(*byte);

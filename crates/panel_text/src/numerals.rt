@@ -1,14 +1,14 @@
 // Numbers as text in a line.
 ghost use Rattle.std.specs.Prelude.{◌≡◌, ◌<◌, ◌≤◌};
-ghost use Rattle.panel_text.specs.Numerals.{decimal, whole_number, hexadecimal_digits, hexadecimal};
+ghost use Rattle.text.specs.Decimal.{decimal};
+ghost use Rattle.panel_text.specs.Numerals.{whole_number, hexadecimal_digits, hexadecimal};
 ghost use Rattle.panel_text.specs.Numerals.{digit as Numerals·digit};
 ghost use Rattle.panel_text.specs.Written.{Adds};
 
 use crate::line::PrintedLine;
-use coordinates::signed;
-use coordinates::signed::Signed;
+use text::Decimal;
 
-// The byte of a digit below 16.
+// The byte of a hexadecimal digit.
 fn digit(number: u32) -> u8
     requires { number < 16 }
     ensures { result ≡ Numerals·digit number }
@@ -25,11 +25,7 @@ impl PrintedLine {
     pub(crate) fn decimal(&mut self, number: u32)
         ensures { Adds self.old (decimal number) self.new 10 }
     {
-        if number < 10 {
-            return self.byte(digit(number));
-        }
-        self.decimal(number / 10);
-        self.byte(digit(number % 10));
+        self.word(Decimal::new(u64::from(number)).as_bytes());
     }
 
     // The last digits of a number in hexadecimal, the highest first.
@@ -55,11 +51,11 @@ impl PrintedLine {
     pub(crate) fn whole_number(&mut self, number: i16)
         ensures { Adds self.old (whole_number number) self.new 11 }
     {
-        match signed::split_16_bits(number) {
-            Signed::NonNegative(n) => self.decimal(n),
-            Signed::Negative(k) => {
+        match number {
+            0.. => self.decimal(number as u32),
+            _ => {
                 self.byte(b'-');
-                self.decimal(k + 1);
+                self.decimal(u32::from(number.unsigned_abs()));
             }
         }
     }

@@ -1,6 +1,6 @@
 -- The place of a name from an area on. Assumes nothing.
-use Prim.Native.Nat.{ℕ, suc, ◌+◌, ◌-◌, ◌≤◌, ◌<◌, min}
-use mathlib.Core.Path.{◌≡◌, refl, sym, ap}
+use Prim.Native.Nat.{ℕ, zero, suc, ◌+◌, ◌≤◌, ◌<◌, min}
+use mathlib.Core.Path.{◌≡◌, refl, sym, ◌∙◌}
 use mathlib.Core.List.{List}
 use mathlib.Core.Bool.{Bool, true, false, cond}
 use native.Mathlib.Omega.{arith}
@@ -8,26 +8,29 @@ use Rattle.text.specs.Split.{same}
 use Rattle.panel_tables.specs.Areas.{area_name}
 use lib.Dec.{ltb}
 use borrow.Author.Tests.{lt-ltb, le-ltb, ltb-true, ltb-false}
-use Rattle.std.specs.Prelude.{Some, None}
+use Rattle.std.specs.Prelude.{Some, None, nat_eq}
+use Rattle.std.specs.List.{find, range_with_len}
+use Rattle.std.specs.Cmp.Lexicographic.{pointwise}
+use Rattle.text.proofs.Library.{same_pointwise}
 use Rattle.picture_areas.specs.Places.{seek_in, area_index_in, area_place_in}
 
-module _ (w s n : List ℕ) (k held : ℕ) where
-  one_left : k < held → held - k ≡ suc (held - (k + 1))
-  one_left h = omega arith
-
-  pub seek-here : k < held → same (area_name w s k) n ≡ true → seek_in w s n k (held - k) ≡ k
+-- the search of a range for an area of that name
+module _ (w s n : List ℕ) where
+  pub seek_find : (k left : ℕ) → find (λ i. pointwise nat_eq (area_name w s i) n) (range_with_len k left) ≡ cond (ltb (seek_in w s n k left) (k + left)) (Some (seek_in w s n k left)) None
   unfolding seek_in
-  seek-here h e = rw (one_left h, e)
+  seek_find k zero = rw (le-ltb k (k + 0) (omega arith))
+  seek_find k (suc left) =
+      rw (same_pointwise (area_name w s k) n, one_more) (go (same (area_name w s k) n) (seek_find (suc k) left))
+    where
+      one_more : k + 1 ≡ suc k
+      one_more = omega arith
 
-  pub seek-next : k < held → same (area_name w s k) n ≡ false → seek_in w s n k (held - k) ≡ seek_in w s n (k + 1) (held - (k + 1))
-  unfolding seek_in
-  seek-next h e =
-      let z : suc k ≡ k + 1 = omega arith in
-      rw (one_left h, e) (ap (λ (j : ℕ). seek_in w s n j (held - (k + 1))) z)
-
-  pub seek-end : held ≤ k → seek_in w s n k (held - k) ≡ k
-  unfolding seek_in
-  seek-end h = let z : held - k ≡ 0 = omega arith in rw z
+      go : (t : Bool)
+          → find (λ i. pointwise nat_eq (area_name w s i) n) (range_with_len (suc k) left) ≡ cond (ltb (seek_in w s n (suc k) left) (suc k + left)) (Some (seek_in w s n (suc k) left)) None
+          → cond t (Some k) (find (λ i. pointwise nat_eq (area_name w s i) n) (range_with_len (suc k) left))
+          ≡ cond (ltb (cond t k (seek_in w s n (suc k) left)) (k + suc left)) (Some (cond t k (seek_in w s n (suc k) left))) None
+      go true e = rw (lt-ltb k (k + suc left) (omega arith))
+      go false e = let f : k + suc left ≡ suc k + left = omega arith in rw f e
 
 -- ---- the place of a name, or none
 
@@ -35,11 +38,8 @@ some_none : {n : ℕ} → Some n ≡ None → ⊥
 some_none e = let z : ◌≡◌ {A = ℕ} 0 1 = cc in omega arith
 
 module _ (areas : ℕ) (w s n : List ℕ) where
-  pub place-here : (k : ℕ) → area_index_in areas w s n ≡ k → k < min areas 64 → Some k ≡ area_place_in areas w s n
-  place-here k e h = rw (e, lt-ltb k (min areas 64) h) refl
-
-  pub place_past : min areas 64 ≤ area_index_in areas w s n → None ≡ area_place_in areas w s n
-  place_past h = rw (le-ltb (area_index_in areas w s n) (min areas 64) h) refl
+  pub place_found : find (λ i. pointwise nat_eq (area_name w s i) n) (range_with_len 0 (min areas 64)) ≡ area_place_in areas w s n
+  place_found = seek_find w s n 0 (min areas 64) ∙ (let e : 0 + min areas 64 ≡ min areas 64 = omega arith in rw e)
 
   pub known_place : (k : ℕ) → area_place_in areas w s n ≡ Some k → (k ≡ area_index_in areas w s n) × (area_index_in areas w s n < min areas 64)
   known_place k = go (ltb (area_index_in areas w s n) (min areas 64)) refl

@@ -19,17 +19,17 @@ use Rattle.picture_areas.proofs.Places.{known_place, no_place}
 -- ---- an area that goes on
 
 module _ (w : List ℕ) (i : ℕ) (run : AreaEdges) (place : AreaPlace) (t : Bool) where
-  pub grown-so : (word : ℕ) (after : List ℕ) → place ≡ area_at w i → t ≡ run_continues place.edges run → t ≡ true
+  pub grown_so : (word : ℕ) (after : List ℕ) → place ≡ area_at w i → t ≡ run_continues place.edges run → t ≡ true
       → word ≡ edges_word (longer_edges place.edges run) → after ≡ set w i word → record { broken = not t; words = after } ≡ grow_in w i run
   unfolding grow_in
-  grown-so word after e c h f g =
+  grown_so word after e c h f g =
       let k : run_continues (area_at w i).edges run ≡ true = ap (λ (p : AreaPlace). run_continues p.edges run) (sym e) ∙ sym c ∙ h in
       ap (λ (u : Bool). record { broken = not u; words = after }) h
       ∙ rw k (ap (λ (l : List ℕ). record { broken = false; words = l }) (g ∙ ap (set w i) (f ∙ ap (λ (p : AreaPlace). edges_word (longer_edges p.edges run)) e)))
 
-  pub grown-not : place ≡ area_at w i → t ≡ run_continues place.edges run → t ≡ false → record { broken = not t; words = w } ≡ grow_in w i run
+  pub grown_not : place ≡ area_at w i → t ≡ run_continues place.edges run → t ≡ false → record { broken = not t; words = w } ≡ grow_in w i run
   unfolding grow_in
-  grown-not e c h =
+  grown_not e c h =
       let k : run_continues (area_at w i).edges run ≡ false = ap (λ (p : AreaPlace). run_continues p.edges run) (sym e) ∙ sym c ∙ h in
       ap (λ (u : Bool). record { broken = not u; words = w }) h ∙ rw k
 

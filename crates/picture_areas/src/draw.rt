@@ -17,6 +17,7 @@ pub struct PictureAfter {
 
 // A run of a name, with the edges of its cells. A new name is one area more: 4 for an edge outside 1 to 10,001, 8 for a 65th area
 // or a name that has no room. A known one goes on into the row of the run, or breaks the picture.
+#[tactic(auto, using(crate::proofs::Runs::place_drawn))]
 pub fn draw_run(
     panel: Panel,
     words: &mut [u64],

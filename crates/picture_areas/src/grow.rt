@@ -17,6 +17,7 @@ fn run_continues(held: AreaEdges, run: AreaEdges) -> bool
 }
 
 // The edges of area `index` with the row of a run, where it continues the area; whether it does. Else it breaks the picture.
+#[tactic(auto, using(crate::proofs::Runs::grown_not))]
 pub(crate) fn grow_area(words: &mut [u64], index: u32, run: AreaEdges) -> bool
     ensures { record { broken = not result; words = words.new } ≡ grow_in words.old index run }
 {

@@ -8,11 +8,5 @@ use panel_tables::area::{MOST_AREAS, area_name};
 pub fn area_index(areas: u32, words: &[u64], bytes: &[u8], name: &[u8]) -> Option<u32>
     ensures { result ≡ area_place_in areas words.now bytes.now name.now }
 {
-    let held = areas.min(MOST_AREAS);
-    for index in 0..held {
-        if area_name(words, bytes, index) == name {
-            return Some(index);
-        }
-    }
-    None
+    (0..areas.min(MOST_AREAS)).find(|index| area_name(words, bytes, *index) == name)
 }

@@ -18,7 +18,7 @@ use Rattle.std.specs.Prelude.{Option, Some, None}
 use Rattle.sheet_lines.specs.Fields.{line_kind_number as number_of_kind}
 use Rattle.sheet_lines.specs.declared.kinds.LineKind.{LineKind}
 use Rattle.sheet_lines.specs.declared.kinds.LineKind.TheVariants.{Axis, Area, Name, Track, Repeat, End, Spare, Extra, Item, Place, Row}
-use Rattle.picture_end.specs.Steps.{class_of, later_fields, row_by, class_by}
+use Rattle.picture_end.specs.Steps.{class_of, fields_or_none, later_fields, row_by, class_by}
 
 -- ---- by the kind's number
 
@@ -35,20 +35,37 @@ module _ (k n : ℕ) where
   unfolding class_by
   class-between m e f g = rw (ne_eqb k 10 e, ne_eqb n (later_fields k) (λ z. g (z ∙ sym f)))
 
+-- a number of fields that is not asked for
+pub other_fields : (m : Option ℕ) (n : ℕ) → 1 ≤ n → (m ≡ Some n → ⊥) → n ≡ fields_or_none m → ⊥
+other_fields None n h g e = omega (arith, e, h)
+other_fields (Some k) n h g e = g (ap Some (sym e))
+
 -- of a kind that is not the row's
-pub not_row : (kind : Option LineKind) → (kind ≡ Some Row → ⊥) → number_of_kind kind ≡ 10 → ⊥
-not_row None h e = absurd (omega arith)
-not_row (Some Axis) h e = absurd (omega arith)
-not_row (Some Area) h e = absurd (omega arith)
-not_row (Some Name) h e = absurd (omega arith)
-not_row (Some Track) h e = absurd (omega arith)
-not_row (Some Repeat) h e = absurd (omega arith)
-not_row (Some End) h e = absurd (omega arith)
-not_row (Some Spare) h e = absurd (omega arith)
-not_row (Some Extra) h e = absurd (omega arith)
-not_row (Some Item) h e = absurd (omega arith)
-not_row (Some Place) h e = absurd (omega arith)
-not_row (Some Row) h e = h refl
+not_row : (kind : LineKind) → (kind ≡ Row → ⊥) → number_of_kind (Some kind) ≡ 10 → ⊥
+not_row Axis h e = absurd (omega arith)
+not_row Area h e = absurd (omega arith)
+not_row Name h e = absurd (omega arith)
+not_row Track h e = absurd (omega arith)
+not_row Repeat h e = absurd (omega arith)
+not_row End h e = absurd (omega arith)
+not_row Spare h e = absurd (omega arith)
+not_row Extra h e = absurd (omega arith)
+not_row Item h e = absurd (omega arith)
+not_row Place h e = absurd (omega arith)
+not_row Row h e = h refl
+
+-- by the kind itself
+module _ (n : ℕ) (some : 1 ≤ n) where
+  pub of_no_kind : 0 ≡ class_by (number_of_kind None) n
+  unfolding later_fields
+  of_no_kind = class-between 11 n 0 (λ e. omega (arith, e)) refl (λ e. omega (arith, e, some))
+
+  module _ (kind : LineKind) (m : Option ℕ) (other : kind ≡ Row → ⊥) (asked : fields_or_none m ≡ later_fields (number_of_kind (Some kind))) where
+    pub of_later : m ≡ Some n → 2 ≡ class_by (number_of_kind (Some kind)) n
+    of_later e = class-later (number_of_kind (Some kind)) n (fields_or_none m) (not_row kind other) asked (sym (ap fields_or_none e))
+
+    pub of_others : (m ≡ Some n → ⊥) → 0 ≡ class_by (number_of_kind (Some kind)) n
+    of_others e = class-between (number_of_kind (Some kind)) n (fields_or_none m) (not_row kind other) asked (other_fields m n some e)
 
 -- ---- by the fields of a line
 

@@ -1,13 +1,15 @@
 -- The lines of a sheet from a place on: what the one that starts there says of a row that follows. Assumes nothing.
-use Prim.Native.Nat.{ℕ, ◌+◌, ◌-◌, ◌≤◌}
+use Prim.Native.Nat.{ℕ, ◌+◌, ◌-◌, ◌≤◌, ◌<◌}
 use mathlib.Core.Path.{◌≡◌, refl, sym, ap, ◌∙◌}
 use mathlib.Core.List.{List, [], ◌∷◌}
 use mathlib.Core.Bool.{Bool, true, false, cond, not, ◌&&◌}
 use native.Mathlib.Omega.{arith}
 use lib.Dec.{eqb}
-use lib.ListN.{length, take, drop}
+use lib.ListN.{length, take, drop, length-drop}
+use mathlib.Core.Logic.{⊎_elim}
 use Rattle.text.specs.Split.{before, split}
-use Rattle.text.proofs.Laws.{split-more, split-no-more, split-end}
+use Rattle.text.proofs.Held.{le_or_lt}
+use Rattle.text.proofs.Laws.{before_le, split-more, split-no-more, split-end}
 use Rattle.sheet_forms.specs.Forms.{row}
 use Rattle.panel_tables.specs.View.{PanelView}
 use Rattle.picture_rules.specs.Steps.{taken_of}
@@ -62,6 +64,13 @@ module _ (s : List ℕ) (at e : ℕ) (fits : at ≤ length s) (found : e ≡ at 
   pub left-more : (e ≡ length s → ⊥) → lines_from (split 10 (drop at s)) ≡ split 9 (take (e - at) (drop at s)) ∷ lines_from (split 10 (drop (e + 1) s))
   left-more h = ap lines_from (split-more 10 s at e fits found h) ∙ lines_cons _ _ (parts-some 10 (drop (e + 1) s))
 
+pub left_none : (s : List ℕ) (at : ℕ) → length s ≤ at + before 10 (drop at s) → row_follows (lines_from (split 10 (drop at s))) ≡ false
+left_none s at h =
+    ⊎_elim
+    (λ k. left_open s at (at + before 10 (drop at s)) k refl (omega (arith, h, before_le 10 (drop at s), length-drop at s)))
+    (λ k. left_end s at (omega (arith, k)))
+    (le_or_lt at (length s))
+
 module _ (fs : Line) (rest : List Line) (c : LineClass) (class : class_number c ≡ class_of fs) where
   pub follows-row : c ≡ Row → true ≡ row_follows (fs ∷ rest)
   follows-row h = ap (λ (d : LineClass). eqb (class_number d) 1) (sym h) ∙ follows-told fs rest (class_number c) class (λ e. omega (arith, e, ap class_number h))
@@ -73,7 +82,13 @@ module _ (fs : Line) (rest : List Line) (c : LineClass) (class : class_number c 
   follows-between h = follows-later fs rest (class_number c) class (ap class_number h)
 
 -- whether a row follows from a place on, by the line that ends at the next line feed
-module _ (s : List ℕ) (at e : ℕ) (fits : at ≤ length s) (found : e ≡ at + before 10 (drop at s)) (h : e ≡ length s → ⊥) (c : LineClass) (class : class_number c ≡ class_of (split 9 (take (e - at) (drop at s)))) where
+module _ (s : List ℕ) (at e : ℕ) (found : e ≡ at + before 10 (drop at s)) (inside : e < length s) (c : LineClass) (class : class_number c ≡ class_of (split 9 (take (e - at) (drop at s)))) where
+  fits : at ≤ length s
+  fits = omega (arith, found, inside)
+
+  h : e ≡ length s → ⊥
+  h q = omega (arith, q, inside)
+
   pub ahead_row : c ≡ Row → true ≡ row_follows (lines_from (split 10 (drop at s)))
   ahead_row r = rw (left-more s at e fits found h) (follows-row _ (lines_from (split 10 (drop (e + 1) s))) c class r)
 
@@ -116,6 +131,13 @@ module _ (fs : Line) (rest : List Line) (b : Bool) where
         go true u k = refl
         go false true k = absurd (omega (arith, h, k))
         go false false k = absurd (omega (arith, h, k))
+
+  pub broken-either : (c : LineClass) → class_number c ≡ class_of fs → (c ≡ Row → b ≡ true → ⊥) → false ≡ broken_row b fs rest
+  broken-either c class h = go b refl
+    where
+      go : (t : Bool) → b ≡ t → false ≡ broken_row b fs rest
+      go false e = broken-not e
+      go true e = broken-other (class_number c) class (λ k. h (class_row c k) e)
 
 -- the same, of the panel after the line
 pub broken-at : (v : PanelView) (fs : Line) (rest : List Line) → broken_row (taken_of v.picture).broken fs rest ≡ broken_at v fs rest

@@ -1,5 +1,5 @@
 -- What a line is to a picture, as a number: 1 a row, 2 a line after which a row is late, 0 any other. It mirrors the code; proofs/Classes.antt joins the two.
-use Rattle.std.specs.Prelude.{ℕ, List, Bool, cond, not, ◌&&◌, eqb, leb}
+use Rattle.std.specs.Prelude.{ℕ, List, Bool, cond, not, ◌&&◌, eqb, leb, Option, Some, None}
 use Rattle.sheet_forms.specs.Forms.{row}
 use Rattle.picture_end.specs.declared.class.LineClass.{LineClass}
 use Rattle.picture_end.specs.declared.class.LineClass.TheVariants.{Between, Row, Later}
@@ -33,6 +33,11 @@ later_fields k =
     (cond (eqb k 7) 4
     (cond (eqb k 8) 3
     (cond (eqb k 9) 8 0))))))))
+
+-- of the fields that a line must have, if any: 0 for none
+abbrev pub fields_or_none : Option ℕ → ℕ
+fields_or_none None = 0
+fields_or_none (Some n) = n
 
 abbrev pub row_by : ℕ → ℕ
 row_by n = cond (leb 2 n) 1 0

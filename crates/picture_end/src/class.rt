@@ -1,8 +1,8 @@
 // What a line is to a picture, by its first field and how many fields it has.
-ghost use Rattle.std.specs.Prelude.{◌≡◌};
+ghost use Rattle.std.specs.Prelude.{◌≡◌, ◌≤◌, Some};
 ghost use Rattle.text.specs.Split.{split};
 ghost use Rattle.sheet_lines.specs.Fields.{line_kind_number};
-ghost use Rattle.picture_end.specs.Steps.{class_number, class_of, later_fields, row_by, class_by};
+ghost use Rattle.picture_end.specs.Steps.{class_number, class_of, fields_or_none, later_fields, row_by, class_by};
 
 use sheet_lines::fields::{
     AREA_FIELDS, END_FIELDS, EXTRA_FIELDS, Fields, ITEM_FIELDS, NAME_FIELDS, PLACE_FIELDS,
@@ -21,24 +21,23 @@ pub enum LineClass {
     Later,
 }
 
-// The fields of a line of a kind after which a row is late; 0 for any other kind.
+// The fields of a line of a kind after which a row is late, if it is one.
 #[tactic(auto, unfolding(crate::specs::Steps::later_fields))]
-fn later_fields(kind: Option<LineKind>) -> usize
-    ensures { result ≡ later_fields (line_kind_number kind) }
+fn later_fields(kind: LineKind) -> Option<usize>
+    ensures { fields_or_none result ≡ later_fields (line_kind_number (Some kind)) }
 {
     match kind {
-        None => 0,
-        Some(LineKind::Axis) => 0,
-        Some(LineKind::Area) => AREA_FIELDS,
-        Some(LineKind::Name) => NAME_FIELDS,
-        Some(LineKind::Track) => SIZES_FIELDS,
-        Some(LineKind::Repeat) => REPEAT_FIELDS,
-        Some(LineKind::End) => END_FIELDS,
-        Some(LineKind::Spare) => SIZES_FIELDS,
-        Some(LineKind::Extra) => EXTRA_FIELDS,
-        Some(LineKind::Item) => ITEM_FIELDS,
-        Some(LineKind::Place) => PLACE_FIELDS,
-        Some(LineKind::Row) => 0,
+        LineKind::Axis => None,
+        LineKind::Area => Some(AREA_FIELDS),
+        LineKind::Name => Some(NAME_FIELDS),
+        LineKind::Track => Some(SIZES_FIELDS),
+        LineKind::Repeat => Some(REPEAT_FIELDS),
+        LineKind::End => Some(END_FIELDS),
+        LineKind::Spare => Some(SIZES_FIELDS),
+        LineKind::Extra => Some(EXTRA_FIELDS),
+        LineKind::Item => Some(ITEM_FIELDS),
+        LineKind::Place => Some(PLACE_FIELDS),
+        LineKind::Row => None,
     }
 }
 
@@ -54,12 +53,14 @@ fn row_by(fields: usize) -> LineClass
 }
 
 // A line of that kind with so many fields.
+#[tactic(auto, using(crate::proofs::Classes::of_no_kind, crate::proofs::Classes::of_later, crate::proofs::Classes::of_others))]
 fn class_by(kind: Option<LineKind>, fields: usize) -> LineClass
+    requires { 1 ≤ fields }
     ensures { class_number result ≡ class_by (line_kind_number kind) fields }
 {
     match kind {
         Some(LineKind::Row) => row_by(fields),
-        _ if fields == later_fields(kind) => LineClass::Later,
+        Some(kind) if later_fields(kind) == Some(fields) => LineClass::Later,
         _ => LineClass::Between,
     }
 }

@@ -1,5 +1,5 @@
 // The last row of a picture.
-ghost use Rattle.std.specs.Prelude.{◌≡◌, drop};
+ghost use Rattle.std.specs.Prelude.{◌≡◌};
 ghost use Rattle.text.specs.Split.{split};
 ghost use Rattle.sheet_rules.specs.Contents.{lines_from};
 ghost use Rattle.picture_end.specs.Steps.{broken_row};
@@ -7,12 +7,9 @@ ghost use Rattle.picture_end.specs.Steps.{broken_row};
 use crate::class::{LineClass, line_class};
 use crate::follow::row_follows;
 
-// Whether a line of a sheet is the last row of a picture, which is broken after it or is not; the lines after it start at a place of the sheet.
-pub fn last_broken_row(broken: bool, line: &[u8], sheet: &[u8], next: usize) -> bool
-    ensures { result ≡ broken_row broken (split 9 line.now) (lines_from (split 10 (drop next sheet.now))) }
+// Whether a line of a sheet is the last row of a picture, which is broken after it or is not; the rest of the sheet comes after the line.
+pub fn last_broken_row(broken: bool, line: &[u8], rest: &[u8]) -> bool
+    ensures { result ≡ broken_row broken (split 9 line.now) (lines_from (split 10 rest.now)) }
 {
-    match line_class(line) {
-        LineClass::Row => broken && !row_follows(sheet, next),
-        _ => false,
-    }
+    line_class(line) == LineClass::Row && broken && !row_follows(rest)
 }

@@ -6,6 +6,7 @@ ghost use Rattle.picture_rows.specs.Steps.{picture_edges, spanned, row_in};
 
 use crate::draw::draw_runs;
 use coordinates::Fault;
+use coordinates::line::MOST_TRACKS;
 use panel_tables::{AreaEdges, Panel};
 use panel_writes::area_record::raised;
 use picture_areas::PictureAfter;
@@ -13,7 +14,7 @@ use picture_words::row::MOST_WORDS;
 use picture_words::words_in;
 
 // The most rows of a picture.
-pub const MOST_ROWS: u32 = 10000;
+pub const MOST_ROWS: u32 = MOST_TRACKS as u32;
 
 // The edges around the cells of a picture, of so many columns and rows.
 fn picture_edges(width: u16, row: u16) -> AreaEdges

@@ -1,22 +1,26 @@
--- The first fault of the words from a place on. Assumes nothing.
-use Prim.Native.Nat.{ℕ, ◌+◌, ◌-◌, ◌≤◌, ◌<◌}
-use mathlib.Core.Path.{◌≡◌}
-use mathlib.Core.List.{List}
-use lib.ListN.{length, take, drop}
+-- The first fault of the words from one on. Assumes nothing.
+use Prim.Native.Nat.{ℕ, suc, ◌+◌, ◌≤◌, ◌<◌}
+use mathlib.Core.Path.{◌≡◌, sym, ap, ◌∙◌}
+use mathlib.Core.List.{List, ◌∷◌}
+use native.Mathlib.Numerals.{add-one}
+use lib.ListN.{length, drop, get_or, drop_of_length-le}
+use lib.Seq.{drop-cons}
 use borrow.Author.Tests.{eq-eqb, ne_eqb}
-use Rattle.picture_words.specs.Words.{words_left, word_end}
+use Rattle.picture_rules.specs.Picture.{Word}
 use Rattle.sheet_forms.specs.Fields.{word_fault, words_fault}
-use Rattle.picture_words.proofs.Words.{words_past, words-next}
 
-pub fault_past : (line : List ℕ) (at : ℕ) → length line < at → words_fault (words_left line at) ≡ 0
+pub fault_past : (ws : List Word) (k : ℕ) → length ws ≤ k → words_fault (drop k ws) ≡ 0
 unfolding words_fault
-fault_past line at h = rw (words_past line at h)
+fault_past ws k h = rw (drop_of_length-le ws h)
 
-module _ (line : List ℕ) (at e : ℕ) (fits : at ≤ length line) (found : e ≡ word_end line at) where
-  pub fault-here : (word_fault (take (e - at) (drop at line)) ≡ 0 → ⊥) → words_fault (words_left line at) ≡ word_fault (take (e - at) (drop at line))
-  unfolding words_fault
-  fault-here h = rw (words-next line at e fits found, ne_eqb (word_fault (take (e - at) (drop at line))) 0 h)
+module _ (ws : List Word) (k : ℕ) (w : Word) (there : k < length ws) (word : w ≡ get_or ws k w) where
+  word_first : drop k ws ≡ w ∷ drop (k + 1) ws
+  word_first = rw add-one (drop-cons ws k w there ∙ ap (λ (v : Word). v ∷ drop (suc k) ws) (sym word))
 
-  pub fault-next : word_fault (take (e - at) (drop at line)) ≡ 0 → words_fault (words_left line at) ≡ words_fault (words_left line (e + 1))
+  pub fault-here : (word_fault w ≡ 0 → ⊥) → words_fault (drop k ws) ≡ word_fault w
   unfolding words_fault
-  fault-next h = rw (words-next line at e fits found, eq-eqb (word_fault (take (e - at) (drop at line))) 0 h)
+  fault-here h = rw (word_first, ne_eqb (word_fault w) 0 h)
+
+  pub fault-next : word_fault w ≡ 0 → words_fault (drop k ws) ≡ words_fault (drop (k + 1) ws)
+  unfolding words_fault
+  fault-next h = rw (word_first, eq-eqb (word_fault w) 0 h)

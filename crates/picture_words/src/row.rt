@@ -4,33 +4,28 @@ ghost use Rattle.coordinates.specs.Refusals.{refused_by};
 ghost use Rattle.picture_words.specs.Words.{words_of};
 ghost use Rattle.sheet_forms.specs.Fields.{words_fault, many_fault, row_fault};
 
-use crate::word::{TAB, check_word, first_word, word_end};
+use crate::word::check_word;
 use coordinates::Fault;
+use coordinates::line::MOST_TRACKS;
 use sheet_forms::both;
-use text::cut_parts;
-use text::fields::STARTS;
+use text::TAB;
 
 // The most words of a row.
-pub const MOST_WORDS: usize = 10000;
+pub const MOST_WORDS: usize = MOST_TRACKS as usize;
 
-// How many words a line has: one fewer than fields.
+// How many words a line has: one after each tab.
 pub fn words_in(line: &[u8]) -> usize
     ensures { result ≡ length (words_of line.now) }
 {
-    let mut starts = [0; STARTS];
-    let fields = cut_parts(line, TAB, &mut starts);
-    fields - 1
+    line.iter().filter(|b| **b == TAB).count()
 }
 
 // Every word of a line is dots or a name; else the line has the fault of the first that is neither.
 fn check_words(line: &[u8]) -> Result<(), Fault>
     ensures { refused_by result ≡ words_fault (words_of line.now) }
 {
-    let mut at = first_word(line);
-    while at <= line.len() {
-        let end = word_end(line, at);
-        check_word(&line[at..end])?;
-        at = end + 1;
+    for word in line.split(|b| *b == TAB).skip(1) {
+        check_word(word)?;
     }
     Ok(())
 }

@@ -2,7 +2,8 @@
 ghost use Rattle.std.specs.Prelude.{◌≡◌};
 ghost use Rattle.picture_words.specs.Runs.{run_at};
 
-use crate::word::{word_at, word_end};
+use crate::word::word_at;
+use text::TAB;
 
 // How many words a run has, and where the word after it starts: past the end where there is none.
 #[derive(Clone, Copy, Debug, PartialEq, Eq)]
@@ -15,16 +16,16 @@ pub struct WordRun {
 pub fn run_at(line: &[u8], at: usize) -> WordRun
     ensures { result ≡ run_at line.now at }
 {
+    let Some(rest) = line.get(at..) else {
+        return WordRun { count: 0, next: at };
+    };
     let word = word_at(line, at);
-    let mut count = 0;
-    let mut next = at;
-    while next <= line.len() {
-        let end = word_end(line, next);
-        if &line[next..end] != word {
-            return WordRun { count, next };
-        }
-        next = end + 1;
-        count += 1;
+    let count = rest
+        .split(|b| *b == TAB)
+        .take_while(|own| *own == word)
+        .count();
+    WordRun {
+        count,
+        next: at + count * (word.len() + 1),
     }
-    WordRun { count, next }
 }

@@ -8,19 +8,17 @@ ghost use Rattle.sheet_forms.specs.Fields.{word_fault};
 
 use coordinates::Fault;
 use sheet_forms::check_name;
-use text::find;
-
-// What parts the fields of a line.
-pub const TAB: u8 = b'\t';
+use text::{TAB, part_end};
 
 // An empty cell is a run of these.
 pub const DOT: u8 = b'.';
 
 // Where the first word starts: after the first field. Past the end of a line that has none.
+#[tactic(auto, using(text::proofs::Laws::before_le))]
 pub fn first_word(line: &[u8]) -> usize
     ensures { result ≡ first_start line.now }
 {
-    find(line, 0, TAB) + 1
+    part_end(line, 0, TAB) + 1
 }
 
 // Where the word that starts at a place ends, which is in the line where the place is.
@@ -29,18 +27,14 @@ pub fn word_end(line: &[u8], at: usize) -> usize
     ensures place { result ≡ word_end line.now at }
     ensures within { at ≤ length line.now → result ≤ length line.now }
 {
-    find(line, at, TAB)
+    part_end(line, at, TAB)
 }
 
 // The word that starts at a place; empty past the end.
 pub fn word_at(line: &[u8], at: usize) -> &[u8]
     ensures { result.now ≡ word_at line.now at }
 {
-    if line.len() < at {
-        return &line[..0];
-    }
-    let end = word_end(line, at);
-    &line[at..end]
+    text::part(line.get(at..).unwrap_or(&[]), TAB, 0)
 }
 
 // Whether every byte is a dot.

@@ -1,42 +1,29 @@
 -- The place of a grid line, counted from either edge. Assumes nothing.
-use mathlib.Core.Path.{◌≡◌, refl, ◌∙◌}
+use mathlib.Core.Path.{◌≡◌}
 use mathlib.Core.Bool.{cond}
 use mathlib.Core.Logic.{⊎_elim}
-use Prim.Native.Nat.{ℕ, zero, suc, ◌+◌, ◌-◌, ◌≤◌, ◌<◌}
+use Prim.Native.Nat.{ℕ, suc, ◌+◌, ◌-◌, ◌≤◌, ◌<◌}
 use native.Mathlib.Omega.{arith}
 use borrow.Author.Tests.{le-leb, lt-leb, lt-ltb, le-ltb}
 use lib.Dec.{leb}
-use lib.IntN.{ℤ, pos, negsuc}
+use lib.IntN.{negsuc}
 use Rattle.coordinates.specs.Lines.{uncut}
 use Rattle.coordinates.proofs.Lines.{lt_or_ge, uncut_in, uncut_out}
 use Rattle.track_counts.specs.Counts.{tracks_of}
 use Rattle.track_counts.specs.declared.counts.TrackCounts.{TrackCounts}
-use Rattle.placement_hits.specs.Steps.{place_in, place_of}
-use Rattle.std.specs.Prelude.{Option, Some, None}
+use Rattle.placement_hits.specs.Steps.{place_in}
+use Rattle.std.specs.Prelude.{Some, None}
 
-module _ (c : TrackCounts) (line : ℤ) where
+module _ (c : TrackCounts) where
   abbrev m : ℕ
   m = c.negative_implicit
 
   abbrev n : ℕ
   n = c.explicit
 
-  -- line 0
-  pub place-zero : (g : ℕ) → pos g ≡ line → g ≡ 0 → None ≡ place_of c line
-  unfolding place_of
-  place-zero g e z = rw (← e, z)
-
-  -- from the start edge
-  pub place-forth : (g : ℕ) (r : Option ℕ) → pos g ≡ line → (g ≡ 0 → ⊥)
-      → r ≡ cond (leb (m + (g - 1)) (tracks_of c)) (Some (m + (g - 1))) None → r ≡ place_of c line
-  unfolding place_of
-  place-forth zero r e out q = absurd (out refl)
-  place-forth (suc g) r e out q = let z : suc g - 1 ≡ g = omega arith in rw (← e) (q ∙ rw z)
-
   -- from the end edge
-  pub place-before : (k : ℕ) (r : Option ℕ) → negsuc k ≡ line → r ≡ cond (leb k (m + n)) (Some (m + n - k)) None → r ≡ place_of c line
-  unfolding place_of
-  place-before k r e q = rw (← e) (q ∙ ⊎_elim out within (lt_or_ge n k))
+  pub place_before : (k : ℕ) → cond (leb k (m + n)) (Some (m + n - k)) None ≡ place_in c (uncut n (negsuc k))
+  place_before k = ⊎_elim out within (lt_or_ge n k)
     where
       within : k ≤ n → cond (leb k (m + n)) (Some (m + n - k)) None ≡ place_in c (uncut n (negsuc k))
       within h = let z : m + (n - k) ≡ m + n - k = omega arith in

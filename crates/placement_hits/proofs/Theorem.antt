@@ -15,22 +15,22 @@ use Rattle.name_rules.proofs.CssOrder.{ordered_below}
 use Rattle.placement_hits.specs.Hits.{AtPlace, OnGrid, LinesInside, LineBetween}
 use Rattle.placement_hits.specs.Steps.{nowhere, places_at, place_in, place_of, ordered_places, both_places, end_place, occupied_of, within_places, around_place}
 use Rattle.std.specs.Prelude.{Option, Some, None}
-use Rattle.placement_hits.specs.declared.Places.{Places}
+use Rattle.coordinates.specs.Types.{LinePair}
 use Rattle.placement_hits.proofs.GridLines.{one_place, found-place, place_found, line-not-0, placed-not-0, places-ordered, lines-ordered, lines_same, next_place, between-place}
 use Rattle.std.proofs.lemmas.Bool.{and_parts}
 
 -- whether there are places, and which
-is_there : Option Places → Bool
+is_there : Option LinePair → Bool
 is_there None = false
 is_there (Some p) = true
 
-first_of : Option Places → ℕ
+first_of : Option LinePair → ℕ
 first_of None = 0
-first_of (Some p) = p.first
+first_of (Some p) = p.start
 
-last_of : Option Places → ℕ
+last_of : Option LinePair → ℕ
 last_of None = 0
-last_of (Some p) = p.last
+last_of (Some p) = p.end
 
 -- equal lines have one pair of places, and so on
 ordered_up : (last s e : ℕ) → s < e → ordered_places last s e ≡ places_at s e
@@ -143,14 +143,14 @@ module _ (c : TrackCounts) where
     pub within-inside : ((k : ℕ) → k ≤ tracks_of c → below ≤ k → k < upto → Inside k) → within_places below upto (occupied_of c r) ≡ true → LinesInside c Inside r
     within-inside to t = go (occupied_of c r) refl t
       where
-        go : (x : Option Places) → occupied_of c r ≡ x → within_places below upto x ≡ true → LinesInside c Inside r
+        go : (x : Option LinePair) → occupied_of c r ≡ x → within_places below upto x ≡ true → LinesInside c Inside r
         go None q t = absurd (false≢true t)
         go (Some p) q t =
-            let h = and_parts (leb below p.first) (ltb p.last upto) t in
-            let f = found-on-grid r p.first p.last q in
+            let h = and_parts (leb below p.start) (ltb p.end upto) t in
+            let f = found-on-grid r p.start p.end q in
             let o = f.0 in
-            let a : below ≤ o.first = rw f.1 (leb-true below p.first h.0) in
-            let b : o.last < upto = rw f.2 (ltb-true p.last upto h.1) in
+            let a : below ≤ o.first = rw f.1 (leb-true below p.start h.0) in
+            let b : o.last < upto = rw f.2 (ltb-true p.end upto h.1) in
             let l : o.first < o.last = own-ordered r o in
             record {
               on = o;
@@ -171,16 +171,16 @@ module _ (c : TrackCounts) where
     pub around-between : around_place (place_of c line) (occupied_of c r) ≡ true → LineBetween c line r
     around-between t = go (place_of c line) (occupied_of c r) refl refl t
       where
-        go : (x : Option ℕ) (y : Option Places) → place_of c line ≡ x → occupied_of c r ≡ y → around_place x y ≡ true → LineBetween c line r
+        go : (x : Option ℕ) (y : Option LinePair) → place_of c line ≡ x → occupied_of c r ≡ y → around_place x y ≡ true → LineBetween c line r
         go None y e d t = absurd (false≢true t)
         go (Some k) None e d t = absurd (false≢true t)
         go (Some k) (Some p) e d t =
-            let h = and_parts (ltb p.first k) (ltb k p.last) t in
-            let f = found-on-grid r p.first p.last d in
+            let h = and_parts (ltb p.start k) (ltb k p.end) t in
+            let f = found-on-grid r p.start p.end d in
             let o = f.0 in
             let q : AtPlace c (uncut c.explicit line) k = found-place c (uncut c.explicit line) k (sym (line-not-0 c line not-0) ∙ e) in
-            let a : o.first < k = rw f.1 (ltb-true p.first k h.0) in
-            let b : k < o.last = rw f.2 (ltb-true k p.last h.1) in
+            let a : o.first < k = rw f.1 (ltb-true p.start k h.0) in
+            let b : k < o.last = rw f.2 (ltb-true k p.end h.1) in
             record {
               on = o;
               after = lines-ordered c o.low (uncut c.explicit line) o.first k o.at_low q a;

@@ -7,10 +7,9 @@ use Rattle.coordinates.specs.Lines.{uncut}
 use Rattle.track_counts.specs.Counts.{tracks_of}
 use Rattle.track_counts.specs.declared.counts.TrackCounts.{TrackCounts}
 use Rattle.name_rules.specs.Css.{Resolved, free, at_line, spanning, ResolvedEnds}
-use Rattle.placement_hits.specs.declared.Places.{Places}
-use Rattle.placement_hits.specs.declared.SettledEnd.{SettledEnd}
-use Rattle.placement_hits.specs.declared.SettledEnd.TheVariants.{Auto, Line, Span}
-use Rattle.placement_hits.specs.declared.Ends.{Ends}
+use Rattle.coordinates.specs.Types.{LinePair}
+use Rattle.coordinates.specs.declared.line.GenericGridPlacement.TheVariants.{Auto, Line, Span}
+use Rattle.placement_hits.specs.Types.{SettledEnd, Ends}
 use Rattle.placement_hits.specs.declared.Question.{Question}
 use Rattle.placement_hits.specs.declared.Question.TheVariants.{Within, Around}
 use Rattle.placement_hits.specs.declared.Asked.{Asked}
@@ -30,20 +29,20 @@ place_of c (negsuc g) = place_in c (uncut c.explicit (negsuc g))
 
 -- ---- the places of a placement
 
-abbrev pub nowhere : Option Places
+abbrev pub nowhere : Option LinePair
 nowhere = None
 
-abbrev pub places_at : ℕ → ℕ → Option Places
-places_at first last = Some (record { first = first; last = last })
+abbrev pub places_at : ℕ → ℕ → Option LinePair
+places_at first last = Some (record { start = first; end = last })
 
 -- CSS 8.3.1 on places: reversed ends are swapped, equal ones span one track, which has to be on the grid
-unfoldable pub ordered_places : ℕ → ℕ → ℕ → Option Places
+unfoldable pub ordered_places : ℕ → ℕ → ℕ → Option LinePair
 ordered_places last s e =
     cond (ltb s e) (places_at s e)
     (cond (ltb e s) (places_at e s)
     (cond (ltb s last) (places_at s (s + 1)) nowhere))
 
-abbrev pub both_places : ℕ → Option ℕ → Option ℕ → Option Places
+abbrev pub both_places : ℕ → Option ℕ → Option ℕ → Option LinePair
 both_places last None e = nowhere
 both_places last (Some s) None = nowhere
 both_places last (Some s) (Some e) = ordered_places last s e
@@ -54,23 +53,23 @@ end_place c free = None
 end_place c (at_line g) = place_of c g
 end_place c (spanning n) = None
 
-unfoldable pub occupied_of : TrackCounts → ResolvedEnds → Option Places
+unfoldable pub occupied_of : TrackCounts → ResolvedEnds → Option LinePair
 occupied_of c r = both_places (tracks_of c) (end_place c r.first) (end_place c r.last)
 
 -- ---- the test of a placement
 
 -- both places from `below` on and before `upto`
-abbrev pub within_places : ℕ → ℕ → Option Places → Bool
+abbrev pub within_places : ℕ → ℕ → Option LinePair → Bool
 within_places below upto None = false
-within_places below upto (Some p) = leb below p.first && ltb p.last upto
+within_places below upto (Some p) = leb below p.start && ltb p.end upto
 
 -- the place strictly between
-abbrev pub around_place : Option ℕ → Option Places → Bool
+abbrev pub around_place : Option ℕ → Option LinePair → Bool
 around_place None p = false
 around_place (Some k) None = false
-around_place (Some k) (Some p) = ltb p.first k && ltb k p.last
+around_place (Some k) (Some p) = ltb p.start k && ltb k p.end
 
-unfoldable pub answers : Question → Option Places → Bool
+unfoldable pub answers : Question → Option LinePair → Bool
 answers (Within below upto) p = within_places below upto p
 answers (Around place) p = around_place place p
 

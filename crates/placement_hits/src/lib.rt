@@ -7,29 +7,14 @@ pub mod member;
 pub mod occupied;
 pub mod place;
 
+use coordinates::{GenericGridPlacement, Line};
 use track_counts::counts::TrackCounts;
 
-// The places of the two lines that a placement lies between, each counted from 0 at the grid's first line.
-#[derive(Clone, Copy, Debug, PartialEq, Eq)]
-pub struct Places {
-    pub first: u32,
-    pub last: u32,
-}
-
 // An end of a settled placement: auto, a grid line, or a span.
-#[derive(Clone, Copy, Debug, PartialEq, Eq)]
-pub enum SettledEnd {
-    Auto,
-    Line(i32),
-    Span(i32),
-}
+pub type SettledEnd = GenericGridPlacement<i32, i32>;
 
 // Both ends of a settled placement.
-#[derive(Clone, Copy, Debug, PartialEq, Eq)]
-pub struct Ends {
-    pub start: SettledEnd,
-    pub end: SettledEnd,
-}
+pub type Ends = Line<SettledEnd>;
 
 // What is asked of a placement: both of its places from the first number on and before the second; or a place, where there is one, strictly between them.
 #[derive(Clone, Copy, Debug, PartialEq, Eq)]

@@ -4,9 +4,10 @@ ghost use Rattle.placement_hits.specs.Steps.{Listed, is_hit, listed_of, one_list
 
 use crate::Asked;
 use crate::member::{Placement, RUN_NUMBERS};
+use coordinates::line::MOST_PLACEMENTS;
 
 // The most placements of a list, which is as many as a panel holds.
-pub const MOST_HITS: usize = 256;
+pub const MOST_HITS: usize = MOST_PLACEMENTS;
 
 // Writes a placement after those written so far where it is asked for; how many there are then.
 fn put_hit(asked: Asked, placement: Placement, written: u32, hits: &mut [u32; MOST_HITS]) -> u32

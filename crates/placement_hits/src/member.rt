@@ -3,15 +3,16 @@ ghost use Rattle.std.specs.Prelude.{◌≡◌, ◌<◌};
 ghost use Rattle.placement_hits.specs.Steps.{answers, within_places, around_place, end_by, end_of, ends_at, ends_by, is_hit, asked_of};
 
 use crate::occupied::occupied;
-use crate::{Asked, Ends, Places, Question, SettledEnd};
-use coordinates::Axis;
+use crate::{Asked, Ends, Question, SettledEnd};
+use coordinates::line::MOST_PLACEMENTS;
+use coordinates::{Axis, Line, LinePair};
 use track_counts::TrackCounts;
 
 // How many numbers a placement takes in a run.
 const PLACEMENT_NUMBERS: usize = 8;
 
 // The numbers of a run of as many placements as a panel holds.
-pub const RUN_NUMBERS: usize = 2048;
+pub const RUN_NUMBERS: usize = PLACEMENT_NUMBERS * MOST_PLACEMENTS;
 
 // The kinds of an end that is a line, and of one that is a span.
 const LINE: i32 = 1;
@@ -19,28 +20,25 @@ const LINE: i32 = 1;
 const SPAN: i32 = 3;
 
 // Both places from `below` on and before `upto`.
-pub fn is_within(places: Option<Places>, below: u32, upto: u32) -> bool
+pub fn is_within(places: Option<LinePair>, below: u32, upto: u32) -> bool
     ensures { result ≡ within_places below upto places }
 {
-    match places {
-        Some(own) => below <= own.first && own.last < upto,
-        None => false,
-    }
+    places.is_some_and(|own| below <= own.start && own.end < upto)
 }
 
 // A place, where there is one, strictly between them.
-pub fn is_around(places: Option<Places>, place: Option<u32>) -> bool
+pub fn is_around(places: Option<LinePair>, place: Option<u32>) -> bool
     ensures { result ≡ around_place place places }
 {
     match (place, places) {
-        (Some(line), Some(own)) => own.first < line && line < own.last,
+        (Some(line), Some(own)) => own.start < line && line < own.end,
         _ => false,
     }
 }
 
 // Whether what is asked holds of the places of a placement.
 #[tactic(auto, unfolding(crate::specs::Steps::answers))]
-fn answers(question: Question, places: Option<Places>) -> bool
+fn answers(question: Question, places: Option<LinePair>) -> bool
     ensures { result ≡ answers question places }
 {
     match question {
@@ -65,12 +63,8 @@ impl Asked {
     pub fn of_axis(axis: Axis, counts: TrackCounts, question: Question) -> Asked
         ensures { result ≡ asked_of axis counts question }
     {
-        let axis = match axis {
-            Axis::Column => 0,
-            Axis::Row => 1,
-        };
         Asked {
-            axis,
+            axis: axis as i32,
             counts,
             question,
         }
@@ -92,7 +86,7 @@ impl Placement<'_> {
         ensures { ends_by result ≡ ends_at self.entry.numbers.now self.entry.index }
     {
         let place = PLACEMENT_NUMBERS * self.index as usize;
-        Ends {
+        Line {
             start: settled_end(self.numbers[place + 2], self.numbers[place + 3]),
             end: settled_end(self.numbers[place + 4], self.numbers[place + 5]),
         }

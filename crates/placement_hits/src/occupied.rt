@@ -3,40 +3,38 @@ ghost use Rattle.std.specs.Prelude.{◌≡◌};
 ghost use Rattle.placement_hits.specs.Steps.{ordered_places, both_places, end_of, end_place, ends_by, occupied_of};
 
 use crate::place::{last_place, line_place};
-use crate::{Ends, Places, SettledEnd};
+use crate::{Ends, SettledEnd};
+use coordinates::LinePair;
 use track_counts::counts::TrackCounts;
 
-// The places of a placement from the places of its ends: reversed ones are swapped, equal ones span one track.
+// Two lines in their order: reversed ones are swapped, equal ones span one track, which has to lie before the last line.
 #[tactic(auto, unfolding(crate::specs::Steps::ordered_places))]
-fn ordered_places(last: u32, start: u32, end: u32) -> Option<Places>
+pub fn ordered(last: u32, start: u32, end: u32) -> Option<LinePair>
     ensures { result ≡ ordered_places last start end }
 {
     if start < end {
-        return Some(Places {
-            first: start,
-            last: end,
-        });
+        return Some(LinePair { start, end });
     }
     if end < start {
-        return Some(Places {
-            first: end,
-            last: start,
+        return Some(LinePair {
+            start: end,
+            end: start,
         });
     }
     if start < last {
-        return Some(Places {
-            first: start,
-            last: start + 1,
+        return Some(LinePair {
+            start,
+            end: start + 1,
         });
     }
     None
 }
 
 // The same where both ends have a place.
-fn both_places(last: u32, start: Option<u32>, end: Option<u32>) -> Option<Places>
+fn both_places(last: u32, start: Option<u32>, end: Option<u32>) -> Option<LinePair>
     ensures { result ≡ both_places last start end }
 {
-    ordered_places(last, start?, end?)
+    ordered(last, start?, end?)
 }
 
 // The place of an end; one that is no line has none.
@@ -49,9 +47,9 @@ fn end_place(counts: TrackCounts, end: SettledEnd) -> Option<u32>
     }
 }
 
-// The places of a settled placement.
+// The places of the lines between which a settled placement lies, counted from 0 at the grid's first.
 #[tactic(auto, unfolding(crate::specs::Steps::occupied_of))]
-pub fn occupied(counts: TrackCounts, ends: Ends) -> Option<Places>
+pub fn occupied(counts: TrackCounts, ends: Ends) -> Option<LinePair>
     ensures { result ≡ occupied_of counts (ends_by ends) }
 {
     let start = end_place(counts, ends.start);

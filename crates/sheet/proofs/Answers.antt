@@ -18,7 +18,7 @@ use Rattle.axis_tables.proofs.Fits.{Fits}
 use Rattle.axis_tables.proofs.Lays.{pad-take}
 use Rattle.panel_tables.specs.View.{empty_view}
 use Rattle.panel_tables.specs.declared.Panel.{Panel}
-use Rattle.panel_tables.specs.declared.Reading.{Reading}
+use Rattle.panel_tables.specs.Readings.{Reading}
 use Rattle.panel_tables.specs.Regions.{panel_words, panel_bytes}
 use Rattle.panel_tables.specs.Written.{zero_panel, zero_panel_reading, PanelHeld, panel_held_of}
 use Rattle.panel_tables.proofs.Fits.{FitsPanel}
@@ -26,11 +26,11 @@ use Rattle.panel_tables.proofs.Same.{zeros_same}
 use Rattle.sheet_rules.specs.declared.Overlap.{Overlap}
 use Rattle.sheet_rules.specs.declared.LineFault.{LineFault}
 use Rattle.sheet_rules.specs.declared.SheetFault.{SheetFault}
-use Rattle.sheet_rules.specs.declared.SheetFault.TheVariants.{Overlap as Overlaps, Line}
-use Rattle.sheet_rules.specs.Answers.{SheetAnswer, accepted_with, refused_with, TellsPair}
+use Rattle.sheet_rules.specs.declared.SheetFault.TheVariants.{Overlap as Overlaps, Line, Whole}
+use Rattle.sheet_rules.specs.Answers.{grid_only, SheetAnswer, accepted_with, refused_with, TellsPair}
 use Rattle.sheet_rules.specs.Sheet.{Outcome, run, fold_of, broken_of, with_broken as outcome_with, display_of, no_overlap, overlap_of}
 use Rattle.sheet_rules.specs.Panels.{sized_state, sized_panel, Tables, tables_in, pasted, tables_of}
-use Rattle.sheet_rules.specs.Read.{SheetRead, short_stores, refused_sheet, refused_overlap, read_by, strict_by, read_sheet}
+use Rattle.sheet_rules.specs.Read.{displayed, read_display, SheetRead, short_stores, refused_sheet, refused_overlap, read_by, strict_by, read_sheet}
 use Rattle.sheet_rules.proofs.Fits.{empty_fits_sheet, display_fits}
 use Rattle.sheet_rules.proofs.Chosen.{none-overlap}
 use Rattle.sheet_rules.proofs.Former.{display-other}
@@ -165,6 +165,7 @@ short-false a b m e k = rw (le-ltb a 32768 (omega arith), le-ltb b 32768 (omega 
 refused-number : (f : SheetFault) → (refused_with f).refusal.number ≡ 0 → ⊥
 refused-number (Overlaps p) e = absurd (omega arith)
 refused-number (Line f) e = has_number f.fault e
+refused-number (Whole fault) e = has_number fault e
 
 -- a sheet too long
 pub read_long : (former : Bool) (s : List ℕ) (t : Tables) → 32768 < length s → refused_read (refused_answer unread 0) t ≡ read_under former s t
@@ -325,3 +326,17 @@ under-other false s t z l = go (eqb (overlap_of s).later 0) refl z l
 pub tells_pair : (former : Bool) (s : List ℕ) (t u : Tables) (f : SheetFault) → record { answer = refused_with f; tables = u } ≡ read_under former s t → TellsPair f
 tells_pair former s t u (Overlaps p) e = tt
 tells_pair former s t u (Line g) e = λ z. under-other former s t (ap (λ (r : SheetRead). r.answer.refusal.number) (sym e) ∙ z) (ap (λ (r : SheetRead). r.answer.later) (sym e))
+tells_pair former s t u (Whole fault) e = λ z. under-other former s t (ap (λ (r : SheetRead). r.answer.refusal.number) (sym e) ∙ z) (ap (λ (r : SheetRead). r.answer.later) (sym e))
+
+-- ---- for display
+
+-- an accepted sheet with the pair that was noted
+pub display_read : (s : List ℕ) (t u : Tables) (o : Overlap) (p : Panel) (e l : ℕ) → record { answer = accepted_with o p; tables = u } ≡ read_under true s t → e ≡ o.earlier → l ≡ o.later
+    → record { answer = record { refusal = no_refusal; earlier = e; later = l; grid = p.grid }; tables = u } ≡ read_display s t
+unfolding read_display read_under
+display_read s t u o p e l h i j = rw (i, j) (ap displayed h)
+
+-- a refused one
+pub display_refused : (s : List ℕ) (t u : Tables) (f : SheetFault) → record { answer = refused_with f; tables = u } ≡ read_under true s t → record { answer = grid_only (refused_with f); tables = u } ≡ read_display s t
+unfolding read_display read_under
+display_refused s t u f h = ap displayed h

@@ -7,11 +7,11 @@ use lib.ListN.{length, take, drop}
 use Rattle.coordinates.specs.declared.axis.Axis.{Axis}
 use Rattle.coordinates.specs.declared.axis.Axis.TheVariants.{Column, Row}
 use Rattle.axis_tables.specs.declared.AxisState.{AxisState}
-use Rattle.axis_tables.specs.declared.AxisReading.{AxisReading}
+use Rattle.axis_tables.specs.Readings.{AxisReading}
 use Rattle.axis_tables.specs.Runs.{part_of}
 use Rattle.axis_tables.proofs.Regions.{part_length}
 use Rattle.panel_tables.specs.declared.Panel.{Panel}
-use Rattle.panel_tables.specs.declared.Reading.{Reading}
+use Rattle.panel_tables.specs.Readings.{Reading}
 use Rattle.panel_tables.specs.Axes.{state_in}
 use Rattle.panel_tables.specs.Regions.{panel_words, first_word, axis_words_in, area_words_in, placement_words_in}
 use Rattle.panel_tables.proofs.Regions.{axis-lent, rows_stay, columns-stay, areas-stay, placements-stay}

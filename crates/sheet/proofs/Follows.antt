@@ -11,7 +11,7 @@ use borrow.Author.Tests.{eq-eqb, ne_eqb, eqb-true, eqb-false}
 use Rattle.text.specs.Split.{split}
 use Rattle.sheet_forms.proofs.Firsts.{first_zero}
 use Rattle.axis_tables.specs.declared.AxisState.{AxisState}
-use Rattle.axis_tables.specs.declared.AxisReading.{AxisReading}
+use Rattle.axis_tables.specs.Readings.{AxisReading}
 use Rattle.axis_tables.specs.View.{AxisView}
 use Rattle.axis_tables.specs.Written.{state_of, reading_of, axis_words, words_with, names_store}
 use Rattle.axis_tables.proofs.Fits.{Fits}

@@ -5,6 +5,7 @@ use Rattle.std.specs.Result.{result_unwrap_or}
 use Rattle.sheet_forms.specs.Faults.{first_of}
 use Rattle.sheet_forms.proofs.Together.{fault_number}
 use Rattle.axis_tables.specs.declared.AxisState.{AxisState}
+use Rattle.panel_tables.specs.Readings.{panel_reading}
 use Rattle.panel_tables.specs.Axes.{state_in, with_state}
 use Rattle.sheet_end.specs.End.{answered_end}
 use Prim.Native.Nat.{ℕ, zero, suc, ◌+◌, ◌≤◌, ◌<◌, min}
@@ -256,21 +257,21 @@ module _ (s : List ℕ) (h : PanelHeld) where
 
 -- both axes end in the words of a draft, which then holds what the end leaves
 pub end-held : (d : Draft) (g : ℕ) (u : Panel) (v : List ℕ)
-    → record { fault = g; panel = u; columns = axis_words_in Column v; rows = axis_words_in Row v } ≡ ended_panel d.panel d.reading (axis_words_in Column d.words) (axis_words_in Row d.words)
+    → record { fault = g; panel = u; columns = axis_words_in Column v; rows = axis_words_in Row v } ≡ ended_panel d.panel (panel_reading d.reading) (axis_words_in Column d.words) (axis_words_in Row d.words)
     → area_words_in v ≡ area_words_in d.words → placement_words_in v ≡ placement_words_in d.words
-    → record { fault = g; line = 0; held = panel_held_of u d.reading v d.bytes d.column_bytes d.row_bytes } ≡ held_end 0 (held_of d)
+    → record { fault = g; line = 0; held = panel_held_of u (panel_reading d.reading) v d.bytes d.column_bytes d.row_bytes } ≡ held_end 0 (held_of d)
 unfolding panel_held_of
 end-held d g u v e x y = rw (x, y, ← e)
 
 -- the same from the answers of the two axes, each of which leaves its state as it came where it is refused
 pub ends-with : (d : Draft) (x y : Result AxisState RefusedFor) (v : List ℕ)
     → ended_by d.panel (record { answer = answered_end (state_in d.panel Column) x; words = axis_words_in Column v }) (record { answer = answered_end (state_in d.panel Row) y; words = axis_words_in Row v })
-    ≡ ended_panel d.panel d.reading (axis_words_in Column d.words) (axis_words_in Row d.words)
+    ≡ ended_panel d.panel (panel_reading d.reading) (axis_words_in Column d.words) (axis_words_in Row d.words)
     → area_words_in v ≡ area_words_in d.words → placement_words_in v ≡ placement_words_in d.words
     → record {
       fault = first_of (refused_by x) (refused_by y);
       line = 0;
-      held = panel_held_of (with_state (with_state d.panel Column (result_unwrap_or x (state_in d.panel Column))) Row (result_unwrap_or y (state_in d.panel Row))) d.reading v d.bytes d.column_bytes d.row_bytes;
+      held = panel_held_of (with_state (with_state d.panel Column (result_unwrap_or x (state_in d.panel Column))) Row (result_unwrap_or y (state_in d.panel Row))) (panel_reading d.reading) v d.bytes d.column_bytes d.row_bytes;
     }
     ≡ held_end 0 (held_of d)
 ends-with d (Ok x) (Ok y) v e a b = end-held d _ _ v e a b

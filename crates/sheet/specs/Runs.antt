@@ -4,7 +4,7 @@ use Rattle.text.specs.Split.{split}
 use Rattle.sheet_forms.specs.Faults.{first_of}
 use Rattle.coordinates.specs.declared.axis.Axis.TheVariants.{Column, Row}
 use Rattle.panel_tables.specs.declared.Panel.{Panel}
-use Rattle.panel_tables.specs.declared.Reading.{Reading}
+use Rattle.panel_tables.specs.Readings.{Reading}
 use Rattle.panel_tables.specs.Axes.{state_in}
 use Rattle.panel_tables.specs.Written.{PanelHeld, PanelStepped}
 use Rattle.sheet_rules.specs.declared.Overlap.{Overlap}

@@ -2,7 +2,7 @@
 use Rattle.std.specs.Prelude.{List, ℕ, ◌<◌, ◌≡◌, Bool, cond, eqb, Option, Some, None, Result, Ok, Err}
 use Rattle.coordinates.specs.declared.axis.Axis.{Axis}
 use Rattle.axis_tables.specs.declared.AxisState.{AxisState}
-use Rattle.axis_tables.specs.declared.AxisReading.{AxisReading}
+use Rattle.axis_tables.specs.Readings.{AxisReading}
 use Rattle.axis_tables.specs.Runs.{with_part}
 use Rattle.panel_tables.specs.Regions.{first_word, axis_words_in}
 use Rattle.coordinates.specs.declared.refusal.Fault.{Fault}

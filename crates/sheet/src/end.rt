@@ -2,6 +2,7 @@
 ghost use Rattle.std.specs.Prelude.{◌≡◌, ◌≤◌, length};
 ghost use Rattle.text.specs.Split.{split};
 ghost use Rattle.coordinates.specs.Refusals.{refused_by};
+ghost use Rattle.axis_tables.specs.Readings.{axis_reading};
 ghost use Rattle.sheet_rules.specs.Answers.{noted, NumberedPair};
 ghost use Rattle.sheet_end.specs.End.{answered_end};
 ghost use Rattle.sheet_step.specs.Drafts.{held_of};
@@ -11,7 +12,7 @@ ghost use Rattle.sheet.specs.Steps.{ended_in, at_line, EndsAsRun};
 use crate::SheetRun;
 use crate::lines::read_lines;
 use axis_tables::layout::AXIS_WORDS;
-use axis_tables::{AxisReading, AxisState};
+use axis_tables::{AxisAfter, AxisState};
 use coordinates::{Axis, Fault};
 use panel_tables::axis::{state_in, with_state};
 use panel_tables::region::{PANEL_WORDS, first_word};
@@ -20,18 +21,13 @@ use sheet_rules::LineFault;
 use sheet_step::{Draft, first_refusal};
 
 // One axis, in its part of the words.
-fn end_in(
-    axis: Axis,
-    state: AxisState,
-    reading: AxisReading,
-    words: &mut [u64; PANEL_WORDS],
-) -> Result<AxisState, Fault>
-    ensures ended { record { answer = answered_end state result; words = words.new } ≡ ended_in axis state reading words.old }
+fn end_in(axis: Axis, before: AxisAfter, words: &mut [u64; PANEL_WORDS]) -> Result<AxisState, Fault>
+    ensures ended { record { answer = answered_end before.state result; words = words.new } ≡ ended_in axis before.state (axis_reading before.reading) words.old }
     ensures length { length words.new ≡ 25600 }
 {
     let first = first_word(axis);
     let end = first + AXIS_WORDS;
-    end_axis(state, reading, &mut words[first..end])
+    end_axis(before, &mut words[first..end])
 }
 
 // Both axes: the first of their faults, and the panel with their sizes. All else stays.
@@ -40,13 +36,16 @@ pub(crate) fn end_panel(draft: &mut Draft) -> Result<(), Fault>
 {
     let columns = state_in(draft.panel, Axis::Column);
     let rows = state_in(draft.panel, Axis::Row);
-    let columns_end = end_in(
-        Axis::Column,
-        columns,
-        draft.reading.columns,
-        &mut draft.words,
-    );
-    let rows_end = end_in(Axis::Row, rows, draft.reading.rows, &mut draft.words);
+    let columns_before = AxisAfter {
+        state: columns,
+        reading: draft.reading.columns,
+    };
+    let rows_before = AxisAfter {
+        state: rows,
+        reading: draft.reading.rows,
+    };
+    let columns_end = end_in(Axis::Column, columns_before, &mut draft.words);
+    let rows_end = end_in(Axis::Row, rows_before, &mut draft.words);
     let columns_ended = with_state(draft.panel, Axis::Column, columns_end.unwrap_or(columns));
     draft.panel = with_state(columns_ended, Axis::Row, rows_end.unwrap_or(rows));
     first_refusal(columns_end, rows_end)

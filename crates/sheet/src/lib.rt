@@ -27,7 +27,7 @@ pub(crate) struct SheetRun {
 }
 
 // The panel of a sheet, and the first two of its areas that share a cell.
-#[derive(Clone, Copy)]
+#[derive(Clone, Copy, Debug, PartialEq, Eq)]
 pub(crate) struct ReadPanel {
     pub panel: Panel,
     pub overlap: Option<Overlap>,

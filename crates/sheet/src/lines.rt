@@ -14,10 +14,7 @@ use panel_tables::area::MOST_AREAS;
 use picture_end::last_broken_row;
 use sheet_rules::{LineFault, Overlap};
 use sheet_step::{Draft, read_line};
-use text::split::find;
-
-// What ends a line.
-const LINE_FEED: u8 = 10;
+use text::{LINE_FEED, part_end};
 
 // The overlap of a line, numbered from 1: the area that it shares a cell with, and its own, which comes after so many.
 fn overlap_at(shared: Option<u32>, areas: u32, line: u32) -> Option<Overlap>
@@ -47,7 +44,7 @@ fn broken_line(
     ensures line { line_or_none result ≡ or_line (line_or_none noted) (broken_note broken (split 9 text.now) (lines_from (split 10 (drop next sheet.now))) line) }
     ensures positive { IsLine result }
 {
-    if noted.is_none() && last_broken_row(broken, text, sheet, next) {
+    if noted.is_none() && last_broken_row(broken, text, sheet.get(next..).unwrap_or(&[])) {
         return Some(line);
     }
     noted
@@ -67,7 +64,7 @@ pub(crate) fn read_lines(sheet: &[u8], draft: &mut Draft) -> LinesRead
     let mut at: usize = 0;
     let mut line: u32 = 1;
     while at < sheet.len() {
-        let end = find(sheet, at, LINE_FEED);
+        let end = part_end(sheet, at, LINE_FEED);
         if end == sheet.len() {
             let end = Err(LineFault {
                 fault: Fault::Unread,

@@ -15,18 +15,11 @@ use coordinates::Fault;
 use panel_tables::Panel;
 use panel_tables::region::{PANEL_BYTES, PANEL_WORDS};
 use panel_tables::state::{zero_panel, zero_panel_reading};
-use sheet_rules::{Display, LineFault, SheetFault};
+use sheet_rules::{Display, SheetFault};
 use sheet_step::Draft;
 
 // The most bytes of a sheet.
 const SHEET_BYTES: usize = 32768;
-
-// A fault of the sheet as a whole.
-fn whole_fault(fault: Fault) -> SheetFault
-    ensures { result ≡ SheetFault.Line (record { fault = fault; line = 0 }) }
-{
-    SheetFault::Line(LineFault { fault, line: 0 })
-}
 
 // What a sheet is refused by: two areas that share a cell, but not under the former rule, else its own fault.
 fn judged(former: bool, run: SheetRun) -> Result<(), SheetFault>
@@ -35,7 +28,7 @@ fn judged(former: bool, run: SheetRun) -> Result<(), SheetFault>
 {
     match run.overlap {
         Some(overlap) if !former => Err(SheetFault::Overlap(overlap)),
-        _ => run.end.map_err(|fault| SheetFault::Line(fault)),
+        _ => run.end.map_err(SheetFault::Line),
     }
 }
 
@@ -62,7 +55,7 @@ fn read_tables(
     ensures fault { IfErr result (λ f. TellsPair f) }
 {
     if SHEET_BYTES < sheet.len() {
-        return Err(whole_fault(Fault::Unread));
+        return Err(SheetFault::Whole(Fault::Unread));
     }
     let mut draft = Draft {
         panel: zero_panel(),
@@ -76,7 +69,7 @@ fn read_tables(
     judged(former, run)?;
     let shorter = columnstore.len().min(rowstore.len());
     if shorter < AXIS_BYTES {
-        return Err(whole_fault(Fault::Short));
+        return Err(SheetFault::Whole(Fault::Short));
     }
     let panel = draft.panel;
     *words = draft.words;

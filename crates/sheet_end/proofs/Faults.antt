@@ -1,25 +1,24 @@
 -- The faults of the end of a sheet, as the code finds them, and what the code answers. Assumes nothing.
 use Rattle.std.specs.Prelude.{Some, None, Ok, Err}
-use Prim.Native.Nat.{ℕ, ◌≤◌, ◌<◌, min}
-use mathlib.Core.Path.{◌≡◌, refl}
+use Prim.Native.Nat.{ℕ, ◌≤◌, ◌<◌}
+use mathlib.Core.Path.{◌≡◌, refl, ap}
 use mathlib.Core.Bool.{Bool, true, false, cond}
 use mathlib.Core.List.{List, map}
 use native.Mathlib.Omega.{arith}
-use borrow.Author.Tests.{lt-ltb, le-ltb, ltb-false}
+use borrow.Author.Tests.{eqb-false, ltb-false}
 use lib.Dec.{ltb}
 use lib.ListN.{length}
 use lib.Seq.{sets}
 use Rattle.coordinates.specs.declared.refusal.Fault.{Fault}
-use Rattle.coordinates.specs.Refusals.{number_of}
+use Rattle.coordinates.specs.Refusals.{no_refusal, refusal_of, number_of}
 use Rattle.template_rules.specs.declared.ExplicitSize.{ExplicitSize}
 use Rattle.template_rules.specs.Explicit.{answered_size}
 use Rattle.name_entries.specs.declared.NameEntry.{NameEntry}
-use Rattle.name_template.specs.Writing.{entry_word}
+use Rattle.name_template.specs.Writing.{answered_names, entry_word}
 use Rattle.sheet_forms.proofs.Together.{fault_number}
 use Rattle.axis_tables.specs.declared.AxisState.{AxisState}
-use Rattle.axis_tables.specs.declared.AxisReading.{AxisReading}
-use Rattle.axis_tables.specs.declared.OpenRepeat.{OpenRepeat}
-use Rattle.sheet_end.specs.End.{size_in, entries_by, sized_by, end_fault_in, EndedAxis, answered_end, end_in}
+use Rattle.axis_tables.specs.Readings.{AxisReading, OpenRepeat}
+use Rattle.sheet_end.specs.End.{size_in, entries_by, EntriesPut, entries_put, sized_by, end_fault_in, EndedAxis, answered_end, end_in}
 
 -- a limit that gives no fault is kept
 pub kept : (most n number : ℕ) → 0 < number → cond (ltb most n) number 0 ≡ 0 → n ≤ most
@@ -45,19 +44,32 @@ module _ (s : AxisState) (r : AxisReading) (w : List ℕ) where
     unfolding end_in
     unsized_end f e = rw (unsized-fault f e, fault_number f)
 
-    -- entries counted up to 4,097, beside a size
-    module _ (size : ExplicitSize) (sized : answered_size (Ok size) ≡ size_in s w) (n : ℕ) (counted : n ≡ min 4097 (length (entries_by s w (answered_size (Ok size))))) where
+    -- entries put into the words, beside a size
+    module _ (size : ExplicitSize) (sized : answered_size (Ok size) ≡ size_in s w) (after : List ℕ) where
       abbrev entries : List NameEntry
       entries = entries_by s w (answered_size (Ok size))
 
-      pub crowded_end : 4096 < n → ◌≡◌ {A = EndedAxis} (record { answer = record { fault = 8; state = s }; words = w }) (end_in s r w)
+      abbrev put_by : Bool → EntriesPut
+      put_by t =
+          cond t (record { answer = record { refusal = refusal_of 8; count = 0 }; words = w })
+          (record { answer = record { refusal = no_refusal; count = length entries }; words = sets w 8384 (map entry_word entries) })
+
+      crowded_by : (f : Fault) (t : Bool) → ltb 4096 (length entries) ≡ t → ◌≡◌ {A = EntriesPut} (record { answer = answered_names (Err f); words = after }) (put_by t)
+          → ◌≡◌ {A = EndedAxis} (record { answer = answered_end s (Err f); words = after }) (end_in s r w)
       unfolding end_in end_fault_in
-      crowded_end h = rw (closed, ← sized, lt-ltb 4096 (length entries) (omega arith))
+      crowded_by f true q z = rw (closed, ← sized, q, ap (λ (x : EntriesPut). x.answer.refusal.number) z, ap (λ (x : EntriesPut). x.words) z)
+      crowded_by f false q z = absurd (eqb-false (number_of f) 0 (fault_number f) (ap (λ (x : EntriesPut). x.answer.refusal.number) z))
 
-      pub count-is : n ≤ 4096 → n ≡ length entries
-      count-is h = omega arith
+      pub crowded_end : (f : Fault) → ◌≡◌ {A = EntriesPut} (record { answer = answered_names (Err f); words = after }) (entries_put w entries)
+          → ◌≡◌ {A = EndedAxis} (record { answer = answered_end s (Err f); words = after }) (end_in s r w)
+      crowded_end f e = crowded_by f (ltb 4096 (length entries)) refl e
 
-      pub accepted-end : n ≤ 4096 → (after : List ℕ) → after ≡ sets w 8384 (map entry_word entries)
+      accepted_by : (n : ℕ) (t : Bool) → ltb 4096 (length entries) ≡ t → ◌≡◌ {A = EntriesPut} (record { answer = answered_names (Ok n); words = after }) (put_by t)
           → ◌≡◌ {A = EndedAxis} (record { answer = record { fault = 0; state = sized_by s n (answered_size (Ok size)) }; words = after }) (end_in s r w)
       unfolding end_in end_fault_in
-      accepted-end h after e = rw (closed, ← sized, le-ltb 4096 (length entries) (omega arith), ← count-is h, e)
+      accepted_by n true q z = absurd (omega (arith, ap (λ (x : EntriesPut). x.answer.refusal.number) z))
+      accepted_by n false q z = rw (closed, ← sized, q, ap (λ (x : EntriesPut). x.words) z, ap (λ (x : EntriesPut). x.answer.count) z)
+
+      pub accepted-end : (n : ℕ) → ◌≡◌ {A = EntriesPut} (record { answer = answered_names (Ok n); words = after }) (entries_put w entries)
+          → ◌≡◌ {A = EndedAxis} (record { answer = record { fault = 0; state = sized_by s n (answered_size (Ok size)) }; words = after }) (end_in s r w)
+      accepted-end n e = accepted_by n (ltb 4096 (length entries)) refl e

@@ -5,15 +5,15 @@ use Rattle.coordinates.specs.declared.refusal.Fault.{Fault}
 use Rattle.coordinates.specs.Refusals.{number_of}
 use Rattle.sizing.specs.Words.{float_up_to, largest_bits, sizing_of}
 use Rattle.template_rules.specs.declared.AutoRepeatStrategy.{AutoRepeatStrategy}
-use Rattle.template_rules.specs.declared.AutoRepeatStrategy.TheVariants.{MaxRepetitionsThatDoNotOverflow, MinRepetitionsThatDoOverflow}
+use Rattle.template_rules.specs.Strategies.{strategy_of}
 use Rattle.template_rules.specs.Explicit.{SizeAnswer, explicit_size_of}
 use Rattle.template_rules.specs.Template.{template_of}
 use Rattle.name_entries.specs.declared.NameEntry.{NameEntry}
-use Rattle.name_template.specs.Writing.{written_entries, entry_word}
+use Rattle.coordinates.specs.Refusals.{no_refusal, refusal_of}
+use Rattle.name_template.specs.Writing.{written_entries, entry_word, WrittenNames}
 use Rattle.axis_tables.specs.declared.AxisSpace.{AxisSpace}
 use Rattle.axis_tables.specs.declared.AxisState.{AxisState}
-use Rattle.axis_tables.specs.declared.AxisReading.{AxisReading}
-use Rattle.axis_tables.specs.declared.OpenRepeat.{OpenRepeat}
+use Rattle.axis_tables.specs.Readings.{AxisReading, OpenRepeat}
 use Rattle.axis_tables.specs.Store.{zero_template}
 use Rattle.axis_tables.specs.Runs.{part_of}
 use Rattle.sheet_rules.specs.Panels.{with_size}
@@ -24,7 +24,7 @@ inner_in s = cond (eqb s.definite 0) None (Some (float_up_to largest_bits s.inne
 
 -- rule 0 is `max`, 1 is `min`
 abbrev pub strategy_in : AxisSpace → AutoRepeatStrategy
-strategy_in s = cond (eqb s.rule 0) MaxRepetitionsThatDoNotOverflow MinRepetitionsThatDoOverflow
+strategy_in s = strategy_of s.rule
 
 -- the words of the components, and of the name records
 abbrev pub components_in : AxisState → List ℕ → List ℕ
@@ -44,6 +44,17 @@ entries_by s w size = cond (eqb size.template 0) [] (written_entries (names_in s
 
 abbrev pub entries_in : AxisState → List ℕ → List NameEntry
 entries_in s w = entries_by s w (size_in s w)
+
+-- how many entries were put into their region, or a refusal and 0, and what the words hold then
+pub record EntriesPut : Type 0 where
+  pub answer : WrittenNames
+  pub words : List ℕ
+
+-- entries in their region of the words; crowded where they are more than 4,096, and then the words stay
+abbrev pub entries_put : List ℕ → List NameEntry → EntriesPut
+entries_put w es =
+    cond (ltb 4096 (length es)) (record { answer = record { refusal = refusal_of 8; count = 0 }; words = w })
+    (record { answer = record { refusal = no_refusal; count = length es }; words = sets w 8384 (map entry_word es) })
 
 -- a state with so many entries and a size found: the template's counts are those written, or 0 where it counts as none
 abbrev pub sized_by : AxisState → ℕ → SizeAnswer → AxisState

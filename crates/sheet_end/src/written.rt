@@ -1,15 +1,18 @@
 // The name entries of an axis, written out of its names and components.
-ghost use Rattle.std.specs.Prelude.{◌≡◌, map, ◌≤◌, min, length, Ok};
-ghost use Rattle.std.proofs.lemmas.List.Edits.{sets};
+ghost use Rattle.std.specs.Prelude.{◌≡◌, Ok};
 ghost use Rattle.template_rules.specs.Explicit.{answered_size};
-ghost use Rattle.name_template.specs.Writing.{entry_word};
-ghost use Rattle.sheet_end.specs.End.{components_in, names_in, entries_by};
+ghost use Rattle.name_template.specs.Writing.{answered_names};
+ghost use Rattle.sheet_end.specs.End.{EntriesPut, components_in, names_in, entries_by, entries_put};
 
 use axis_tables::AxisState;
 use axis_tables::layout::{ENTRIES, NAMES, part_from};
+use axis_tables::write::copy_what_fits;
 use coordinates::Fault;
 use name_template::TemplateNames;
 use template_rules::ExplicitSize;
+
+// The most name entries of an axis.
+const MOST_ENTRIES: usize = 4096;
 
 // The names of an axis's template, with the repetitions of its automatic repeat.
 fn names_of(state: AxisState, repetitions: u32, words: &[u64]) -> TemplateNames
@@ -24,38 +27,20 @@ fn names_of(state: AxisState, repetitions: u32, words: &[u64]) -> TemplateNames
     }
 }
 
-// How many entries an axis of that size has, held at 4,097: none where its template counts as none.
-#[tactic(auto, unfolding(crate::specs::End::entries_by))]
-pub fn count_entries(state: AxisState, size: ExplicitSize, words: &[u64]) -> u32
-    ensures { result ≡ min 4097 (length (entries_by state words.now (answered_size (Ok size)))) }
+// Writes the entries of an axis into their place in the words, and answers how many there are: none where its template counts as none.
+// 8: more than 4,096, and then the words stay. Names and entries lie in the same words, so a table of its own is written first.
+pub(crate) fn put_entries(
+    state: AxisState,
+    size: ExplicitSize,
+    words: &mut [u64],
+) -> Result<u32, Fault>
+    ensures { record { answer = answered_names result; words = words.new } ≡ entries_put words.old (entries_by state words.old (answered_size (Ok size))) }
 {
     if size.template == 0 {
-        return 0;
+        return Ok(0);
     }
-    names_of(state, size.repetitions, words).count_names()
-}
-
-// Copies a table into the words from a place on, as far as they reach.
-#[tactic(auto, using(axis_tables::proofs::Sets::put_sets, axis_tables::proofs::Sets::sets_past, axis_tables::proofs::Sets::sets_cut))]
-fn copy_words(words: &mut [u64], at: usize, table: &[u64])
-    ensures { words.new ≡ sets words.old at table.now }
-{
-    if at < words.len() {
-        let fitting = table.len().min(words.len() - at);
-        words[at..at + fitting].copy_from_slice(&table[..fitting]);
-    }
-}
-
-// Writes the entries of an axis into their place in the words. Names and entries lie in the same words, so a table of its own
-// is written first, where there are entries.
-pub(crate) fn put_entries(state: AxisState, size: ExplicitSize, count: u32, words: &mut [u64])
-    requires { (count ≡ length (entries_by state words.old (answered_size (Ok size)))) × (count ≤ 4096) }
-    ensures { words.new ≡ sets words.old 8384 (map entry_word (entries_by state words.old (answered_size (Ok size)))) }
-{
-    if count == 0 {
-        return;
-    }
-    let mut entries = [0u64; 4096];
-    let _ = names_of(state, size.repetitions, words).write_names(&mut entries);
-    copy_words(words, ENTRIES, part_from(&entries, 0, count));
+    let mut entries = [0u64; MOST_ENTRIES];
+    let count = names_of(state, size.repetitions, words).write_names(&mut entries)?;
+    copy_what_fits(words, ENTRIES, part_from(&entries, 0, count));
+    Ok(count)
 }

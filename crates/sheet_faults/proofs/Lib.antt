@@ -2,3 +2,4 @@
 pub mod Same
 pub mod Noted
 pub mod Parts
+pub mod Stages

@@ -26,6 +26,7 @@ use Rattle.panel_cells.proofs.Search.{sharing-back}
 use Rattle.sheet_rules.specs.Lines.{edges_of, late_at, record_step, twice_fault, stage_of, late_fault, shared_with, record_fault, strict_fault, line_fault, shared_at, at_stage as view_at_stage, record_outcome, line_step}
 use Rattle.sheet_rules.specs.Steps.{held_step}
 use Rattle.sheet_rules.proofs.Fits.{FitsSheet}
+use Rattle.sheet_rules.proofs.LineTheorem.{outcome-fault}
 use Rattle.sheet_rules.proofs.Same.{record_same}
 use Rattle.sheet_faults.specs.Lines.{twice_in, stage_in, late_in, fault_before, shared_in, noted_by, at_stage, record_in, line_in, line_shared}
 
@@ -108,15 +109,6 @@ module _ (v : PanelView) (sheet : FitsSheet v) (fs : List (List ℕ)) where
       ∙ first_joined a (first_of b c) d
       ∙ ap (first_of a) (first_joined b c d)
 
-  -- the fault of the view's outcome
-  outcome-fault : (r : Record) → (record_outcome v fs r).fault ≡ record_fault v fs r
-  outcome-fault r = go (eqb (record_fault v fs r) 0) refl
-    where
-      go : (t : Bool) → eqb (record_fault v fs r) 0 ≡ t
-          → (cond t (accepted (view_at_stage (stage_of v r) (record_step v fs r).panel)) (refused (record_fault v fs r) v)).fault ≡ record_fault v fs r
-      go true e = sym (eqb-true (record_fault v fs r) 0 e)
-      go false e = refl
-
   -- the kind order is in the reading alone
   stage-held : (n : ℕ) (w : PanelView) → at_stage n (held_panel w) ≡ held_panel (view_at_stage n w)
   unfolding held_panel
@@ -143,12 +135,12 @@ module _ (v : PanelView) (sheet : FitsSheet v) (fs : List (List ℕ)) where
 -- a line has the fault that it has on the view
 pub line_fault_lem : (v : PanelView) → FitsSheet v → (fs : List (List ℕ)) → (line_in (held_panel v) fs).fault ≡ (line_step v fs).fault
 unfolding line_in line_step
-line_fault_lem v f fs = record-fault v f fs (record_of fs) (record_bounded fs) ∙ sym (outcome-fault v f fs (record_of fs))
+line_fault_lem v f fs = record-fault v f fs (record_of fs) (record_bounded fs) ∙ sym (outcome-fault v fs (record_of fs))
 
 -- and where that is none, what is held then is what is held for the view after it
 pub line-held : (v : PanelView) → FitsSheet v → (fs : List (List ℕ)) → (line_step v fs).fault ≡ 0 → (line_in (held_panel v) fs).held ≡ held_panel (line_step v fs).panel
 unfolding line_in line_step
-line-held v f fs e = record-held v f fs (record_of fs) (record_bounded fs) (sym (outcome-fault v f fs (record_of fs)) ∙ e)
+line-held v f fs e = record-held v f fs (record_of fs) (record_bounded fs) (sym (outcome-fault v fs (record_of fs)) ∙ e)
 
 -- ---- the overlap
 

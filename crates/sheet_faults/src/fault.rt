@@ -1,6 +1,7 @@
 // The faults that a record has before it is written: by itself, by an earlier record of the same, by the kind order.
-ghost use Rattle.std.specs.Prelude.{◌≡◌};
+ghost use Rattle.std.specs.Prelude.{◌≡◌, Ok};
 ghost use Rattle.coordinates.specs.Refusals.{fault_number};
+ghost use Rattle.panel_tables.specs.Readings.{stage_number, panel_reading};
 ghost use Rattle.sheet_forms.specs.Answers.{said_of};
 ghost use Rattle.sheet_forms.specs.Records.{fault_of};
 ghost use Rattle.sheet_rules.specs.Lines.{late_at};
@@ -11,6 +12,7 @@ use coordinates::{Axis, Fault};
 use panel_tables::Reading;
 use panel_tables::area::has_area;
 use panel_tables::axis::reading_in;
+use panel_tables::stage::Stage;
 use sheet_forms::{Record, first_fault};
 
 // The areas that stand before a line: how many, their words, and the bytes of their names.
@@ -21,99 +23,82 @@ pub struct AreasBefore<'a> {
     pub bytes: &'a [u8],
 }
 
-// The fault of a line by itself.
-fn own(said: Result<Record, Fault>) -> Option<Fault>
-    ensures { fault_number result ≡ fault_of (said_of said) }
+// The fault of a record by itself.
+fn own(said: Record) -> Option<Fault>
+    ensures { fault_number result ≡ fault_of (said_of (Ok said)) }
 {
     match said {
-        Err(fault) => Some(fault),
-        Ok(Record::Repeat(_, repetition)) => repetition.err(),
-        Ok(_) => None,
+        Record::Repeat(_, repetition) => repetition.err(),
+        _ => None,
     }
 }
 
 // An axis record again.
 fn axis_twice(reading: Reading, axis: Axis) -> Option<Fault>
-    ensures { fault_number result ≡ axis_twice reading axis }
+    ensures { fault_number result ≡ axis_twice (panel_reading reading) axis }
 {
-    if reading_in(reading, axis).seen {
-        return Some(Fault::Twice);
-    }
-    None
+    reading_in(reading, axis).seen.then_some(Fault::Twice)
 }
 
 // An area name again.
 fn area_twice(areas: AreasBefore<'_>, name: &[u8]) -> Option<Fault>
     ensures { fault_number result ≡ area_twice areas.entry.count areas.entry.words.now areas.entry.bytes.now name.now }
 {
-    if has_area(areas.count, areas.words, areas.bytes, name) {
-        return Some(Fault::Twice);
-    }
-    None
+    has_area(areas.count, areas.words, areas.bytes, name).then_some(Fault::Twice)
 }
 
 // An area name or axis record again, where a record's first name is `name`.
-fn twice(
-    areas: AreasBefore<'_>,
-    reading: Reading,
-    name: &[u8],
-    said: Result<Record, Fault>,
-) -> Option<Fault>
-    ensures { fault_number result ≡ twice_of areas.entry.count reading areas.entry.words.now areas.entry.bytes.now name.now (said_of said) }
+fn twice(areas: AreasBefore<'_>, reading: Reading, name: &[u8], said: Record) -> Option<Fault>
+    ensures { fault_number result ≡ twice_of areas.entry.count (panel_reading reading) areas.entry.words.now areas.entry.bytes.now name.now (said_of (Ok said)) }
 {
     match said {
-        Ok(Record::Axis(a)) => axis_twice(reading, a.axis),
-        Ok(Record::Area(_)) => area_twice(areas, name),
+        Record::Axis(a) => axis_twice(reading, a.axis),
+        Record::Area(_) => area_twice(areas, name),
         _ => None,
     }
 }
 
-// The kind order: `axis` records, then areas, or the rows of a picture, then the rest.
-const AREAS: u32 = 1;
-
-pub const ROWS: u32 = 2;
-
-const REST: u32 = 3;
-
-// Whether a place in the kind order comes too late: after a later one, or a row after an area.
-pub fn late_at(place: u32, reached: u32) -> bool
-    ensures { result ≡ late_at place reached }
+// Whether a stage of the kind order comes too late: after a later one, or a row after an area.
+pub fn late_at(place: Stage, reached: Stage) -> bool
+    ensures { result ≡ late_at (stage_number place) (stage_number reached) }
 {
-    place < reached || (place == ROWS && reached == AREAS)
+    place < reached || (place == Stage::Rows && reached == Stage::Areas)
 }
 
-// The place of a record in the kind order; a line that is no record keeps the one reached.
-pub fn stage(reached: u32, said: Result<Record, Fault>) -> u32
-    ensures { result ≡ stage_in reached (said_of said) }
+// The stage of a record in the kind order; a line that is no record keeps the one reached.
+pub fn stage(reached: Stage, said: Result<Record, Fault>) -> Stage
+    ensures { stage_number result ≡ stage_in (stage_number reached) (said_of said) }
 {
     match said {
         Err(_) => reached,
-        Ok(Record::Axis(_)) => 0,
-        Ok(Record::Area(_)) => AREAS,
-        Ok(Record::PictureRow(_)) => ROWS,
-        Ok(_) => REST,
+        Ok(Record::Axis(_)) => Stage::Axes,
+        Ok(Record::Area(_)) => Stage::Areas,
+        Ok(Record::PictureRow(_)) => Stage::Rows,
+        Ok(_) => Stage::Rest,
     }
 }
 
 // A record earlier in kind than one before it.
-fn late(reached: u32, said: Result<Record, Fault>) -> Option<Fault>
-    ensures { fault_number result ≡ late_in reached (said_of said) }
+fn late(reached: Stage, said: Record) -> Option<Fault>
+    ensures { fault_number result ≡ late_in (stage_number reached) (said_of (Ok said)) }
 {
-    if late_at(stage(reached, said), reached) {
-        return Some(Fault::Late);
-    }
-    None
+    late_at(stage(reached, Ok(said)), reached).then_some(Fault::Late)
 }
 
-// Of the faults that a record whose first name is `name` has before it is written, the one that comes first.
+// Of the faults that a record whose first name is `name` has before it is written, the one that comes first; a line that is no record has its
+// own alone.
 pub fn fault_before(
     areas: AreasBefore<'_>,
     reading: Reading,
     name: &[u8],
     said: Result<Record, Fault>,
 ) -> Option<Fault>
-    ensures { fault_number result ≡ before_of areas.entry.count reading areas.entry.words.now areas.entry.bytes.now name.now (said_of said) }
+    ensures { fault_number result ≡ before_of areas.entry.count (panel_reading reading) areas.entry.words.now areas.entry.bytes.now name.now (said_of said) }
 {
+    let said = match said {
+        Ok(said) => said,
+        Err(fault) => return Some(fault),
+    };
     let first = own(said);
     let again = twice(areas, reading, name, said);
     let after = late(reading.stage, said);

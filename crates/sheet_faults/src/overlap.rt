@@ -38,10 +38,7 @@ pub fn shared(count: u32, areas: &[u64], said: Result<Record, Fault>) -> Option<
 fn overlap_fault(shared: Option<u32>) -> Option<Fault>
     ensures { fault_number result ≡ cond (eqb (area_number_of shared) 0) 0 12 }
 {
-    match shared {
-        Some(_) => Some(Fault::Overlap),
-        None => None,
-    }
+    shared.map(|_| Fault::Overlap)
 }
 
 // The area that a line shares a cell with, where that is the first of its faults: `before` are those that it has before it is written,

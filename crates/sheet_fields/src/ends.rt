@@ -7,7 +7,7 @@ ghost use Rattle.sheet_forms.specs.Fields.{count_of};
 ghost use Rattle.sheet_forms.specs.Ends.{end_kind, unused_name, end_name, index_field, span_field, unused_number, end_number, end_of};
 
 use coordinates::Fault;
-use sheet_forms::field::{count, number_fault};
+use sheet_forms::field::count;
 use sheet_forms::{EndKind, PlaceEnd, both, check_name};
 use text::read_index;
 
@@ -32,9 +32,10 @@ fn unused_name(f: &[u8]) -> Result<(), Fault>
     ensures { refused_by result ≡ unused_name f.now }
 {
     if f == b"-".as_slice() {
-        return Ok(());
+        Ok(())
+    } else {
+        Err(Fault::Unread)
     }
-    Err(Fault::Unread)
 }
 
 // The name of an end: `named` and `nspan` use theirs.
@@ -52,7 +53,7 @@ fn end_name(kind: EndKind, f: &[u8]) -> Result<(), Fault>
 fn index(f: &[u8]) -> Result<i32, Fault>
     ensures { integer_said result ≡ index_field (index_in (whole_of f.now)) }
 {
-    read_index(f).map_err(number_fault)
+    Ok(read_index(f)?)
 }
 
 // A span.
@@ -60,29 +61,32 @@ fn index(f: &[u8]) -> Result<i32, Fault>
 fn span(f: &[u8]) -> Result<i32, Fault>
     ensures { integer_said result ≡ span_field (count_of 0 65535 f.now) }
 {
-    Ok(count(f, 0, 65535)? as i32)
+    Ok(count(f, 0, u32::from(u16::MAX))? as i32)
 }
 
 // An unused number is 0.
 #[tactic(auto, using(text::proofs::Library::same_pointwise))]
-fn unused_number(f: &[u8]) -> Result<i32, Fault>
-    ensures { integer_said result ≡ unused_number f.now }
+fn unused_number(f: &[u8]) -> Result<(), Fault>
+    ensures { refused_by result ≡ (unused_number f.now).fault }
 {
     if f == b"0".as_slice() {
-        return Ok(0);
+        Ok(())
+    } else {
+        Err(Fault::Unread)
     }
-    Err(Fault::Unread)
 }
 
-// The number of an end: a line index of `line` and `named`, a span of `span` and `nspan`.
+// An end of that kind with its number: a line index of `line` and `named`, a span of `span` and `nspan`.
 #[tactic(auto, unfolding(sheet_forms::specs::Ends::end_number))]
-fn end_number(kind: EndKind, f: &[u8]) -> Result<i32, Fault>
-    ensures { integer_said result ≡ end_number (end_kind_number kind) f.now }
+fn end_number(kind: EndKind, f: &[u8]) -> Result<PlaceEnd, Fault>
+    ensures { end_said result ≡ end_where_read (record { fault = (end_number (end_kind_number kind) f.now).fault; end = record { kind = end_kind_number kind; number = (end_number (end_kind_number kind) f.now).value } }) }
 {
     match kind {
-        EndKind::Auto => unused_number(f),
-        EndKind::Line | EndKind::Named => index(f),
-        EndKind::Span | EndKind::NamedSpan => span(f),
+        EndKind::Auto => unused_number(f).map(|()| PlaceEnd::Auto),
+        EndKind::Line => index(f).map(PlaceEnd::Line),
+        EndKind::Named => index(f).map(PlaceEnd::Named),
+        EndKind::Span => span(f).map(PlaceEnd::Span),
+        EndKind::NamedSpan => span(f).map(PlaceEnd::NamedSpan),
     }
 }
 
@@ -91,9 +95,7 @@ fn end_number(kind: EndKind, f: &[u8]) -> Result<i32, Fault>
 pub fn end(f: &[u8], name: &[u8], number: &[u8]) -> Result<PlaceEnd, Fault>
     ensures { end_said result ≡ end_where_read (end_of f.now name.now number.now) }
 {
-    let Some(kind) = kind(f) else {
-        return Err(Fault::Unread);
-    };
-    let ((), number) = both(end_name(kind, name), end_number(kind, number))?;
-    Ok(PlaceEnd { kind, number })
+    let kind = kind(f).ok_or(Fault::Unread)?;
+    let ((), end) = both(end_name(kind, name), end_number(kind, number))?;
+    Ok(end)
 }

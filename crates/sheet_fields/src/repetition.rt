@@ -15,6 +15,6 @@ pub fn repetition(f: &[u8]) -> Result<Repetition, Fault>
     match f {
         b"fill" => Ok(Repetition::Fill),
         b"fit" => Ok(Repetition::Fit),
-        _ => Ok(Repetition::Count(count(f, 0, 65535)?)),
+        _ => Ok(Repetition::Count(count(f, 0, u32::from(u16::MAX))?)),
     }
 }

@@ -70,9 +70,10 @@ pub fn inner(f: &[u8]) -> Result<Option<u32>, Fault>
     if f == b"-".as_slice() {
         return Ok(None);
     }
-    match read_bits(f) {
-        None => Err(Fault::Unread),
-        Some(bits) if length_in_range(bits) => Ok(Some(bits)),
-        Some(_) => Err(Fault::Value),
+    let bits = read_bits(f).ok_or(Fault::Unread)?;
+    if length_in_range(bits) {
+        Ok(Some(bits))
+    } else {
+        Err(Fault::Value)
     }
 }

@@ -1,6 +1,6 @@
 -- A record of several parts, or the first of their faults. Assumes nothing.
-use Rattle.std.specs.Prelude.{ℕ, ◌≡◌, Bool, true, false, cond, eqb, Result, Ok, Err}
-use Rattle.std.proofs.Common.{refl, sym, ap, ◌∙◌}
+use Rattle.std.specs.Prelude.{ℕ, ◌≡◌, Bool, true, false, eqb, Result}
+use Rattle.std.proofs.Common.{refl, ap, ◌∙◌}
 use Rattle.coordinates.specs.declared.refusal.Fault.{Fault as RefusedFor}
 use Rattle.coordinates.specs.Refusals.{number_of, refused_by}
 use Rattle.sheet_forms.specs.Faults.{first_of}

@@ -5,19 +5,18 @@ use Rattle.coordinates.specs.declared.axis.Axis.{Axis as AxisName}
 use Rattle.coordinates.specs.declared.axis.Axis.TheVariants.{Column}
 use Rattle.coordinates.specs.declared.refusal.Fault.{Fault as RefusedFor}
 use Rattle.coordinates.specs.Refusals.{number_of, refused_by}
-use Rattle.coordinates.specs.declared.refusal.Fault.TheVariants.{Unread, Count as OutOfRange}
-use Rattle.text.specs.declared.NumberFault.{NumberFault}
-use Rattle.text.specs.declared.NumberFault.TheVariants.{Unread as NotRead, Outside}
 use Rattle.sizing.specs.declared.kind.Kind.{Kind}
 use Rattle.sizing.specs.Kinds.{number_of_kind}
 use Rattle.template_rules.specs.declared.AutoRepeatStrategy.{AutoRepeatStrategy}
-use Rattle.template_rules.specs.declared.AutoRepeatStrategy.TheVariants.{MaxRepetitionsThatDoNotOverflow, MinRepetitionsThatDoOverflow}
+use Rattle.template_rules.specs.declared.AutoRepeatStrategy.TheVariants.{MaxRepetitionsThatDoNotOverflow}
+pub use Rattle.template_rules.specs.Strategies.{rule_number}
 use Rattle.sheet_forms.specs.declared.AxisRecord.{AxisRecord as AxisRead}
 use Rattle.sheet_forms.specs.declared.Repetition.{Repetition}
 use Rattle.sheet_forms.specs.declared.Repetition.TheVariants.{Count, Fill, Fit}
 use Rattle.sheet_forms.specs.declared.EndKind.{EndKind}
 use Rattle.sheet_forms.specs.declared.EndKind.TheVariants.{Auto, Line, Named, Span, NamedSpan}
 use Rattle.sheet_forms.specs.declared.PlaceEnd.{PlaceEnd as EndRead}
+use Rattle.sheet_forms.specs.declared.PlaceEnd.TheVariants.{Auto as AutoEnd, Line as LineEnd, Named as NamedEnd, Span as SpanEnd, NamedSpan as NamedSpanEnd}
 use Rattle.sheet_forms.specs.declared.Record.{Record as Read}
 use Rattle.sheet_forms.specs.declared.Record.TheVariants.{Axis as ReadAxis, Area as ReadArea, Name as ReadName, Track as ReadTrack, Repeat as ReadRepeat, End as ReadEnd, Spare as ReadSpare, Extra as ReadExtra, Item as ReadItem, Place as ReadPlace, PictureRow as ReadRow}
 use Rattle.sheet_forms.specs.Faults.{rank_of}
@@ -61,11 +60,6 @@ both_of (Ok a) (Err g) = Err g
 both_of (Err f) (Ok b) = Err f
 both_of (Err f) (Err g) = Err (first_named f g)
 
--- the fault of a number that is not spelt as one, or lies outside its range
-abbrev pub fault_of_number : NumberFault → RefusedFor
-fault_of_number NotRead = Unread
-fault_of_number Outside = OutOfRange
-
 -- the value, or another where there is a fault
 abbrev pub value_or : {A : Type 0} → A → Result A RefusedFor → A
 value_or other (Ok a) = a
@@ -95,11 +89,6 @@ bits_said (Some bits) = bits
 abbrev pub inner_said : Result (Option ℕ) RefusedFor → InnerField
 inner_said r = record { fault = refused_by r; definite = is_definite (value_or None r); bits = bits_said (value_or None r) }
 
--- 0 for `max` and 1 for `min`
-abbrev pub rule_number : AutoRepeatStrategy → ℕ
-rule_number MaxRepetitionsThatDoNotOverflow = 0
-rule_number MinRepetitionsThatDoOverflow = 1
-
 abbrev pub rule_said : Result AutoRepeatStrategy RefusedFor → Field
 rule_said r = record { fault = refused_by r; value = rule_number (value_or MaxRepetitionsThatDoNotOverflow r) }
 
@@ -128,7 +117,11 @@ size_kind_said (Some kind) = record { fault = 0; value = number_of_kind kind }
 size_kind_said None = record { fault = 1; value = 0 }
 
 abbrev pub place_end : EndRead → PlaceEnd
-place_end e = record { kind = end_kind_number e.kind; number = e.number }
+place_end AutoEnd = record { kind = 0; number = pos 0 }
+place_end (LineEnd n) = record { kind = 1; number = n }
+place_end (NamedEnd n) = record { kind = 2; number = n }
+place_end (SpanEnd n) = record { kind = 3; number = n }
+place_end (NamedSpanEnd n) = record { kind = 4; number = n }
 
 abbrev pub unwritten_end : PlaceEnd
 unwritten_end = record { kind = 0; number = pos 0 }

@@ -5,10 +5,6 @@ ghost use Rattle.sheet_forms.specs.Faults.{rank_of, first_of};
 ghost use Rattle.sheet_forms.specs.Answers.{first_named, both_of};
 
 use coordinates::Fault;
-use coordinates::refusal::{
-    AREA, BROKEN, COUNT, CROWDED, LATE, NAME, OVERLAP, SHORT, TWICE, UNEQUAL, UNREAD, VALUE,
-    ZERO_LINE,
-};
 
 // The place of a fault's number in the order in which the faults of one line are looked at: the lowest first, but 12 before 8 and 10 last. A
 // number that no line of a sheet has comes after all of these.
@@ -17,19 +13,19 @@ pub fn rank_of_number(number: u32) -> u64
     ensures { result ≡ rank_of number }
 {
     match number {
-        UNREAD => 0,
-        NAME => 1,
-        VALUE => 2,
-        COUNT => 3,
-        AREA => 4,
-        TWICE => 5,
-        LATE => 6,
-        OVERLAP => 7,
-        CROWDED => 8,
-        ZERO_LINE => 9,
-        UNEQUAL => 10,
-        BROKEN => 11,
-        SHORT => 12,
+        1 => 0,
+        2 => 1,
+        3 => 2,
+        4 => 3,
+        5 => 4,
+        6 => 5,
+        7 => 6,
+        12 => 7,
+        8 => 8,
+        9 => 9,
+        13 => 10,
+        14 => 11,
+        10 => 12,
         _ => u64::from(number) + 13,
     }
 }

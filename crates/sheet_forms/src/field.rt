@@ -1,10 +1,10 @@
 // What one field gives: a value, or its fault.
 ghost use Rattle.std.specs.Prelude.{◌≡◌};
 ghost use Rattle.sheet_forms.specs.Fields.{axis_of, count_of};
-ghost use Rattle.sheet_forms.specs.Answers.{axis_said, number_said, fault_of_number};
+ghost use Rattle.sheet_forms.specs.Answers.{axis_said, number_said};
 
 use coordinates::{Axis, Fault};
-use text::{NumberFault, read_count};
+use text::read_count;
 
 // An axis is `c` or `r`.
 #[tactic(auto, unfolding(crate::specs::Fields::axis_of, text::specs::Split::index, text::specs::Split::same))]
@@ -18,20 +18,10 @@ pub fn axis(f: &[u8]) -> Result<Axis, Fault>
     }
 }
 
-// The fault of a number that is not spelt as one, or lies outside its range.
-pub fn number_fault(fault: NumberFault) -> Fault
-    ensures { result ≡ fault_of_number fault }
-{
-    match fault {
-        NumberFault::Unread => Fault::Unread,
-        NumberFault::Outside => Fault::Count,
-    }
-}
-
 // A whole number from least to most.
 #[tactic(auto, unfolding(crate::specs::Fields::count_of))]
 pub fn count(f: &[u8], least: u32, most: u32) -> Result<u32, Fault>
     ensures { number_said result ≡ count_of least most f.now }
 {
-    read_count(f, least, most).map_err(number_fault)
+    Ok(read_count(f, least, most)?)
 }

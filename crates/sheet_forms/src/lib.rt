@@ -7,7 +7,7 @@ pub mod field;
 pub mod name;
 
 ghost use Rattle.std.specs.Prelude.{◌≡◌};
-ghost use Rattle.sheet_forms.specs.Answers.{end_kind_number};
+ghost use Rattle.sheet_forms.specs.Answers.{end_kind_number, place_end};
 
 use coordinates::{Axis, Fault};
 pub use fault::{both, first_fault, rank, rank_of_number};
@@ -55,21 +55,46 @@ impl From<EndKind> for u32 {
 
     // The number of a kind, in the order of the words.
     fn from(kind: EndKind) -> u32 {
-        match kind {
-            EndKind::Auto => 0,
-            EndKind::Line => 1,
-            EndKind::Named => 2,
-            EndKind::Span => 3,
-            EndKind::NamedSpan => 4,
-        }
+        kind as u32
     }
 }
 
-// An end of a `place` line. The number is 0 where it is unused.
+// An end of a `place` line: its kind, with the number where the kind uses one.
 #[derive(Clone, Copy, Debug, PartialEq, Eq)]
-pub struct PlaceEnd {
-    pub kind: EndKind,
-    pub number: i32,
+pub enum PlaceEnd {
+    Auto,
+    Line(i32),
+    Named(i32),
+    Span(i32),
+    NamedSpan(i32),
+}
+
+impl PlaceEnd {
+    // The kind of an end.
+    pub fn kind(self) -> EndKind
+        ensures { end_kind_number result ≡ (place_end self).kind }
+    {
+        match self {
+            PlaceEnd::Auto => EndKind::Auto,
+            PlaceEnd::Line(_) => EndKind::Line,
+            PlaceEnd::Named(_) => EndKind::Named,
+            PlaceEnd::Span(_) => EndKind::Span,
+            PlaceEnd::NamedSpan(_) => EndKind::NamedSpan,
+        }
+    }
+
+    // Its number, 0 where the kind uses none.
+    pub fn number(self) -> i32
+        ensures { result ≡ (place_end self).number }
+    {
+        match self {
+            PlaceEnd::Auto => 0,
+            PlaceEnd::Line(number)
+            | PlaceEnd::Named(number)
+            | PlaceEnd::Span(number)
+            | PlaceEnd::NamedSpan(number) => number,
+        }
+    }
 }
 
 // What a line says. A size is one word, its kind times 2^32 and its bits. Names stay in the line: field 1 of an `area`,

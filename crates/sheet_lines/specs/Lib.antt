@@ -1,2 +1,3 @@
 -- What the contracts on the fields of a line cite.
 pub mod Fields
+pub mod Sizes

@@ -1,13 +1,12 @@
 // The fields of a line, which is cut once.
-ghost use Rattle.std.specs.Prelude.{◌≡◌, ◌<◌, eqb, length};
+ghost use Rattle.std.specs.Prelude.{◌≡◌, ◌<◌, true, false, eqb, length, MatchResult};
+ghost use Rattle.coordinates.specs.declared.refusal.Fault.TheVariants.{Unread};
 ghost use Rattle.sheet_forms.specs.Words.{at};
 ghost use Rattle.sheet_lines.specs.Fields.{fields_of, CutAs};
 
-use text::cut_parts;
+use coordinates::Fault;
 use text::fields::STARTS;
-
-// What parts the fields of a line.
-const TAB: u8 = b'\t';
+use text::{TAB, cut_parts};
 
 // How many fields a line has, its kind with them; a row has one for each of its words.
 pub const AXIS_FIELDS: usize = 6;
@@ -59,11 +58,15 @@ impl<'a> Fields<'a> {
         text::field(self.line, &self.starts, k)
     }
 
-    // Whether a line has so many fields.
+    // A line of another number of fields is unread.
     #[tactic(auto, using(text::proofs::Places::length_fields))]
-    pub fn has_count(&self, count: usize) -> bool
-        ensures { result ≡ eqb (length (fields_of self.now)) count }
+    pub fn check_count(&self, count: usize) -> Result<(), Fault>
+        ensures { MatchResult result (λ u. eqb (length (fields_of self.now)) count ≡ true) (λ fault. (eqb (length (fields_of self.now)) count ≡ false) × (fault ≡ Unread)) }
     {
-        self.count == count
+        if self.count == count {
+            Ok(())
+        } else {
+            Err(Fault::Unread)
+        }
     }
 }

@@ -6,10 +6,20 @@ ghost use Rattle.sheet_forms.specs.Records.{edges_of, made_area, area_line, made
 ghost use Rattle.sheet_lines.specs.Fields.{fields_of};
 
 use crate::fields::{AREA_FIELDS, EXTRA_FIELDS, Fields, ITEM_FIELDS, NAME_FIELDS, PLACE_FIELDS};
+use coordinates::line::MOST_TRACKS;
 use coordinates::{Axis, Fault};
 use sheet_fields::ends::end;
 use sheet_forms::field::{axis, count};
 use sheet_forms::{AreaRecord, PlaceEnd, Record, both, check_name};
+
+// The last line of an axis with as many explicit tracks as it can have.
+const LAST_LINE: u32 = MOST_TRACKS as u32 + 1;
+
+// The most implicit tracks on one side of the explicit ones.
+const MOST_IMPLICIT: u32 = MOST_TRACKS as u32;
+
+// The index of the last track of an axis with as many as it can have, explicit and on both sides of these.
+const LAST_TRACK: u32 = 3 * MOST_TRACKS as u32 - 1;
 
 // An area's edges, each start below its end.
 fn edges(rowstart: u32, rowend: u32, columnstart: u32, columnend: u32) -> Result<Record, Fault>
@@ -50,15 +60,13 @@ fn make_area(
 pub(crate) fn area_line(fields: &Fields<'_>) -> Result<Record, Fault>
     ensures { said_of result ≡ area_line (fields_of fields.now) }
 {
-    if !fields.has_count(AREA_FIELDS) {
-        return Err(Fault::Unread);
-    }
+    fields.check_count(AREA_FIELDS)?;
     make_area(
         check_name(fields.field(1)),
-        count(fields.field(2), 1, 10001),
-        count(fields.field(3), 1, 10001),
-        count(fields.field(4), 1, 10001),
-        count(fields.field(5), 1, 10001),
+        count(fields.field(2), 1, LAST_LINE),
+        count(fields.field(3), 1, LAST_LINE),
+        count(fields.field(4), 1, LAST_LINE),
+        count(fields.field(5), 1, LAST_LINE),
     )
 }
 
@@ -76,9 +84,7 @@ fn make_name(axis: Result<Axis, Fault>, name: Result<(), Fault>) -> Result<Recor
 pub(crate) fn name_line(fields: &Fields<'_>) -> Result<Record, Fault>
     ensures { said_of result ≡ name_line (fields_of fields.now) }
 {
-    if !fields.has_count(NAME_FIELDS) {
-        return Err(Fault::Unread);
-    }
+    fields.check_count(NAME_FIELDS)?;
     make_name(axis(fields.field(1)), check_name(fields.field(2)))
 }
 
@@ -100,13 +106,11 @@ fn make_extra(
 pub(crate) fn extra_line(fields: &Fields<'_>) -> Result<Record, Fault>
     ensures { said_of result ≡ extra_line (fields_of fields.now) }
 {
-    if !fields.has_count(EXTRA_FIELDS) {
-        return Err(Fault::Unread);
-    }
+    fields.check_count(EXTRA_FIELDS)?;
     make_extra(
         axis(fields.field(1)),
-        count(fields.field(2), 0, 10000),
-        count(fields.field(3), 0, 10000),
+        count(fields.field(2), 0, MOST_IMPLICIT),
+        count(fields.field(3), 0, MOST_IMPLICIT),
     )
 }
 
@@ -124,10 +128,8 @@ fn make_item(axis: Result<Axis, Fault>, index: Result<u32, Fault>) -> Result<Rec
 pub(crate) fn item_line(fields: &Fields<'_>) -> Result<Record, Fault>
     ensures { said_of result ≡ item_line (fields_of fields.now) }
 {
-    if !fields.has_count(ITEM_FIELDS) {
-        return Err(Fault::Unread);
-    }
-    make_item(axis(fields.field(1)), count(fields.field(2), 0, 29999))
+    fields.check_count(ITEM_FIELDS)?;
+    make_item(axis(fields.field(1)), count(fields.field(2), 0, LAST_TRACK))
 }
 
 // A placement of these parts.
@@ -148,9 +150,7 @@ fn make_place(
 pub(crate) fn place_line(fields: &Fields<'_>) -> Result<Record, Fault>
     ensures { said_of result ≡ place_line (fields_of fields.now) }
 {
-    if !fields.has_count(PLACE_FIELDS) {
-        return Err(Fault::Unread);
-    }
+    fields.check_count(PLACE_FIELDS)?;
     make_place(
         axis(fields.field(1)),
         end(fields.field(2), fields.field(3), fields.field(4)),

@@ -12,7 +12,7 @@ use crate::fields::Fields;
 use crate::kinds::{LineKind, kind};
 use crate::lines::{area_line, extra_line, item_line, name_line, place_line};
 use crate::row::row_line;
-use crate::templates::{axis_line, end_line, repeat_line, sizes_line};
+use crate::templates::{axis_line, end_line, repeat_line, spare_line, track_line};
 use coordinates::Fault;
 use sheet_forms::Record;
 use text::field_place;
@@ -27,10 +27,10 @@ fn by_kind(kind: Option<LineKind>, fields: &Fields<'_>) -> Result<Record, Fault>
         Some(LineKind::Axis) => axis_line(fields),
         Some(LineKind::Area) => area_line(fields),
         Some(LineKind::Name) => name_line(fields),
-        Some(LineKind::Track) => sizes_line(false, fields),
+        Some(LineKind::Track) => track_line(fields),
         Some(LineKind::Repeat) => repeat_line(fields),
         Some(LineKind::End) => end_line(fields),
-        Some(LineKind::Spare) => sizes_line(true, fields),
+        Some(LineKind::Spare) => spare_line(fields),
         Some(LineKind::Extra) => extra_line(fields),
         Some(LineKind::Item) => item_line(fields),
         Some(LineKind::Place) => place_line(fields),

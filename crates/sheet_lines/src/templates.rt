@@ -1,9 +1,10 @@
 // The lines that make a template and its axis: `axis`, `track`, `spare`, `repeat`, `end`.
-ghost use Rattle.std.specs.Prelude.{◌≡◌};
+ghost use Rattle.std.specs.Prelude.{◌≡◌, true, false};
 ghost use Rattle.sheet_forms.specs.Answers.{axis_said, inner_said, repetition_said, rule_said, said_of, size_said};
 ghost use Rattle.sheet_forms.specs.Fields.{rule_of};
 ghost use Rattle.sheet_forms.specs.Records.{made_axis, axis_line, made_sizes, sizes_line, made_repeat, repeat_line, made_end, end_line};
 ghost use Rattle.sheet_lines.specs.Fields.{fields_of};
+ghost use Rattle.sheet_lines.specs.Sizes.{track_of, spare_of};
 
 use crate::fields::{AXIS_FIELDS, END_FIELDS, Fields, REPEAT_FIELDS, SIZES_FIELDS};
 use coordinates::{Axis, Fault};
@@ -49,9 +50,7 @@ fn make_axis(
 pub fn axis_line(fields: &Fields<'_>) -> Result<Record, Fault>
     ensures { said_of result ≡ axis_line (fields_of fields.now) }
 {
-    if !fields.has_count(AXIS_FIELDS) {
-        return Err(Fault::Unread);
-    }
+    fields.check_count(AXIS_FIELDS)?;
     make_axis(
         axis(fields.field(1)),
         inner(fields.field(2)),
@@ -60,38 +59,48 @@ pub fn axis_line(fields: &Fields<'_>) -> Result<Record, Fault>
     )
 }
 
-// A track, or the track of the spare ones, of these parts.
+// The sizes of a track on an axis, of these parts.
 #[tactic(auto, unfolding(sheet_forms::specs::Faults::first_of), using(sheet_forms::proofs::Parts::unless_fault))]
 fn make_sizes(
-    spare: bool,
     axis: Result<Axis, Fault>,
     min: Result<u64, Fault>,
     max: Result<u64, Fault>,
-) -> Result<Record, Fault>
-    ensures { said_of result ≡ made_sizes spare (axis_said axis) (size_said min) (size_said max) }
+) -> Result<(Axis, u64, u64), Fault>
+    ensures track { said_of (track_of result) ≡ made_sizes false (axis_said axis) (size_said min) (size_said max) }
+    ensures spare { said_of (spare_of result) ≡ made_sizes true (axis_said axis) (size_said min) (size_said max) }
 {
     let (axis, (min, max)) = both(axis, both(min, max))?;
-    if spare {
-        Ok(Record::Spare(axis, min, max))
-    } else {
-        Ok(Record::Track(axis, min, max))
-    }
+    Ok((axis, min, max))
 }
 
-// `track` or `spare`, axis, minimum kind, value, maximum kind, value
+// Kind, axis, minimum kind, value, maximum kind, value
 #[tactic(auto, unfolding(sheet_forms::specs::Records::sizes_line))]
-pub fn sizes_line(spare: bool, fields: &Fields<'_>) -> Result<Record, Fault>
-    ensures { said_of result ≡ sizes_line spare (fields_of fields.now) }
+fn sizes(fields: &Fields<'_>) -> Result<(Axis, u64, u64), Fault>
+    ensures track { said_of (track_of result) ≡ sizes_line false (fields_of fields.now) }
+    ensures spare { said_of (spare_of result) ≡ sizes_line true (fields_of fields.now) }
 {
-    if !fields.has_count(SIZES_FIELDS) {
-        return Err(Fault::Unread);
-    }
+    fields.check_count(SIZES_FIELDS)?;
     make_sizes(
-        spare,
         axis(fields.field(1)),
         size(Position::Minimum, fields.field(2), fields.field(3)),
         size(Position::Maximum, fields.field(4), fields.field(5)),
     )
+}
+
+// `track`, and the sizes of a track
+pub fn track_line(fields: &Fields<'_>) -> Result<Record, Fault>
+    ensures { said_of result ≡ sizes_line false (fields_of fields.now) }
+{
+    let (axis, min, max) = sizes(fields)?;
+    Ok(Record::Track(axis, min, max))
+}
+
+// `spare`, and the sizes of the track that spare tracks have
+pub fn spare_line(fields: &Fields<'_>) -> Result<Record, Fault>
+    ensures { said_of result ≡ sizes_line true (fields_of fields.now) }
+{
+    let (axis, min, max) = sizes(fields)?;
+    Ok(Record::Spare(axis, min, max))
 }
 
 // A repeat of these parts: one whose count is outside its range still says its axis.
@@ -113,9 +122,7 @@ fn make_repeat(
 pub fn repeat_line(fields: &Fields<'_>) -> Result<Record, Fault>
     ensures { said_of result ≡ repeat_line (fields_of fields.now) }
 {
-    if !fields.has_count(REPEAT_FIELDS) {
-        return Err(Fault::Unread);
-    }
+    fields.check_count(REPEAT_FIELDS)?;
     make_repeat(axis(fields.field(1)), repetition(fields.field(2)))
 }
 
@@ -131,8 +138,6 @@ fn make_end(axis: Result<Axis, Fault>) -> Result<Record, Fault>
 pub fn end_line(fields: &Fields<'_>) -> Result<Record, Fault>
     ensures { said_of result ≡ end_line (fields_of fields.now) }
 {
-    if !fields.has_count(END_FIELDS) {
-        return Err(Fault::Unread);
-    }
+    fields.check_count(END_FIELDS)?;
     make_end(axis(fields.field(1)))
 }

@@ -5,6 +5,7 @@ use mathlib.Core.List.{List, []}
 use mathlib.Core.Bool.{Bool, true, false, ◌&&◌, false≢true}
 use mathlib.Core.Logic.{◌↔◌}
 use lib.ListN.{length, get_or}
+use Rattle.std.proofs.lemmas.Bool.{and_parts, and_from}
 use borrow.Author.Tests.{eq-eqb, eqb-true, le-leb, leb-true}
 use Rattle.text.specs.Split.{same}
 use Rattle.text.proofs.Which.{same_equal, same_self}
@@ -38,25 +39,12 @@ yes_fields item n e = eq-eqb n 3 e
 yes_fields place n e = eq-eqb n 8 e
 yes_fields row n e = le-leb 2 n e
 
--- both of two tests
-and_left : (t u : Bool) → t && u ≡ true → t ≡ true
-and_left true u e = refl
-and_left false u e = e
-
-and_right : (t u : Bool) → t && u ≡ true → u ≡ true
-and_right true u e = e
-and_right false u e = absurd (false≢true e)
-
-both : (t u : Bool) → t ≡ true → u ≡ true → t && u ≡ true
-both true u e f = f
-both false u e f = e
-
 pub kind_exactly : (k : Kind) (fs : List (List ℕ)) → (is_kind k fs ≡ true) ↔ Of fs k
 unfolding is_kind
 kind_exactly k fs = (
   λ e. record {
-    word = same_equal (at fs 0) (get_or kind_words (kind_number k) []) (and_left (same (at fs 0) (get_or kind_words (kind_number k) [])) (has_fields k (length fs)) e);
-    fields = fields_yes k (length fs) (and_right (same (at fs 0) (get_or kind_words (kind_number k) [])) (has_fields k (length fs)) e);
+    word = same_equal (at fs 0) (get_or kind_words (kind_number k) []) (and_parts (same (at fs 0) (get_or kind_words (kind_number k) [])) (has_fields k (length fs)) e).0;
+    fields = fields_yes k (length fs) (and_parts (same (at fs 0) (get_or kind_words (kind_number k) [])) (has_fields k (length fs)) e).1;
   },
-  λ o. both (same (at fs 0) (get_or kind_words (kind_number k) [])) (has_fields k (length fs)) (rw o.word (same_self (get_or kind_words (kind_number k) []))) (yes_fields k (length fs) o.fields),
+  λ o. and_from (same (at fs 0) (get_or kind_words (kind_number k) [])) (has_fields k (length fs)) (rw o.word (same_self (get_or kind_words (kind_number k) []))) (yes_fields k (length fs) o.fields),
 )

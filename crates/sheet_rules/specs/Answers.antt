@@ -6,7 +6,7 @@ use Rattle.panel_tables.specs.declared.Panel.{Panel}
 use Rattle.panel_tables.specs.Written.{zero_panel}
 use Rattle.sheet_rules.specs.declared.Overlap.{Overlap}
 use Rattle.sheet_rules.specs.declared.SheetFault.{SheetFault}
-use Rattle.sheet_rules.specs.declared.SheetFault.TheVariants.{Overlap as Overlaps, Line}
+use Rattle.sheet_rules.specs.declared.SheetFault.TheVariants.{Overlap as Overlaps, Line, Whole}
 use Rattle.sheet_rules.specs.declared.Display.{Display}
 use Rattle.sheet_rules.specs.Sheet.{no_overlap}
 
@@ -29,10 +29,11 @@ pub record DisplayAnswer : Type 0 where
 abbrev pub accepted_with : Overlap → Panel → SheetAnswer
 accepted_with p panel = record { refusal = no_refusal; earlier = p.earlier; later = p.later; panel = panel }
 
--- a refusal: the number and the line of a fault, or 12 at the later area's line with the pair
+-- a refusal: the number and the line of a fault, 0 for the sheet as a whole, or 12 at the later area's line with the pair
 abbrev pub refused_with : SheetFault → SheetAnswer
 refused_with (Overlaps p) = record { refusal = record { number = overlap; line = p.line }; earlier = p.earlier; later = p.later; panel = zero_panel }
 refused_with (Line f) = record { refusal = record { number = number_of f.fault; line = f.line }; earlier = 0; later = 0; panel = zero_panel }
+refused_with (Whole fault) = record { refusal = record { number = number_of fault; line = 0 }; earlier = 0; later = 0; panel = zero_panel }
 
 -- ---- the numbers and values of what a call answers
 
@@ -57,7 +58,8 @@ abbrev pub answered_display : Result Display SheetFault → DisplayAnswer
 answered_display (Ok d) = record { refusal = no_refusal; earlier = (noted d.overlap).earlier; later = (noted d.overlap).later; grid = d.grid }
 answered_display (Err fault) = grid_only (refused_with fault)
 
--- areas that share a cell are told by their pair alone: a fault at a line is none of theirs, which is 12
+-- areas that share a cell are told by their pair alone: a fault at a line or of the whole is none of theirs, which is 12
 abbrev pub TellsPair : SheetFault → Type 0
 TellsPair (Overlaps p) = Unit {0}
 TellsPair (Line f) = number_of f.fault ≡ overlap → ⊥
+TellsPair (Whole fault) = number_of fault ≡ overlap → ⊥

@@ -16,7 +16,7 @@ use Rattle.picture_rules.specs.Picture.{Word}
 use Rattle.picture_areas.specs.Runs.{InPicture}
 use Rattle.picture_rows.specs.Steps.{row_in}
 use Rattle.sheet_forms.specs.Faults.{first_of}
-use Rattle.panel_tables.specs.declared.PictureReading.{PictureReading}
+use Rattle.panel_tables.specs.Readings.{PictureReading}
 use Rattle.sheet_rules.specs.Lines.{bit, late_at, edges_of, placed_end}
 
 -- what is held of an axis

@@ -13,18 +13,19 @@ pub struct Overlap {
     pub line: u32,
 }
 
-// A fault and the line of the sheet that has it; 0 for the sheet as a whole.
+// A fault and the line of the sheet that has it.
 #[derive(Clone, Copy, Debug, PartialEq, Eq)]
 pub struct LineFault {
     pub fault: Fault,
     pub line: u32,
 }
 
-// Why a sheet is refused: two of its areas share a cell, or another fault.
+// Why a sheet is refused: two of its areas share a cell, a line has another fault, or the sheet as a whole has one.
 #[derive(Clone, Copy, Debug, PartialEq, Eq)]
 pub enum SheetFault {
     Overlap(Overlap),
     Line(LineFault),
+    Whole(Fault),
 }
 
 // A sheet for display: what answers are read from, and the first two areas that share a cell; nothing that an edit takes.

@@ -12,13 +12,13 @@ use Rattle.coordinates.specs.declared.axis.Axis.TheVariants.{Column, Row}
 use Rattle.sheet_forms.specs.Said.{Record}
 use Rattle.sheet_forms.specs.Said.{PlaceEnd}
 use Rattle.axis_tables.specs.declared.AxisState.{AxisState}
-use Rattle.axis_tables.specs.declared.AxisReading.{AxisReading}
+use Rattle.axis_tables.specs.Readings.{AxisReading}
 use Rattle.axis_tables.specs.Runs.{part_of, with_part}
 use Rattle.axis_tables.specs.Store.{put}
 use Rattle.axis_tables.specs.Written.{Held}
 use Rattle.axis_tables.proofs.Regions.{lent-own, lent-before, lent-after}
 use Rattle.panel_tables.specs.declared.Panel.{Panel}
-use Rattle.panel_tables.specs.declared.Reading.{Reading}
+use Rattle.panel_tables.specs.Readings.{Reading}
 use Rattle.panel_tables.specs.declared.AreaEdges.{AreaEdges}
 use Rattle.panel_tables.specs.Areas.{InAreas, put_area}
 use Rattle.panel_tables.specs.Axes.{state_in, reading_in, with_state, with_reading}

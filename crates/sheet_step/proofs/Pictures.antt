@@ -10,7 +10,7 @@ use Rattle.coordinates.specs.declared.refusal.Fault.{Fault}
 use Rattle.coordinates.specs.Refusals.{refused_by}
 use Rattle.sheet_forms.specs.Faults.{first_of}
 use Rattle.panel_tables.specs.declared.Panel.{Panel}
-use Rattle.panel_tables.specs.declared.Reading.{Reading}
+use Rattle.panel_tables.specs.Readings.{Reading}
 use Rattle.panel_tables.specs.Axes.{PanelRead}
 use Rattle.picture_rules.specs.Picture.{Word}
 use Rattle.picture_areas.specs.declared.draw.PictureAfter.{PictureAfter}

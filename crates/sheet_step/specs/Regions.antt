@@ -7,7 +7,7 @@ use Rattle.axis_tables.specs.Runs.{with_part}
 use Rattle.axis_tables.specs.Store.{put}
 use Rattle.axis_tables.specs.Written.{Held}
 use Rattle.panel_tables.specs.declared.Panel.{Panel}
-use Rattle.panel_tables.specs.declared.Reading.{Reading}
+use Rattle.panel_tables.specs.Readings.{Reading}
 use Rattle.panel_tables.specs.declared.AreaEdges.{AreaEdges}
 use Rattle.panel_tables.specs.Areas.{InAreas, put_area}
 use Rattle.panel_tables.specs.Axes.{state_in, reading_in, PanelRead}

@@ -10,11 +10,9 @@ ghost use Rattle.std.specs.Prelude.{◌≡◌};
 ghost use Rattle.text.specs.Split.{split};
 ghost use Rattle.coordinates.specs.Refusals.{fault_number, refused_by};
 ghost use Rattle.panel_cells.specs.Steps.{area_number_of};
-ghost use Rattle.sheet_forms.specs.Answers.{said_of};
 ghost use Rattle.sheet_forms.specs.Faults.{first_of};
 ghost use Rattle.panel_tables.specs.Regions.{area_words_in, area_bytes_in};
 ghost use Rattle.sheet_faults.specs.Lines.{line_in, line_shared};
-ghost use Rattle.sheet_faults.specs.Parts.{before_of, shared_of};
 ghost use Rattle.sheet_step.specs.Drafts.{held_of};
 
 use axis_tables::layout::AXIS_BYTES;
@@ -23,7 +21,7 @@ use panel_tables::region::{PANEL_BYTES, PANEL_WORDS, area_bytes, area_words};
 use panel_tables::{Panel, Reading};
 use sheet_faults::fault::{AreasBefore, fault_before, stage};
 use sheet_faults::overlap::{noted, shared};
-use sheet_forms::{Record, both, first_fault};
+use sheet_forms::{both, first_fault};
 use sheet_lines::read_record;
 use text::part_at;
 
@@ -57,23 +55,17 @@ pub fn first_refusal<A: Copy, B: Copy>(
 }
 
 impl Draft {
-    // The faults of a record whose first name is `name` before it is written.
-    fn fault_here(&self, name: &[u8], said: Result<Record, Fault>) -> Option<Fault>
-        ensures { fault_number result ≡ before_of self.now.panel.grid.areas self.now.reading (area_words_in self.now.words) (area_bytes_in self.now.bytes) name.now (said_of said) }
+    // The areas so far.
+    fn areas(&self) -> AreasBefore<'_>
+        ensures count { result.count ≡ self.now.panel.grid.areas }
+        ensures words { result.words.now ≡ area_words_in self.now.words }
+        ensures bytes { result.bytes.now ≡ area_bytes_in self.now.bytes }
     {
-        let areas = AreasBefore {
+        AreasBefore {
             count: self.panel.grid.areas,
             words: area_words(&self.words),
             bytes: area_bytes(&self.bytes),
-        };
-        fault_before(areas, self.reading, name, said)
-    }
-
-    // The first area that shares a cell with a record's, before it is written.
-    fn shared_here(&self, said: Result<Record, Fault>) -> Option<u32>
-        ensures { area_number_of result ≡ shared_of self.now.panel.grid.areas (area_words_in self.now.words) (said_of said) }
-    {
-        shared(self.panel.grid.areas, area_words(&self.words), said)
+        }
     }
 }
 
@@ -83,8 +75,9 @@ pub fn read_line(draft: &mut Draft, line: &[u8]) -> LineRead
     ensures overlap { area_number_of result.shared ≡ line_shared (held_of draft.old) (split 9 line.now) }
 {
     let there = read_record(line);
-    let before = draft.fault_here(part_at(line, there.first), there.said);
-    let with = draft.shared_here(there.said);
+    let areas = draft.areas();
+    let before = fault_before(areas, draft.reading, part_at(line, there.first), there.said);
+    let with = shared(areas.count, areas.words, there.said);
     let reached = stage(draft.reading.stage, there.said);
     let written = draft.write(line, there).err();
     draft.reading.stage = reached;

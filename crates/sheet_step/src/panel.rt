@@ -1,5 +1,5 @@
 // What a record does to the panel: it is written to one axis, to the areas or to the placements, or drawn.
-ghost use Rattle.std.specs.Prelude.{◌≡◌, length, drop, Ok};
+ghost use Rattle.std.specs.Prelude.{◌≡◌, cond, length, drop, [], Ok};
 ghost use Rattle.text.specs.Split.{split};
 ghost use Rattle.text.specs.Places.{part_at};
 ghost use Rattle.coordinates.specs.Refusals.{refused_by};
@@ -7,6 +7,8 @@ ghost use Rattle.sheet_forms.specs.Answers.{place_end, said_of};
 ghost use Rattle.axis_tables.specs.Store.{answered_axis};
 ghost use Rattle.panel_tables.specs.Areas.{answered_panel};
 ghost use Rattle.panel_tables.specs.Axes.{state_in, reading_in};
+ghost use Rattle.panel_tables.specs.Placements.{uses_name};
+ghost use Rattle.panel_tables.specs.Readings.{panel_reading};
 ghost use Rattle.sheet_rules.specs.Steps.{on_held};
 ghost use Rattle.sheet_faults.specs.Parts.{named, named_step};
 ghost use Rattle.sheet_step.specs.Drafts.{held_of};
@@ -18,8 +20,8 @@ use axis_tables::AxisAfter;
 use axis_tables::layout::{AXIS_MARKS, AXIS_WORDS};
 use coordinates::{Axis, Fault};
 use panel_tables::area::{AREA_BYTES, AREA_WORDS};
-use panel_tables::axis::{reading_in, state_in, with_state};
-use panel_tables::placement::{PLACEMENT_BYTES, PLACEMENT_WORDS, used_name};
+use panel_tables::axis::{reading_in, state_in, with_reading, with_state};
+use panel_tables::placement::{PLACEMENT_BYTES, PLACEMENT_WORDS};
 use panel_tables::region::{
     AREA_NAMES_START, AREAS, PANEL_BYTES, PANEL_WORDS, PLACEMENT_NAMES_START, PLACEMENTS,
     first_mark, first_word,
@@ -34,11 +36,21 @@ use text::part_at;
 
 // An end as a placement has it.
 fn placed(end: PlaceEnd) -> PlacementEnd
-    ensures { result ≡ record { kind = (place_end end).kind; number = end.number } }
+    ensures { result ≡ record { kind = (place_end end).kind; number = (place_end end).number } }
 {
     PlacementEnd {
-        kind: u32::from(end.kind),
-        number: end.number,
+        kind: u32::from(end.kind()),
+        number: end.number(),
+    }
+}
+
+// The name of an end, empty where its kind uses none.
+fn used_name(end: PlaceEnd, name: &[u8]) -> &[u8]
+    ensures { result.now ≡ cond (uses_name (place_end end).kind) name.now [] }
+{
+    match end {
+        PlaceEnd::Named(_) | PlaceEnd::NamedSpan(_) => name,
+        PlaceEnd::Auto | PlaceEnd::Line(_) | PlaceEnd::Span(_) => &[],
     }
 }
 
@@ -53,18 +65,19 @@ fn on_axis(
     name: &[u8],
     said: Record,
 ) -> Result<AxisAfter, Fault>
-    ensures written { record { answer = answered_axis (state_in panel axis) (reading_in reading axis) result; words = words.new; marks = bytes.new; bytes = store.new } ≡ on_axis axis panel reading words.old bytes.old store.old name.now (said_of (Ok said)) }
+    ensures written { record { answer = answered_axis (state_in panel axis) (reading_in (panel_reading reading) axis) result; words = words.new; marks = bytes.new; bytes = store.new } ≡ on_axis axis panel (panel_reading reading) words.old bytes.old store.old name.now (said_of (Ok said)) }
     ensures lengths { (length words.new ≡ 25600) × (length bytes.new ≡ 78432) }
 {
     let first = first_word(axis);
     let mark = first_mark(axis);
     let end = first + AXIS_WORDS;
     let last = mark + AXIS_MARKS;
-    let state = state_in(panel, axis);
-    let then = reading_in(reading, axis);
+    let before = AxisAfter {
+        state: state_in(panel, axis),
+        reading: reading_in(reading, axis),
+    };
     axis_record(
-        state,
-        then,
+        before,
         &mut words[first..end],
         &mut bytes[mark..last],
         store,
@@ -111,50 +124,43 @@ fn on_placements(
         &mut bytes[PLACEMENT_NAMES_START..PLACEMENT_NAMES_START + PLACEMENT_BYTES],
         axis,
         from,
-        used_name(from.kind, first),
+        used_name(start, first),
         to,
-        used_name(to.kind, second),
+        used_name(end, second),
     )
 }
 
 impl Draft {
-    // A record of the columns.
-    fn on_columns(&mut self, name: &[u8], said: Record) -> Result<(), Fault>
-        ensures { record { fault = refused_by result; held = held_of self.new } ≡ on_held (held_of self.old) Axis.Column (named name.now) (said_of (Ok said)) }
+    // A record of an axis.
+    fn on_own_axis(&mut self, axis: Axis, name: &[u8], said: Record) -> Result<(), Fault>
+        ensures { record { fault = refused_by result; held = held_of self.new } ≡ on_held (held_of self.old) axis (named name.now) (said_of (Ok said)) }
     {
-        let columns = on_axis(
-            Axis::Column,
-            self.panel,
-            self.reading,
-            &mut self.words,
-            &mut self.bytes,
-            &mut self.column_bytes,
-            name,
-            said,
-        );
-        let after = columns?;
-        self.panel = with_state(self.panel, Axis::Column, after.state);
-        self.reading.columns = after.reading;
-        Ok(())
-    }
-
-    // A record of the rows.
-    fn on_rows(&mut self, name: &[u8], said: Record) -> Result<(), Fault>
-        ensures { record { fault = refused_by result; held = held_of self.new } ≡ on_held (held_of self.old) Axis.Row (named name.now) (said_of (Ok said)) }
-    {
-        let rows = on_axis(
-            Axis::Row,
-            self.panel,
-            self.reading,
-            &mut self.words,
-            &mut self.bytes,
-            &mut self.row_bytes,
-            name,
-            said,
-        );
-        let after = rows?;
-        self.panel = with_state(self.panel, Axis::Row, after.state);
-        self.reading.rows = after.reading;
+        let (panel, reading) = (self.panel, self.reading);
+        let written = match axis {
+            Axis::Column => on_axis(
+                axis,
+                panel,
+                reading,
+                &mut self.words,
+                &mut self.bytes,
+                &mut self.column_bytes,
+                name,
+                said,
+            ),
+            Axis::Row => on_axis(
+                axis,
+                panel,
+                reading,
+                &mut self.words,
+                &mut self.bytes,
+                &mut self.row_bytes,
+                name,
+                said,
+            ),
+        };
+        let after = written?;
+        self.panel = with_state(panel, axis, after.state);
+        self.reading = with_reading(reading, axis, after.reading);
         Ok(())
     }
 
@@ -194,10 +200,7 @@ impl Draft {
             | Record::End(axis)
             | Record::Spare(axis, _, _)
             | Record::Extra(axis, _, _)
-            | Record::Item(axis, _) => match axis {
-                Axis::Column => self.on_columns(first, said),
-                Axis::Row => self.on_rows(first, said),
-            },
+            | Record::Item(axis, _) => self.on_own_axis(axis, first, said),
         }
     }
 }

@@ -1,6 +1,7 @@
 // What a row of a picture does to the panel: it is drawn into the areas' parts of the words and of the bytes.
 ghost use Rattle.std.specs.Prelude.{◌≡◌, ◌<◌, cond, length};
 ghost use Rattle.coordinates.specs.Refusals.{refused_by};
+ghost use Rattle.panel_tables.specs.Readings.{picture_reading};
 ghost use Rattle.picture_areas.specs.Runs.{answered_drawn};
 ghost use Rattle.picture_words.specs.Words.{words_of};
 ghost use Rattle.sheet_rules.specs.Lines.{late_at};
@@ -12,32 +13,33 @@ use crate::{Draft, first_refusal};
 use coordinates::Fault;
 use panel_tables::area::{AREA_BYTES, AREA_WORDS};
 use panel_tables::region::{AREA_NAMES_START, AREAS, PANEL_BYTES, PANEL_WORDS};
+use panel_tables::stage::Stage;
 use panel_tables::{Panel, PictureReading};
 use picture_areas::PictureAfter;
 use picture_rows::draw_row;
 use picture_rows::row::MOST_ROWS;
-use sheet_faults::fault::{ROWS, late_at};
+use sheet_faults::fault::late_at;
 
 // What is kept after a row; nothing mends a broken picture.
 fn with_row(picture: PictureReading, width: u32, broken: bool) -> PictureReading
     requires { picture.rows < 10000 }
-    ensures { result ≡ with_row picture width broken }
+    ensures { picture_reading result ≡ with_row (picture_reading picture) width broken }
 {
     PictureReading {
         rows: picture.rows + 1,
-        width,
+        width: Some(width),
         broken: broken || picture.broken,
     }
 }
 
 // Another width than the first row's is refused.
 fn check_width(picture: PictureReading, width: u32) -> Result<(), Fault>
-    ensures { refused_by result ≡ width_fault picture width }
+    ensures { refused_by result ≡ width_fault (picture_reading picture) width }
 {
-    if picture.rows == 0 || width == picture.width {
-        return Ok(());
+    match picture.width {
+        Some(first) if width != first => Err(Fault::Unequal),
+        _ => Ok(()),
     }
-    Err(Fault::Unequal)
 }
 
 // A row drawn into the areas' parts of the words and of the bytes.
@@ -61,7 +63,7 @@ impl Draft {
     pub(crate) fn draw(&mut self, line: &[u8], width: u32) -> Result<(), Fault>
         ensures { record { fault = refused_by result; held = held_of self.new } ≡ cond (late_at 2 (held_of self.old).reading.stage) (stayed (held_of self.old)) (held_row (held_of self.old) (words_of line.now) width) }
     {
-        if late_at(ROWS, self.reading.stage) {
+        if late_at(Stage::Rows, self.reading.stage) {
             return Ok(());
         }
         let before = self.reading.picture;

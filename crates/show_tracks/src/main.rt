@@ -7,35 +7,31 @@ use std::io;
 use std::io::Write;
 use template_rules::Template;
 use track_counts::TrackCounts;
-use track_rules::{AxisTracks, GridTrack, GridTrackKind, SpareSizes, TrackSource};
+use track_record::LentTracks;
+use track_rules::{AxisTracks, GridTrack, GridTrackKind, MOST_RECORDS, SpareSizes, TrackSource};
 
-// The source of a record, and the end of its line.
-fn print_source<W: Write>(out: &mut W, source: TrackSource) -> io::Result<()> {
-    let letter = match source {
+// The letter of a source.
+fn letter(source: TrackSource) -> char {
+    match source {
         TrackSource::Negative => 'n',
         TrackSource::Template => 't',
         TrackSource::Automatic => 'a',
         TrackSource::Area => 'g',
         TrackSource::Positive => 'p',
         TrackSource::Gutter => '-',
-    };
-    writeln!(out, "\t{letter}")
+    }
 }
 
 // A record on its line: its kind, whether it is collapsed, the kind of its minimum, and its source.
 fn print_record<W: Write>(out: &mut W, track: GridTrack) -> io::Result<()> {
-    match track.kind {
-        GridTrackKind::Track => out.write_all(b"track\t")?,
-        GridTrackKind::Gutter => out.write_all(b"gutter\t")?,
-    }
-    if track.collapsed {
-        out.write_all(b"y\t")?;
-    } else {
-        out.write_all(b"n\t")?;
-    }
-    let kind = u32::from(track.size.min.kind());
-    write!(out, "{kind}")?;
-    print_source(out, track.source)
+    let kind = match track.kind {
+        GridTrackKind::Track => "track",
+        GridTrackKind::Gutter => "gutter",
+    };
+    let collapsed = if track.collapsed { 'y' } else { 'n' };
+    let size = u32::from(track.size.min.kind());
+    let source = letter(track.source);
+    writeln!(out, "{kind}\t{collapsed}\t{size}\t{source}")
 }
 
 // The records that the call counts.
@@ -55,7 +51,7 @@ fn show<W: Write>(
     items: &[u8],
     axis: AxisTracks,
 ) -> io::Result<()> {
-    let count = track_run::state::fill_count(60001, items.len(), axis).unwrap_or(0);
+    let count = track_run::state::fill_count(MOST_RECORDS, items.len(), axis).unwrap_or(0);
     let template = Template {
         components,
         minimums: sizes,
@@ -65,7 +61,12 @@ fn show<W: Write>(
         minimums: spares,
         maximums: spares,
     };
-    let records = track_run::lender::axis_records(template, spares, items, axis);
+    let lent = LentTracks {
+        template,
+        spares,
+        items,
+    };
+    let records = track_run::lender::axis_records(lent, axis);
     writeln!(out, "records\t{count}")?;
     print_records(out, &records, count)
 }

@@ -4,10 +4,10 @@ ghost use Rattle.sizing.specs.Words.{sizing_of, min_max_of};
 ghost use Rattle.sizing.specs.Definite.{length_alone, definite_of, raised_or, track_value_of, gap_of};
 
 use crate::Sizing;
-use crate::word::{LARGEST_BITS, length_of, sizing_of};
+use crate::word::{LARGEST_BITS, length_of};
 
 // The word of the largest length, 65,535.
-const LARGEST_LENGTH: u64 = LARGEST_BITS as u64;
+pub const LARGEST_LENGTH: u64 = LARGEST_BITS as u64;
 
 // A length; no other kind is definite where there is no inner size.
 pub fn length_alone(size: Sizing) -> Option<f32>
@@ -38,8 +38,7 @@ pub fn definite_of_word(word: u64, inner: f32) -> Option<f32>
     if word <= LARGEST_LENGTH {
         return Some(length_of(word as u32));
     }
-    let size = sizing_of(word);
-    definite_value(size, inner)
+    definite_value(Sizing::from(word), inner)
 }
 
 // The definite maximum raised to the definite minimum, else the minimum. The Rust's is `max.max(min)`: at equal values either is the

@@ -26,18 +26,9 @@ pub struct UnknownKind(pub u32);
 impl From<Kind> for u32 {
     ghost from_gives = { λ kind number. number ≡ number_of_kind kind };
 
-    // The number of a kind.
+    // The number of a kind, which is its place in the enum.
     fn from(kind: Kind) -> u32 {
-        match kind {
-            Kind::Length => 0,
-            Kind::Percent => 1,
-            Kind::Fraction => 2,
-            Kind::Auto => 3,
-            Kind::MinContent => 4,
-            Kind::MaxContent => 5,
-            Kind::FitContentLength => 6,
-            Kind::FitContentPercent => 7,
-        }
+        kind as u32
     }
 }
 

@@ -1,5 +1,6 @@
 // The ranges of sizes, by their kinds.
-ghost use Rattle.std.specs.Prelude.{◌≡◌, ◌/◌, ◌%◌};
+ghost use Rattle.std.specs.Prelude.{◌≡◌, ◌/◌, ◌%◌, ◌≤◌};
+ghost use Rattle.sizing.specs.Words.{largest_bits};
 ghost use Rattle.sizing.specs.Ranges.{value_in_range, length_in_range, up_to, largest_length, largest_percentage, sizing_in_range};
 ghost use Rattle.sizing.specs.Steps.{largest_bits_of, bits_up_to};
 ghost use Rattle.sizing.specs.Kinds.{number_of_kind};
@@ -9,8 +10,9 @@ use crate::{Kind, Sizing};
 
 // The bits of the largest value of a kind: of 10 for percentages, 0 for keywords, 65,535 for the others.
 #[tactic(auto, unfolding(crate::specs::Steps::largest_bits_of))]
-fn largest_bits(kind: Kind) -> u32
-    ensures { result ≡ largest_bits_of (number_of_kind kind) }
+pub(crate) fn largest_bits(kind: Kind) -> u32
+    ensures value { result ≡ largest_bits_of (number_of_kind kind) }
+    ensures few { result ≤ largest_bits }
 {
     match kind {
         Kind::Percent | Kind::FitContentPercent => LARGEST_PERCENT_BITS,

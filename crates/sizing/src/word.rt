@@ -1,8 +1,9 @@
 // A size as one word of a lent table: its kind times 2^32, and the bits of its f32.
 ghost use Rattle.std.specs.Prelude.{◌≡◌, ◌≤◌};
-ghost use Rattle.sizing.specs.Words.{float_up_to, largest_bits, sizing_of_kind, sizing_of, size_word_of, printed_bits, bits_of};
+ghost use Rattle.sizing.specs.Words.{float_up_to, largest_bits, sizing_of_kind, sizing_of, size_word_of, kind_of, printed_bits, bits_of};
 ghost use Rattle.sizing.specs.Kinds.{number_of_kind};
 
+use crate::range::largest_bits;
 use crate::{Kind, Sizing};
 
 // The bits of the largest length, fraction or inner size, 65,535.
@@ -31,29 +32,37 @@ pub fn length_of(bits: u32) -> f32
     float_up_to(LARGEST_BITS, bits)
 }
 
-// A size from its kind and bits.
-#[tactic(auto, unfolding(crate::specs::Words::sizing_of_kind))]
-fn sizing_of_kind(kind: u32, bits: u32) -> Sizing
-    ensures { result ≡ sizing_of_kind kind bits }
-{
-    match kind {
-        0 => Sizing::Length(float_up_to(LARGEST_BITS, bits)),
-        1 => Sizing::Percent(float_up_to(LARGEST_PERCENT_BITS, bits)),
-        2 => Sizing::Fraction(float_up_to(LARGEST_BITS, bits)),
-        4 => Sizing::MinContent,
-        5 => Sizing::MaxContent,
-        6 => Sizing::FitContentLength(float_up_to(LARGEST_BITS, bits)),
-        7 => Sizing::FitContentPercent(float_up_to(LARGEST_PERCENT_BITS, bits)),
-        _ => Sizing::Auto,
+impl Kind {
+    // A size of this kind from its bits, which a keyword does not read.
+    #[tactic(auto, unfolding(crate::specs::Words::sizing_of_kind, crate::specs::Steps::largest_bits_of))]
+    fn sizing(self, bits: u32) -> Sizing
+        ensures { result ≡ sizing_of_kind (number_of_kind self) bits }
+    {
+        let x = float_up_to(largest_bits(self), bits);
+        match self {
+            Kind::Length => Sizing::Length(x),
+            Kind::Percent => Sizing::Percent(x),
+            Kind::Fraction => Sizing::Fraction(x),
+            Kind::Auto => Sizing::Auto,
+            Kind::MinContent => Sizing::MinContent,
+            Kind::MaxContent => Sizing::MaxContent,
+            Kind::FitContentLength => Sizing::FitContentLength(x),
+            Kind::FitContentPercent => Sizing::FitContentPercent(x),
+        }
     }
 }
 
-// A size from its word: any word gives one.
-#[tactic(auto, unfolding(crate::specs::Words::sizing_of))]
-pub fn sizing_of(word: u64) -> Sizing
-    ensures { result ≡ sizing_of word }
-{
-    sizing_of_kind((word / 0x1_0000_0000) as u32, (word % 0x1_0000_0000) as u32)
+impl From<u64> for Sizing {
+    ghost from_gives = { λ word size. size ≡ sizing_of word };
+
+    // A size from its word: any word gives one, that of a number that no kind has an auto size.
+    #[tactic(auto, unfolding(crate::specs::Words::sizing_of, crate::specs::Words::sizing_of_kind))]
+    fn from(word: u64) -> Sizing {
+        let Ok(kind) = Kind::try_from((word / 0x1_0000_0000) as u32) else {
+            return Sizing::Auto;
+        };
+        kind.sizing((word % 0x1_0000_0000) as u32)
+    }
 }
 
 // The word of a kind's number and bits. Any two numbers give one.
@@ -89,5 +98,14 @@ pub fn bits_of(size: Sizing) -> u32
         | Sizing::FitContentLength(v)
         | Sizing::FitContentPercent(v) => printed_bits(v),
         Sizing::Auto | Sizing::MinContent | Sizing::MaxContent => 0,
+    }
+}
+
+impl From<Sizing> for u64 {
+    ghost from_gives = { λ size word. word ≡ size_word_of (kind_of size) (bits_of size) };
+
+    // The word of a size.
+    fn from(size: Sizing) -> u64 {
+        size_word(size.kind(), bits_of(size))
     }
 }

@@ -1,4 +1,5 @@
 -- The answer of the call against CSS: its repetitions, and its counts, for valid and invalid templates. Assumes nothing.
+use Rattle.std.proofs.lemmas.Bool.{or_parts}
 use Rattle.std.proofs.Common.{◌≡◌, ℕ, ◌+◌, ◌<◌, ◌≤◌, max, Bool, true, false, cond, T, leb, List, [], ◌∷◌, length, sym, refl, ap, ◌∙◌, arith, eq-eqb, ne_eqb, leb-true, Float, Option}
 use lib.Ieee.Bits.{is_true}
 use Rattle.coordinates.specs.Refusals.{no_refusal, count}
@@ -13,7 +14,7 @@ use Rattle.template_rules.specs.declared.AutoRepeatStrategy.{AutoRepeatStrategy}
 use Rattle.template_rules.specs.declared.RepetitionCount.{RepetitionCount}
 use Rattle.template_rules.specs.declared.RepetitionCount.TheVariants.{Single, Count, AutoFill, AutoFit}
 use Rattle.template_rules.specs.declared.TemplateSize.{TemplateSize}
-use Rattle.template_rules.proofs.Tests.{or_parts, above_test}
+use Rattle.template_rules.proofs.Tests.{above_test}
 use Rattle.template_rules.proofs.Valid.{none_empty, valid_css}
 use Rattle.template_rules.proofs.Css.{repetitions_css}
 

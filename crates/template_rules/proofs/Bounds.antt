@@ -1,4 +1,5 @@
 -- The numbers of a word are small, and so are the sums of 64 components. Assumes nothing.
+use Rattle.std.proofs.lemmas.Bool.{or_parts}
 use Rattle.std.proofs.Common.{◌≡◌, ℕ, zero, suc, ◌+◌, ◌*◌, ◌/◌, ◌%◌, ◌^◌, ◌<◌, ◌≤◌, Bool, true, false, cond, ◌||◌, T, eqb, List, length, pos, refl, ap, subst, mul-le-mul, arith, w64, Fits}
 use lib.Ieee.{Float, binary32, in_float}
 use Rattle.template_rules.specs.Template.{component_of, tracks_from}
@@ -11,7 +12,7 @@ use Rattle.template_rules.specs.declared.RepetitionCount.TheVariants.{Single, Co
 use Rattle.template_rules.specs.declared.TrackTotals.{TrackTotals}
 use Rattle.template_rules.specs.declared.TemplateSummary.{TemplateSummary}
 use Rattle.template_rules.proofs.Rounding.{in_float_lem}
-use Rattle.template_rules.proofs.Tests.{or_parts, above_test}
+use Rattle.template_rules.proofs.Tests.{above_test}
 
 -- a count of a word
 pub times-small : (k : RepetitionCount) (n times : ℕ) → k ≡ Count times → CountOfWord k n → times ≤ 65535

@@ -1,4 +1,5 @@
 -- A template with components gives 0 tracks exactly if it is invalid: no flag is needed to tell what counts as none. Assumes nothing.
+use Rattle.std.proofs.lemmas.Bool.{or_parts}
 use Rattle.std.proofs.Common.{◌≡◌, ℕ, ◌+◌, ◌*◌, ◌<◌, ◌≤◌, min, max, Bool, true, false, cond, eqb, leb, ◌⊎◌, ◌↔◌, List, [], ◌∷◌, length, refl, ap, inl, inr, ⊎_elim, true≢false, mul-pos, arith, leb-false, leb-true, Float, Option}
 use Rattle.sizing.specs.declared.Sizing.{Sizing}
 use Rattle.template_rules.specs.Template.{Component}
@@ -11,7 +12,7 @@ use Rattle.template_rules.specs.declared.AutoRepeatStrategy.{AutoRepeatStrategy}
 use Rattle.template_rules.specs.declared.RepetitionCount.{RepetitionCount}
 use Rattle.template_rules.specs.declared.RepetitionCount.TheVariants.{Single, Count, AutoFill, AutoFit}
 use Rattle.template_rules.specs.declared.TemplateSize.{TemplateSize}
-use Rattle.template_rules.proofs.Tests.{or_parts, above_test}
+use Rattle.template_rules.proofs.Tests.{above_test}
 use Rattle.template_rules.proofs.Valid.{none_empty, one_at_most}
 use Rattle.template_rules.proofs.Answer.{repeat_has_tracks, size-invalid, size-counted, size-repeated}
 

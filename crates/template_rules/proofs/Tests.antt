@@ -1,15 +1,7 @@
--- Tests of two parts, and of a number against 0. Assumes nothing.
+-- Tests of a number against 0. Assumes nothing.
 use Rattle.std.proofs.Common.{◌≡◌, ℕ, ◌<◌, Bool, true, false, ◌&&◌, ◌||◌, eqb, refl, true≢false, arith, ne_eqb}
 use mathlib.Core.Bool.{false≢true}
 use borrow.Author.Tests.{eqb-false}
-
-pub or_parts : (a b : Bool) → (a || b) ≡ false → (a ≡ false) × (b ≡ false)
-or_parts true b e = absurd (true≢false e)
-or_parts false b e = (refl, e)
-
-pub and_parts : (a b : Bool) → (a && b) ≡ true → (a ≡ true) × (b ≡ true)
-and_parts true b e = (refl, e)
-and_parts false b e = absurd (false≢true e)
 
 pub above : (n : ℕ) → (n ≡ 0 → ⊥) → 0 < n
 above n h = omega arith

@@ -1,4 +1,5 @@
 -- A template is valid by the walk exactly if it is valid in CSS's words. Assumes nothing.
+use Rattle.std.proofs.lemmas.Bool.{or_parts, and_parts}
 use Rattle.std.proofs.Common.{◌≡◌, ℕ, zero, suc, ◌+◌, ◌<◌, ◌≤◌, Bool, true, false, cond, not, ◌&&◌, ◌||◌, eqb, ◌⊎◌, ◌↔◌, List, [], ◌∷◌, length, get_or, refl, ap, ◌∙◌, inl, inr, ⊎_elim, suc-le-suc, zero-le, le_of_suc-le-suc, not-suc-le-zero, arith, eqb-true}
 use mathlib.Core.Bool.{false≢true}
 use mathlib.Core.List.Memᴰ
@@ -14,7 +15,7 @@ use Rattle.template_rules.specs.Explicit.{valid_of}
 use Rattle.template_rules.specs.Css.{Automatic, FixedPart, no_component, Valid}
 use Rattle.template_rules.specs.declared.RepetitionCount.{RepetitionCount}
 use Rattle.template_rules.specs.declared.RepetitionCount.TheVariants.{Single, Count, AutoFill, AutoFit}
-use Rattle.template_rules.proofs.Tests.{or_parts, and_parts, above_test, test_above}
+use Rattle.template_rules.proofs.Tests.{above_test, test_above}
 
 -- ---- tests of two parts
 either : (a b : Bool) → (a || b) ≡ true → (a ≡ true) ⊎ (b ≡ true)

@@ -8,6 +8,7 @@ pub mod Summary
 pub mod Steps
 pub mod Repetitions
 pub mod Explicit
+pub mod Strategies
 pub mod Crate
 pub mod Css
 pub mod CssWhole

@@ -3,7 +3,11 @@
 #![tactic(auto)]
 
 pub mod component;
+pub mod gathered;
+pub mod strategy;
 pub mod whole;
+
+use sizing::Sizing;
 
 // A template: the words of its components, and those of the axis's tracks, their minimums and their maximums.
 #[derive(Clone, Copy, Debug)]
@@ -37,6 +41,15 @@ pub enum AutoRepeatStrategy {
     MinRepetitionsThatDoOverflow,
 }
 
+// What decides with a template how often its automatic repeat is written out: the inner size, where there is one, which repetitions it asks
+// for, and the gap.
+#[derive(Clone, Copy, Debug, PartialEq)]
+pub struct RepeatSpace {
+    pub inner: Option<f32>,
+    pub strategy: AutoRepeatStrategy,
+    pub gap: Sizing,
+}
+
 // The explicit size of an axis: repetitions of the automatic repeat, tracks of the template, and explicit tracks.
 #[derive(Clone, Copy, Debug, PartialEq, Eq)]
 pub struct ExplicitSize {
@@ -67,8 +80,8 @@ pub struct TemplateSummary {
 }
 
 // A template written out: the repetitions of its automatic repeat, and its tracks, not cut.
-#[derive(Clone, Copy, Debug, PartialEq, Eq)]
+#[derive(Clone, Copy, Debug, PartialEq, Eq, Default)]
 pub struct TemplateSize {
-    pub repetitions: u64,
+    pub repetitions: u32,
     pub tracks: u64,
 }

@@ -2,5 +2,6 @@
 
 #![tactic(auto)]
 
+mod component;
 pub mod summary;
 mod tracks;

@@ -1,15 +1,14 @@
 // What one walk over a template gathers: its validity, its counts and its sums of f32, in template order.
 ghost use Rattle.std.specs.Prelude.{◌≡◌, cond, ◌≤◌, eqb, leb, length};
 ghost use Rattle.template_rules.specs.Template.{with_tracks, components_of};
-ghost use Rattle.template_rules.specs.Summary.{meaning_of, no_components, steps_inside, first_part};
-ghost use Rattle.template_rules.specs.Steps.{outside_step, automatic_step, step_by, summary_step, cut_after};
-ghost use Rattle.template_rules.specs.Bounds.{OfWord, Gathered};
+ghost use Rattle.template_rules.specs.Summary.{meaning_of, no_components, first_part};
+ghost use Rattle.template_rules.specs.Steps.{outside_step, automatic_step, step_by, summary_step};
 
+use crate::component::{WordComponent, component_after, steps_inside};
 use crate::tracks::component_totals;
-use template_rules::component::component_of;
-use template_rules::{
-    GridTemplateComponent, RepetitionCount, Template, TemplateSummary, TrackTotals,
-};
+use template_rules::component::MOST_COMPONENTS;
+use template_rules::gathered::GatheredTemplate;
+use template_rules::{RepetitionCount, Template, TemplateSummary, TrackTotals};
 
 // How many of these tracks lie before the automatic repeat: none once there is one.
 fn tracks_before(automatic: u64, tracks: u64) -> u64
@@ -63,15 +62,15 @@ fn add_automatic(summary: TemplateSummary, tracks: u64, totals: TrackTotals) -> 
 
 // The step for a component whose tracks are measured.
 fn add_totals(
-    summary: TemplateSummary,
-    component: GridTemplateComponent,
+    gathered: GatheredTemplate,
+    component: WordComponent,
     totals: TrackTotals,
 ) -> TemplateSummary
-    requires { Gathered 64 summary × OfWord component }
-    ensures { result ≡ step_by summary component.count component.length totals }
+    ensures { result ≡ step_by gathered.summary component.parts.count component.parts.length totals }
 {
-    let length = component.length;
-    match component.count {
+    let summary = gathered.summary;
+    let length = component.parts.length;
+    match component.parts.count {
         RepetitionCount::Single => add_outside(summary, false, totals.fixed, 1, totals.space),
         RepetitionCount::Count(times) => {
             let factor = times as f32;
@@ -87,45 +86,21 @@ fn add_totals(
 
 // The step for a component.
 fn add_component(
-    summary: TemplateSummary,
-    component: GridTemplateComponent,
+    gathered: GatheredTemplate,
+    component: WordComponent,
     template: Template<'_>,
     inner: f32,
 ) -> TemplateSummary
-    requires { Gathered 64 summary × OfWord component }
-    ensures { result ≡ summary_step inner summary (with_tracks template.entry.minimums.now template.entry.maximums.now component) }
+    ensures { result ≡ summary_step inner gathered.summary (with_tracks template.entry.minimums.now template.entry.maximums.now component.parts) }
 {
     let totals = component_totals(template, component, inner);
-    add_totals(summary, component, totals)
-}
-
-// How many steps are inside a component: one for each track of a repeat, none for a single.
-fn steps_inside(component: GridTemplateComponent) -> u64
-    ensures { result ≡ steps_inside component.count component.length }
-{
-    match component.count {
-        RepetitionCount::Single => 0,
-        _ => component.length,
-    }
-}
-
-// A component after so many steps inside it: a repeat cut to its first tracks.
-fn first_tracks(component: GridTemplateComponent, steps: u64) -> GridTemplateComponent
-    ensures { result ≡ cut_after steps component }
-{
-    if steps < steps_inside(component) {
-        return GridTemplateComponent {
-            length: steps,
-            ..component
-        };
-    }
-    component
+    add_totals(gathered, component, totals)
 }
 
 // The one walk over a template, for so many steps: one for each component, and one for each track in a repeat. It may end inside a
 // repeat, whose tracks so far then count. Of more than 64 components none is walked.
-pub fn template_summary(template: Template<'_>, inner: f32, steps: u64) -> TemplateSummary
-    ensures { (result ≡ cond (leb (length template.entry.components.now) 64) (meaning_of inner (first_part steps (components_of template.entry))) no_components) × Gathered 64 result }
+pub fn template_summary(template: Template<'_>, inner: f32, steps: u64) -> GatheredTemplate
+    ensures { result.summary ≡ cond (leb (length template.entry.components.now) 64) (meaning_of inner (first_part steps (components_of template.entry))) no_components }
 {
     let mut summary = TemplateSummary {
         empty: false,
@@ -137,17 +112,17 @@ pub fn template_summary(template: Template<'_>, inner: f32, steps: u64) -> Templ
         used: 0.0,
         once: 0.0,
     };
-    if template.components.len() > 64 {
-        return summary;
+    if template.components.len() > MOST_COMPONENTS {
+        return GatheredTemplate { summary };
     }
     let mut left = steps;
     for word in template.components {
         if left == 0 {
-            return summary;
+            return GatheredTemplate { summary };
         }
-        let component = first_tracks(component_of(*word), left - 1);
-        summary = add_component(summary, component, template, inner);
-        left = left - 1 - steps_inside(component);
+        let component = component_after(*word, left - 1);
+        summary = add_component(GatheredTemplate { summary }, component, template, inner);
+        left = left - 1 - steps_inside(component.parts);
     }
-    summary
+    GatheredTemplate { summary }
 }

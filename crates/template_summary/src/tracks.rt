@@ -1,21 +1,23 @@
 // The tracks of a component, walked in order: whether each has a fixed kind, and what they measure.
 ghost use Rattle.std.specs.Prelude.{◌≡◌};
 ghost use mathlib.Core.List.{foldl};
-ghost use Rattle.sizing.specs.Words.{min_max_of};
-ghost use Rattle.template_rules.specs.Template.{tracks_from};
+ghost use Rattle.template_rules.specs.Template.{track_at, tracks_from};
 ghost use Rattle.template_rules.specs.Space.{repeated_space, space_in};
 ghost use Rattle.template_rules.specs.Steps.{no_tracks, of_track, add_totals, track_step, totals_of};
-ghost use Rattle.template_rules.specs.Bounds.{OfWord};
 
+use crate::component::WordComponent;
 use sizing::definite::track_definite_value;
 use template_rules::component::word_at;
-use template_rules::{GridTemplateComponent, RepetitionCount, Template, TrackTotals};
+use template_rules::{RepetitionCount, Template, TrackTotals};
 
-// Whether a track has a fixed kind, and what it measures, from one decoding: it has a definite size exactly where its kind is fixed.
-fn track_totals(min: u64, max: u64, inner: f32) -> TrackTotals
-    ensures { result ≡ of_track inner (min_max_of min max) }
+// Whether the track at a place has a fixed kind, and what it measures, from one decoding: it has a definite size exactly where its kind is
+// fixed.
+fn track_totals(template: Template<'_>, place: u64, inner: f32) -> TrackTotals
+    ensures { result ≡ of_track inner (track_at template.entry.minimums.now template.entry.maximums.now place) }
 {
-    let size = track_definite_value(min, max, inner);
+    let minimum = word_at(template.minimums, place as usize);
+    let maximum = word_at(template.maximums, place as usize);
+    let size = track_definite_value(minimum, maximum, inner);
     TrackTotals {
         fixed: size.is_some(),
         space: size.unwrap_or(0.0),
@@ -51,22 +53,17 @@ fn add_track(totals: TrackTotals, count: RepetitionCount, track: TrackTotals) ->
 }
 
 // The tracks of a repeat, in order.
-fn repeat_totals(
-    template: Template<'_>,
-    component: GridTemplateComponent,
-    inner: f32,
-) -> TrackTotals
-    requires { OfWord component }
-    ensures { result ≡ foldl (track_step component.count inner) no_tracks (tracks_from template.entry.minimums.now template.entry.maximums.now component.first component.length) }
+fn repeat_totals(template: Template<'_>, component: WordComponent, inner: f32) -> TrackTotals
+    ensures { result ≡ foldl (track_step component.parts.count inner) no_tracks (tracks_from template.entry.minimums.now template.entry.maximums.now component.parts.first component.parts.length) }
 {
+    let parts = component.parts;
     let mut totals = TrackTotals {
         fixed: true,
         space: 0.0,
     };
-    for place in component.first..component.first + component.length {
-        let minimum = word_at(template.minimums, place);
-        let track = track_totals(minimum, word_at(template.maximums, place), inner);
-        totals = add_track(totals, component.count, track);
+    for place in parts.first..parts.first + parts.length {
+        let track = track_totals(template, place, inner);
+        totals = add_track(totals, parts.count, track);
     }
     totals
 }
@@ -74,15 +71,13 @@ fn repeat_totals(
 // The tracks of a component: of a single its one track.
 pub(crate) fn component_totals(
     template: Template<'_>,
-    component: GridTemplateComponent,
+    component: WordComponent,
     inner: f32,
 ) -> TrackTotals
-    requires { OfWord component }
-    ensures { result ≡ totals_of inner component.count (tracks_from template.entry.minimums.now template.entry.maximums.now component.first component.length) }
+    ensures { result ≡ totals_of inner component.parts.count (tracks_from template.entry.minimums.now template.entry.maximums.now component.parts.first component.parts.length) }
 {
-    let RepetitionCount::Single = component.count else {
+    let RepetitionCount::Single = component.parts.count else {
         return repeat_totals(template, component, inner);
     };
-    let minimum = word_at(template.minimums, component.first);
-    track_totals(minimum, word_at(template.maximums, component.first), inner)
+    track_totals(template, component.parts.first, inner)
 }

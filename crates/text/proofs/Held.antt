@@ -33,7 +33,7 @@ held_same (b ∷ bs) v w e =
     held_go (ltb b 48) (ltb 57 b) (digits_of (v * 10 + (b - 48)) bs) (digits_of (w * 10 + (b - 48)) bs)
     (held_same bs (v * 10 + (b - 48)) (w * 10 + (b - 48)) (omega arith))
 
-le_or_lt : (a b : ℕ) → (a ≤ b) ⊎ (b < a)
+pub le_or_lt : (a b : ℕ) → (a ≤ b) ⊎ (b < a)
 le_or_lt a b = go (leb a b) refl
   where
     go : (t : Bool) → leb a b ≡ t → (a ≤ b) ⊎ (b < a)

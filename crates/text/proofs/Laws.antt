@@ -1,5 +1,5 @@
 -- Laws of `before`, `split` and `same`: at a place of a list, and a whole part at a time. Assumes nothing.
-use Prim.Native.Nat.{ℕ, zero, suc, ◌+◌, ◌-◌, ◌≤◌, ◌<◌, zero-le, suc-le-suc}
+use Prim.Native.Nat.{ℕ, zero, suc, ◌+◌, ◌-◌, ◌≤◌, ◌<◌, zero-le, suc-le-suc, max}
 use mathlib.Core.Path.{◌≡◌, refl, sym, ap, ap₂, ◌∙◌}
 use mathlib.Core.List.{List, [], ◌∷◌}
 use mathlib.Core.Bool.{Bool, true, false, cond}
@@ -179,3 +179,7 @@ module _ (b : ℕ) (s : List ℕ) (at e : ℕ) (fits : at ≤ length s) (found :
       (λ z. rw (le-leb at (length s) fits, split-no-more z, q, lt-leb (e + 1) (length s) (omega arith)))
       (λ z. rw (le-leb at (length s) fits, split-more (λ y. omega arith), q, le-leb (e + 1) (length s) (omega arith)))
       (eq-or-lt_of_le find-le)
+
+-- where no b stands from a place on, its part ends with the text
+pub end_absent : (b at : ℕ) (s : List ℕ) → length s ≤ at + before b (drop at s) → max (length s) at ≡ at + before b (drop at s)
+end_absent b at s h = omega (arith, h, before_le b (drop at s), length-drop at s)

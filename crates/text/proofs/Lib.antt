@@ -8,4 +8,5 @@ pub mod Held
 pub mod Signs
 pub mod Hex
 pub mod Decimals
+pub mod Digits
 pub mod Hexadecimals

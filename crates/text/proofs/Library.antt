@@ -1,13 +1,12 @@
 -- The library's words for what a text holds: the first place, the parts, equality. Assumes nothing.
-use Rattle.std.proofs.Common.{ℕ, suc, ◌≡◌, ◌+◌, List, [], ◌∷◌, Bool, true, false, cond, eqb, refl, sym, ◌&&◌, ◌≤◌, nat_lt, one-add, ◌∙◌, length, Bor, Option, Some, None, arith}
+use Rattle.std.proofs.Common.{ℕ, suc, ◌≡◌, ◌+◌, List, [], ◌∷◌, Bool, true, false, cond, eqb, refl, sym, ◌&&◌, nat_lt, one-add, ap, length, length-drop, drop, Bor, Option, Some, None, MatchOption, arith}
 use Rattle.std.specs.List.{position, position_or_len, slice_split, onto_first}
 use Rattle.std.specs.Prelude.{unwrap_or, nat_eq}
 use Rattle.std.specs.Option.{option_map}
 use Rattle.std.specs.Cmp.Lexicographic.{pointwise}
 use Rattle.std.proofs.lemmas.List.Recursion.{is_position_or_len}
-use borrow.Author.Tests.{ltb-false}
-use Rattle.text.specs.Split.{before, onto, split, same, index, place_among}
-use Rattle.text.proofs.Laws.{before_le}
+use borrow.Author.Tests.{ltb-true, ltb-false}
+use Rattle.text.specs.Split.{before, onto, split, same, index, place_among, Absent, FirstAt}
 
 -- ---- the first place
 
@@ -15,14 +14,18 @@ before_first : (b : ℕ) (s : List ℕ) → before b s ≡ position_or_len (λ x
 unfolding before
 before_first b s = is_position_or_len (before b) (λ x. eqb x b) refl (λ x xs. rw one-add refl) s
 
--- where the first b stands, or the length
-place_or_length : (n m : ℕ) (t : Bool) → nat_lt n m ≡ t → n ≤ m → unwrap_or (cond t (Some n) None) m ≡ n
-place_or_length n m true e h = refl
-place_or_length n m false e h = let k = ltb-false n m e in omega arith
+-- where the first b stands from a place on, if any
+module _ (b at : ℕ) (s : List ℕ) where
+  abbrev first_in : ℕ
+  first_in = position_or_len (λ x. eqb x b) (drop at s)
 
-pub first_place : (b : ℕ) (s : List ℕ) → unwrap_or (position (λ x. eqb x b) s) (length s) ≡ before b s
-first_place b s =
-    place_or_length (position_or_len (λ x. eqb x b) s) (length s) _ refl (rw (← before_first b s) (before_le b s)) ∙ sym (before_first b s)
+  first_when : (t : Bool) → nat_lt first_in (length (drop at s)) ≡ t → MatchOption (cond t (Some first_in) None) (Absent b at s) (λ k. FirstAt b at s (at + k))
+  first_when true q =
+      (ap (λ (n : ℕ). at + n) (sym (before_first b (drop at s))), omega (arith, ltb-true first_in (length (drop at s)) q, length-drop at s))
+  first_when false q = omega (arith, before_first b (drop at s), ltb-false first_in (length (drop at s)) q, length-drop at s)
+
+  pub first_place : (rest : List ℕ) (r : Option ℕ) → rest ≡ drop at s → r ≡ position (λ x. eqb x b) rest → MatchOption r (Absent b at s) (λ k. FirstAt b at s (at + k))
+  first_place rest r e q = rw (q, e) (first_when (nat_lt first_in (length (drop at s))) refl)
 
 -- ---- the parts
 

@@ -7,11 +7,11 @@ use mathlib.Core.Logic.{⊎_elim}
 use native.Mathlib.Numerals.{add-one}
 use native.Mathlib.Omega.{arith}
 use native.Mathlib.Nat.{zero-add, le_of_suc-le-suc, not-suc-le-zero, eq-or-lt_of_le}
-use lib.Dec.{leb}
+use lib.Dec.{eqb, leb}
 use lib.ListN.{length, get_or, take, drop, set, replicate, length-set, length-drop, length-replicate, get_or-replicate, drop_of_length-le, get_or-eq_default}
-use lib.Seq.{sets, take_all, take-nil, length-take-le, get_or-set_same, get_or-set_other, ext_get_or}
+use lib.Seq.{sets, drop-cons, take_all, take-nil, length-take-le, get_or-set_same, get_or-set_other, ext_get_or}
 use borrow.Author.Tests.{le-leb, lt-leb, lt-ltb, leb-true, leb-false}
-use Rattle.text.specs.Split.{before, split}
+use Rattle.text.specs.Split.{before, onto, split}
 use Rattle.text.specs.Places.{starts_from, place_by, field_by, fields_from, fields_by}
 use Rattle.text.proofs.Laws.{find-le, split-more, split-no-more}
 
@@ -62,14 +62,46 @@ module _ (b : ℕ) (s : List ℕ) (at e : ℕ) (fits : at ≤ length s) (found :
       let g : at + length (take (e - at) (drop at s)) + 1 ≡ e + 1 = omega arith in
       rw parts_next (ap (λ (k : ℕ). at ∷ starts_from k (parts_from b s (e + 1))) g)
 
--- one start put, and the others after it
-pub sets_next : (starts put : List ℕ) (k at : ℕ) (xs : List ℕ) → put ≡ set starts k at → sets starts k (at ∷ xs) ≡ sets put (k + 1) xs
-sets_next starts put k at xs e = rw add-one (ap (λ (l : List ℕ). sets l (suc k) xs) (sym e))
+-- ---- the starts put one after the other
 
--- the last start put
-pub sets_last : (b : ℕ) (s starts put : List ℕ) (k at : ℕ) → length s < at → put ≡ set starts k at → sets starts k (starts_from at (parts_from b s at)) ≡ put
+-- how far parts reach that stand one after the other, each with a separator after it
+pub reach : List (List ℕ) → ℕ
+reach [] = 0
+reach (p ∷ ps) = length p + 1 + reach ps
+
+reach_onto : (x : ℕ) (ps : List (List ℕ)) (n : ℕ) → reach ps ≡ n + 1 → reach (onto x ps) ≡ n + 2
+unfolding reach onto
+reach_onto x [] n e = absurd (omega (arith, e))
+reach_onto x (p ∷ ps) n e = omega (arith, e)
+
+pub reach_split : (b : ℕ) (s : List ℕ) → reach (split b s) ≡ length s + 1
+unfolding reach split
+reach_split b [] = refl
+reach_split b (x ∷ xs) = go (eqb x b) (reach_split b xs)
+  where
+    go : (t : Bool) → reach (split b xs) ≡ length xs + 1 → reach (cond t ([] ∷ split b xs) (onto x (split b xs))) ≡ suc (length xs) + 1
+    go true i = omega (arith, i)
+    go false i = omega (arith, reach_onto x (split b xs) (length xs) i)
+
+-- part k, and the parts after it
+module _ (ps : List (List ℕ)) (k : ℕ) (p : List ℕ) (there : k < length ps) (part : p ≡ get_or ps k p) where
+  part_more : drop k ps ≡ p ∷ drop (k + 1) ps
+  part_more = rw add-one (drop-cons ps k p there ∙ ap (λ (q : List ℕ). q ∷ drop (suc k) ps) (sym part))
+
+  pub reach_next : reach (drop k ps) ≡ length p + 1 + reach (drop (k + 1) ps)
+  unfolding reach
+  reach_next = ap reach part_more
+
+  pub sets_next : (starts put : List ℕ) (at : ℕ) → put ≡ set starts k at
+      → sets starts k (starts_from at (drop k ps)) ≡ sets put (k + 1) (starts_from (at + (length p + 1)) (drop (k + 1) ps))
+  unfolding starts_from
+  sets_next starts put at e =
+      let g : at + length p + 1 ≡ at + (length p + 1) = omega arith in
+      rw (part_more, add-one k, sym e, g)
+
+pub sets_last : (ps : List (List ℕ)) (k : ℕ) (starts put : List ℕ) (at : ℕ) → length ps ≤ k → put ≡ set starts k at → sets starts k (starts_from at (drop k ps)) ≡ put
 unfolding starts_from
-sets_last b s starts put k at h e = rw (parts-past b s at h) (sym e)
+sets_last ps k starts put at h e = rw (drop_of_length-le ps h, sym e)
 
 -- ---- what lies between two starts is the part
 

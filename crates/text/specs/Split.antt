@@ -1,10 +1,18 @@
 -- A text cut at a separator byte.
-use Rattle.std.specs.Prelude.{ℕ, suc, List, [], ◌∷◌, Bool, true, false, cond, eqb, ltb, length, Option, Some, None}
+use Rattle.std.specs.Prelude.{ℕ, suc, ◌+◌, ◌≤◌, ◌<◌, ◌≡◌, List, [], ◌∷◌, Bool, true, false, cond, eqb, ltb, length, drop, Option, Some, None}
 
 -- how many bytes stand before the first `b`; all of them where there is none
 unfoldable pub before : ℕ → List ℕ → ℕ
 before b [] = 0
 before b (x ∷ xs) = cond (eqb x b) 0 (suc (before b xs))
+
+-- no `b` stands from a place on
+abbrev pub Absent : ℕ → ℕ → List ℕ → Type 0
+Absent b at s = length s ≤ at + before b (drop at s)
+
+-- the first `b` from a place on stands there
+abbrev pub FirstAt : ℕ → ℕ → List ℕ → ℕ → Type 0
+FirstAt b at s k = (k ≡ at + before b (drop at s)) × (k < length s)
 
 -- x in front of the first part
 unfoldable pub onto : ℕ → List (List ℕ) → List (List ℕ)

@@ -4,8 +4,6 @@ ghost use Rattle.std.proofs.lemmas.List.Edits.{sets};
 ghost use Rattle.text.specs.Split.{split};
 ghost use Rattle.text.specs.Places.{starts_from, part_at, place_by, field_by};
 
-use crate::split::find;
-
 // The most fields whose places are kept: no line of any form has more.
 pub const FIELDS: usize = 14;
 
@@ -13,7 +11,7 @@ pub const FIELDS: usize = 14;
 pub const STARTS: usize = FIELDS + 1;
 
 // A part of a text.
-#[derive(Clone, Copy, Debug, PartialEq, Eq)]
+#[derive(Clone, Copy, Debug, Default, PartialEq, Eq)]
 pub struct Place {
     pub offset: usize,
     pub length: usize,
@@ -32,12 +30,11 @@ fn put_start(starts: &mut [usize], k: usize, at: usize)
 pub fn cut_parts(s: &[u8], b: u8, starts: &mut [usize]) -> usize
     ensures { (result ≡ length (split b s.now)) × (starts.new ≡ sets starts.old 0 (starts_from 0 (split b s.now))) }
 {
-    let mut count: usize = 0;
-    let mut at: usize = 0;
-    while at <= s.len() {
+    let mut count = 0;
+    let mut at = 0;
+    for part in s.split(|x| *x == b) {
         put_start(starts, count, at);
-        let end = find(s, at, b);
-        at = end + 1;
+        at += part.len() + 1;
         count += 1;
     }
     put_start(starts, count, at);
@@ -45,14 +42,12 @@ pub fn cut_parts(s: &[u8], b: u8, starts: &mut [usize]) -> usize
 }
 
 // Where field k lies; the empty place past the fields that are kept.
+#[tactic(auto, unfolding(crate::specs::Places::place_by))]
 pub fn field_place(starts: &[usize; STARTS], k: usize) -> Place
     ensures { result ≡ place_by starts.now k }
 {
     if FIELDS <= k {
-        return Place {
-            offset: 0,
-            length: 0,
-        };
+        return Place::default();
     }
     let start = starts[k];
     let next = starts[k + 1];

@@ -76,5 +76,5 @@ pub fn read_count(s: &[u8], least: u32, most: u32) -> Result<u32, NumberFault>
 pub fn read_index(s: &[u8]) -> Result<i32, NumberFault>
     ensures { result ≡ index_in (whole_of s.now) }
 {
-    Ok(read_within(s, -32768, 32767)? as i32)
+    Ok(read_within(s, i64::from(i16::MIN), i64::from(i16::MAX))? as i32)
 }

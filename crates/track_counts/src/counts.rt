@@ -1,12 +1,10 @@
 // The tracks of an axis as counts, and the conversions between lines and tracks that depend on them.
-ghost use Rattle.std.specs.Prelude.{◌≡◌, ◌≤◌};
-ghost use Rattle.coordinates.specs.Signed.{integer_of, sixteen_bits};
-ghost use Rattle.coordinates.specs.Answers.{line_answer, answered_line, answered_count};
-ghost use Rattle.track_counts.specs.Counts.{too_many, length_answer, start_answer, end_answer, answered_track, next_track_answer, previous_line_answer, place_at, answered_index, vec_index_answer};
+ghost use Rattle.std.specs.Prelude.{◌≡◌};
+ghost use Rattle.coordinates.specs.Answers.{count_check, answered_line, answered_count};
+ghost use Rattle.track_counts.specs.Counts.{too_many, tracks_of, length_answer, start_answer, end_answer, answered_track, next_track_answer, previous_line_answer, answered_index, vec_index_answer};
 
 use coordinates::line::MOST_TRACKS;
-use coordinates::signed::Signed;
-use coordinates::{Fault, OriginZeroLine, line, signed};
+use coordinates::{Fault, OriginZeroLine};
 
 // How many tracks lie before the explicit grid, in it, and after it.
 #[derive(Clone, Copy, Debug, PartialEq, Eq)]
@@ -16,23 +14,8 @@ pub struct TrackCounts {
     pub positive_implicit: u16,
 }
 
-// A line of a number by its sign.
-fn line_of(number: Signed) -> OriginZeroLine
-    ensures { answered_line (Ok result) ≡ line_answer (sixteen_bits (integer_of number)) }
-{
-    OriginZeroLine(signed::joined(number))
-}
-
-// Where a line is found among the records of an axis, of its distance from the first line of the grid by its sign; none outside the grid.
-fn place_at(last: u32, distance: Signed) -> Option<u32>
-    requires { last ≤ 30000 }
-    ensures { result ≡ place_at last (integer_of distance) }
-{
-    match distance {
-        Signed::NonNegative(d) if d <= last => Some(2 * d),
-        _ => None,
-    }
-}
+// The most tracks of an axis: those before the explicit grid, in it, and after it.
+const MOST_AXIS_TRACKS: u16 = 3 * MOST_TRACKS;
 
 impl TrackCounts {
     // Whether one of the counts is above 10,000.
@@ -44,19 +27,32 @@ impl TrackCounts {
             || MOST_TRACKS < self.positive_implicit
     }
 
+    // Refused by 4: a count above 10,000.
+    pub fn check(self) -> Result<(), Fault>
+        ensures { result ≡ count_check (too_many self) }
+    {
+        if self.too_many() {
+            return Err(Fault::Count);
+        }
+        Ok(())
+    }
+
+    // How many tracks there are.
+    pub fn tracks(self) -> u32
+        ensures { result ≡ tracks_of self }
+    {
+        u32::from(self.negative_implicit)
+            + u32::from(self.explicit)
+            + u32::from(self.positive_implicit)
+    }
+
     // All tracks of the axis. Refused by 4, as the calls below: a count above 10,000.
     #[tactic(auto, unfolding(crate::specs::Counts::length_answer))]
     pub fn len(self) -> Result<u32, Fault>
         ensures { answered_count result ≡ length_answer self }
     {
-        if self.too_many() {
-            return Err(Fault::Count);
-        }
-        Ok(
-            u32::from(self.negative_implicit)
-                + u32::from(self.explicit)
-                + u32::from(self.positive_implicit),
-        )
+        self.check()?;
+        Ok(self.tracks())
     }
 
     // The line at which the implicit grid starts.
@@ -64,10 +60,8 @@ impl TrackCounts {
     pub fn implicit_start_line(self) -> Result<OriginZeroLine, Fault>
         ensures { answered_line result ≡ start_answer self }
     {
-        if self.too_many() {
-            return Err(Fault::Count);
-        }
-        Ok(line_of(signed::difference(0, self.negative_implicit)))
+        self.check()?;
+        Ok(OriginZeroLine(-(self.negative_implicit as i16)))
     }
 
     // The line at which the implicit grid ends.
@@ -75,12 +69,8 @@ impl TrackCounts {
     pub fn implicit_end_line(self) -> Result<OriginZeroLine, Fault>
         ensures { answered_line result ≡ end_answer self }
     {
-        if self.too_many() {
-            return Err(Fault::Count);
-        }
-        Ok(line_of(Signed::NonNegative(
-            u32::from(self.explicit) + u32::from(self.positive_implicit),
-        )))
+        self.check()?;
+        Ok(OriginZeroLine((self.explicit + self.positive_implicit) as i16))
     }
 
     // The track after a line. Refused by 4 too: a line outside -10,000..10,000.
@@ -88,14 +78,9 @@ impl TrackCounts {
     pub fn oz_line_to_next_track(self, index: OriginZeroLine) -> Result<i16, Fault>
         ensures { answered_track result ≡ next_track_answer self index.0 }
     {
-        if self.too_many() {
-            return Err(Fault::Count);
-        }
-        if line::is_outside(index) {
-            return Err(Fault::Count);
-        }
-        let track = signed::plus(index.0, self.negative_implicit);
-        Ok(signed::joined(track))
+        self.check()?;
+        index.check_within()?;
+        Ok(index.0 + self.negative_implicit as i16)
     }
 
     // The line before a track. Refused by 4 too: an index above 30,000.
@@ -103,13 +88,11 @@ impl TrackCounts {
     pub fn track_to_prev_oz_line(self, index: u16) -> Result<OriginZeroLine, Fault>
         ensures { answered_line result ≡ previous_line_answer self index }
     {
-        if self.too_many() {
+        self.check()?;
+        if MOST_AXIS_TRACKS < index {
             return Err(Fault::Count);
         }
-        if 30000 < index {
-            return Err(Fault::Count);
-        }
-        Ok(line_of(signed::difference(index, self.negative_implicit)))
+        Ok(OriginZeroLine(index as i16 - self.negative_implicit as i16))
     }
 }
 
@@ -121,15 +104,11 @@ pub fn try_into_track_vec_index(
 ) -> Result<Option<u32>, Fault>
     ensures { answered_index result ≡ vec_index_answer counts line.0 }
 {
-    if counts.too_many() {
-        return Err(Fault::Count);
-    }
-    if line::is_outside(line) {
-        return Err(Fault::Count);
-    }
-    let negative = counts.negative_implicit;
-    let last = u32::from(negative)
-        + u32::from(counts.explicit)
-        + u32::from(counts.positive_implicit);
-    Ok(place_at(last, signed::plus(line.0, negative)))
+    counts.check()?;
+    line.check_within()?;
+    let distance = i32::from(line.0) + i32::from(counts.negative_implicit);
+    Ok(match u32::try_from(distance) {
+        Ok(distance) if distance <= counts.tracks() => Some(2 * distance),
+        _ => None,
+    })
 }

@@ -6,4 +6,4 @@ pub mod counts;
 pub mod span;
 
 pub use counts::TrackCounts;
-pub use span::OriginZeroLines;
+pub use span::{OriginZeroLines, tracks_between};

@@ -7,12 +7,12 @@ use mathlib.Core.Path.{◌≡◌, ap, ◌∙◌}
 use mathlib.Core.Logic.{⊎_elim}
 use mathlib.Core.List.{List}
 use lib.ListN.{length, get_or, drop, drop_of_length-le}
+use Rattle.std.proofs.lemmas.Bool.{cases_lt}
 use Rattle.template_rules.specs.Template.{Component, component_of, track_at, template_of}
 use Rattle.track_rules.specs.declared.WrittenTrack.{WrittenTrack}
 use Rattle.track_rules.specs.Written.{repeats_of, written}
 use Rattle.track_rules.specs.Steps.{word_total, word_totals, sum_of, settle_of, cursor_of, no_component, written_in, written_at}
 use Rattle.track_rules.proofs.Words.{words_length, words_drop, template-get, track_in, first_fits, length-fits}
-use Rattle.track_rules.proofs.Lists.{lt_or_ge}
 use Rattle.track_rules.proofs.Cursors.{settle_here, settle_on, no-sum, add-sum}
 use Rattle.track_record.specs.Repeats.{repeated_of}
 
@@ -50,7 +50,7 @@ module _ (r : ℕ) (ws : List ℕ) where
 
   -- where tracks are left, so is a component
   pub component-left : (k o n : ℕ) → o + n ≤ sum_of (drop k totals) → 0 < n → k < length ws
-  component-left k o n h some = ⊎_elim (λ (g : k < length ws). g) (λ (g : length ws ≤ k). absurd (omega (arith, past k g))) (lt_or_ge k (length ws))
+  component-left k o n h some = ⊎_elim (λ (g : k < length ws). g) (λ (g : length ws ≤ k). absurd (omega (arith, past k g))) (cases_lt k (length ws))
     where
       past : (k : ℕ) → length ws ≤ k → sum_of (drop k totals) ≡ 0
       past k g = ap sum_of (drop_of_length-le totals {i = k} (omega (arith, words_length r ws))) ∙ no-sum

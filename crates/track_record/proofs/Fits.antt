@@ -6,6 +6,7 @@ use mathlib.Core.Logic.{⊎_elim}
 use mathlib.Core.Bool.{Bool, true, false, not, ◌||◌}
 use mathlib.Core.List.{List, [], ◌∷◌}
 use lib.ListN.{length, get_or}
+use Rattle.std.proofs.lemmas.Bool.{cases_lt}
 use Rattle.std.specs.List.{list_any}
 use Rattle.template_rules.specs.Template.{Component, component_of, with_tracks, template_of}
 use Rattle.track_rules.specs.declared.WrittenTrack.{WrittenTrack}
@@ -13,7 +14,6 @@ use Rattle.track_rules.specs.declared.AxisTracks.{AxisTracks}
 use Rattle.track_rules.specs.declared.Cursor.{Cursor}
 use Rattle.track_rules.specs.Records.{negative_of, tracks_in}
 use Rattle.track_rules.specs.Steps.{word_totals, totals_of, written_count, cursor_at, no_component, written_in, written_at, closed_at, plan_of}
-use Rattle.track_rules.proofs.Lists.{lt_or_ge}
 use Rattle.track_rules.proofs.Words.{totals_words, template-get, template-past, track_in, no-tracks}
 use Rattle.track_rules.proofs.Opened.{open_whole, not_fit}
 use Rattle.track_rules.proofs.AllTracks.{count_in, closed-negative, closed-explicit, closed-past, plan_of_lem}
@@ -48,7 +48,7 @@ unfit_word mi ma w o e =
     ⊎_elim
     (λ (h : (component_of w).length < 1). ap (λ (x : WrittenTrack). x.fit) (no-tracks mi ma w o (omega arith)))
     (λ (h : 1 ≤ (component_of w).length). ap (λ (x : WrittenTrack). x.fit) (track_in mi ma w o (λ z. omega arith)) ∙ e)
-    (lt_or_ge (component_of w).length 1)
+    (cases_lt (component_of w).length 1)
 
 unfit_at : (ws mi ma : List ℕ) (u : Cursor) → has_fit ws ≡ false → (written_at (template_of ws mi ma) u).fit ≡ false
 unfit_at ws mi ma u e =
@@ -57,7 +57,7 @@ unfit_at ws mi ma u e =
     ap (λ (x : Component). (written_in x u.offset).fit) (template-get ws mi ma u.component no_component h)
     ∙ unfit_word mi ma (get_or ws u.component 0) u.offset (unfit_here ws e u.component h))
     (λ (h : length ws ≤ u.component). ap (λ (x : Component). (written_in x u.offset).fit) (template-past ws mi ma u.component h))
-    (lt_or_ge u.component (length ws))
+    (cases_lt u.component (length ws))
 
 -- the plan of an axis whose template has no fit
 pub plan_unfit : (a : AxisTracks) (ws mi ma : List ℕ) (item : ℕ → Bool) (written tracks : ℕ) → written ≡ written_count a (word_totals a.repetitions ws) →
@@ -76,5 +76,5 @@ plan_unfit a ws mi ma item written tracks e n none =
         (λ (k : t < negative_of a + count_in a cs).
         closed-explicit a cs [] item t h k ∙ not_fit (written_at cs (cursor_at a (totals_of a.repetitions cs) t)).fit (not (item t)) (unfit_at ws mi ma (cursor_at a (totals_of a.repetitions cs) t) none))
         (λ (k : negative_of a + count_in a cs ≤ t). closed-past a cs [] item t k)
-        (lt_or_ge t (negative_of a + count_in a cs)))
-        (lt_or_ge t (negative_of a))
+        (cases_lt t (negative_of a + count_in a cs)))
+        (cases_lt t (negative_of a))

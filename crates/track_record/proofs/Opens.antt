@@ -8,13 +8,13 @@ use mathlib.Core.Bool.{Bool, true, false, cond, not, ◌&&◌}
 use mathlib.Core.List.{List, []}
 use lib.Dec.{eqb}
 use lib.ListN.{length, get_or, take, drop, get_or-eq_default}
+use Rattle.std.proofs.lemmas.Bool.{cases_lt}
 use Rattle.std.proofs.lemmas.List.{get_or-drop, get_or-take, length-take}
 use borrow.Author.Tests.{eq-eqb, ne_eqb, lt-ltb, le-ltb}
 use Rattle.template_rules.specs.Template.{Component, template_of}
 use Rattle.track_rules.specs.declared.AxisTracks.{AxisTracks}
 use Rattle.track_rules.specs.Records.{negative_of, tracks_in, item_at, closed_by, open_to}
 use Rattle.track_rules.specs.Steps.{word_totals, written_count, cursor_of, cursor_at, written_at, closed_at, plan_of}
-use Rattle.track_rules.proofs.Lists.{lt_or_ge}
 use Rattle.track_rules.proofs.Words.{totals_words}
 use Rattle.track_rules.proofs.Opened.{open_closed, open_last, open_same, open_whole}
 use Rattle.track_rules.proofs.AllTracks.{count_in, closed-negative, closed-explicit, open-past, plan_of_lem}
@@ -49,7 +49,7 @@ shut f (suc n) k le h =
     ⊎_elim
     (λ (g : k < suc n). shut f n k (omega (arith, g)) (λ j a b. h j a (omega (arith, b))) ∙ sym (open_closed f n (h n (omega (arith, g)) (omega arith))))
     (λ (g : suc n ≤ k). ap (open_to f) (omega (arith, le, g)))
-    (lt_or_ge k (suc n))
+    (cases_lt k (suc n))
 
 -- the tracks of a component that is no fit are open
 pub count-all : (fit : Bool) (items : List ℕ) (n : ℕ) → fit ≡ false → n ≡ open_to (λ j. fit && not (item_at items j)) n
@@ -165,4 +165,4 @@ plan_end a ws mi ma items written opened e h o =
         rw (le-ltb u (negative_of a) g)
         (ap (λ (ns : List ℕ). closed_by item (written_at cs (cursor_at a ns u)) u) (sym (totals_words a.repetitions ws mi ma))
         ∙ sym (closed-explicit a cs [] item u g (omega arith))))
-        (lt_or_ge u (negative_of a))
+        (cases_lt u (negative_of a))

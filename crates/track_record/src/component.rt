@@ -4,13 +4,14 @@ ghost use Rattle.track_record.specs.Repeats.{repeated_of, has_fit};
 
 use crate::Repeated;
 use crate::cursor::{is_fit, source_of};
+use template_rules::GridTemplateComponent;
 
 // The tracks of a component.
 #[tactic(auto, unfolding(crate::specs::Repeats::repeated_of))]
 pub fn repeated_of(word: u64) -> Repeated
     ensures { result ≡ repeated_of word }
 {
-    let component = template_rules::component::component_of(word);
+    let component = GridTemplateComponent::from(word);
     Repeated {
         first: component.first,
         length: component.length,

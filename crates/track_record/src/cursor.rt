@@ -1,11 +1,13 @@
 // Places in a template that is written out.
 ghost use Rattle.std.specs.Prelude.{◌≡◌, length, drop};
-ghost use Rattle.template_rules.specs.Template.{template_of};
+ghost use Rattle.template_rules.specs.Template.{components_of};
 ghost use Rattle.track_rules.specs.Written.{repeats_of, is_fit, source_of, written};
 ghost use Rattle.track_rules.specs.Steps.{word_total, word_totals, settle_of, next_of, written_at};
 
 use sizing::{MinMax, Sizing};
-use template_rules::RepetitionCount;
+use template_rules::component::track_at;
+use template_rules::{GridTemplateComponent, RepetitionCount, Template};
+use track_rules::implicit::no_track;
 use track_rules::{Cursor, TrackSource, WrittenTrack};
 
 // How often a component is written out.
@@ -23,7 +25,7 @@ pub fn repeats(count: RepetitionCount, repetitions: u32) -> u64
 pub fn total(word: u64, repetitions: u32) -> u64
     ensures { result ≡ word_total repetitions word }
 {
-    let component = template_rules::component::component_of(word);
+    let component = GridTemplateComponent::from(word);
     repeats(component.count, repetitions) * component.length
 }
 
@@ -31,16 +33,18 @@ pub fn total(word: u64, repetitions: u32) -> u64
 pub fn settle(components: &[u64], repetitions: u32, at: Cursor) -> Cursor
     ensures { result ≡ settle_of (drop at.component (word_totals repetitions components.now)) at.component at.offset }
 {
+    let rest = components.get(at.component..).unwrap_or(&[]);
     let mut offset = at.offset;
-    for component in at.component..components.len() {
-        let tracks = total(components[component], repetitions);
+    for (passed, word) in rest.iter().enumerate() {
+        let tracks = total(*word, repetitions);
         if offset < tracks {
+            let component = at.component + passed;
             return Cursor { component, offset };
         }
         offset -= tracks;
     }
     Cursor {
-        component: at.component.max(components.len()),
+        component: at.component + rest.len(),
         offset,
     }
 }
@@ -49,14 +53,10 @@ pub fn settle(components: &[u64], repetitions: u32, at: Cursor) -> Cursor
 pub fn next(components: &[u64], repetitions: u32, at: Cursor) -> Cursor
     ensures { result ≡ next_of (word_totals repetitions components.now) at }
 {
-    if at.offset == u64::MAX {
+    let Some(offset) = at.offset.checked_add(1) else {
         return at;
-    }
-    let further = Cursor {
-        component: at.component,
-        offset: at.offset + 1,
     };
-    settle(components, repetitions, further)
+    settle(components, repetitions, Cursor { offset, ..at })
 }
 
 // Whether `fit` writes the tracks of a component.
@@ -88,28 +88,19 @@ pub fn written_track(count: RepetitionCount, size: MinMax) -> WrittenTrack
 }
 
 // The track at a cursor, an auto track past the end of the template.
-pub fn written_at(
-    components: &[u64],
-    minimums: &[u64],
-    maximums: &[u64],
-    at: Cursor,
-) -> WrittenTrack
-    ensures { result ≡ written_at (template_of components.now minimums.now maximums.now) at }
+pub fn written_at(template: Template, at: Cursor) -> WrittenTrack
+    ensures { result ≡ written_at (components_of template.entry) at }
 {
-    let k = at.component;
-    if components.len() <= k {
-        return track_rules::implicit::no_track();
+    let Some(word) = template.components.get(at.component) else {
+        return no_track();
+    };
+    let component = GridTemplateComponent::from(*word);
+    if component.length == 0 {
+        return no_track();
     }
-    let component = template_rules::component::component_of(components[k]);
-    let length = component.length;
-    if length == 0 {
-        return track_rules::implicit::no_track();
-    }
-    let count = component.count;
-    let size = template_rules::component::track_at(
-        minimums,
-        maximums,
-        component.first + at.offset % length,
-    );
-    written_track(count, size)
+    let place = component.first + at.offset % component.length;
+    written_track(
+        component.count,
+        track_at(template.minimums, template.maximums, place),
+    )
 }

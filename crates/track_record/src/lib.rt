@@ -10,7 +10,8 @@ pub mod cursor;
 pub mod plan;
 pub mod rule;
 
-use track_rules::TrackSource;
+use template_rules::Template;
+use track_rules::{SpareSizes, TrackSource};
 
 // Tracks that repeat: the place of the first in the tables of sizes, how many there are, where they come from, and whether `fit` writes them.
 #[derive(Clone, Copy, Debug, PartialEq, Eq)]
@@ -19,4 +20,12 @@ pub struct Repeated {
     pub length: u64,
     pub source: TrackSource,
     pub fit: bool,
+}
+
+// What is lent of an axis: its template, its spare sizes, and its item bytes.
+#[derive(Clone, Copy, Debug)]
+pub struct LentTracks<'a> {
+    pub template: Template<'a>,
+    pub spares: SpareSizes<'a>,
+    pub items: &'a [u8],
 }

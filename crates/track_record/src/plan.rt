@@ -1,6 +1,6 @@
 // What is worked out once for all records of an axis.
 ghost use Rattle.std.specs.Prelude.{◌≡◌, not, ◌&&◌, ◌≤◌, length};
-ghost use Rattle.coordinates.specs.Refusals.{fault_number};
+ghost use Rattle.coordinates.specs.Refusals.{refused_by};
 ghost use Rattle.template_rules.specs.Template.{components_of};
 ghost use Rattle.track_rules.specs.Records.{item_at, tracks_in, open_to, axis_refusal};
 ghost use Rattle.track_rules.specs.Steps.{word_totals, sum_of, written_count, plan_of};
@@ -17,34 +17,28 @@ use track_rules::{AxisTracks, Plan};
 pub fn track_count(axis: AxisTracks) -> u32
     ensures { result ≡ tracks_in axis }
 {
-    let counts = axis.counts;
-    u32::from(counts.negative_implicit)
-        + u32::from(counts.explicit)
-        + u32::from(counts.positive_implicit)
+    axis.counts.tracks()
 }
 
-// What an axis is refused by: a gap out of range, and then a count above 10,000.
+// Refuses an axis by a gap out of range, and then by a count above 10,000.
 #[tactic(auto, unfolding(track_rules::specs::Records::axis_refusal))]
-pub fn axis_refusal(axis: AxisTracks) -> Option<Fault>
-    ensures { fault_number result ≡ axis_refusal axis }
+pub fn check_axis(axis: AxisTracks) -> Result<(), Fault>
+    ensures { refused_by result ≡ axis_refusal axis }
 {
     if !sizing::range::sizing_in_range(axis.gap) {
-        return Some(Fault::Value);
+        return Err(Fault::Value);
     }
     if axis.counts.too_many() {
-        return Some(Fault::Count);
+        return Err(Fault::Count);
     }
-    None
+    Ok(())
 }
 
 // Whether a track holds an item.
 pub fn holds_item(items: &[u8], index: u64) -> bool
     ensures { result ≡ item_at items.now index }
 {
-    match items.get(index as usize) {
-        Some(item) => *item != 0,
-        None => false,
-    }
+    items.get(index as usize).is_some_and(|item| *item != 0)
 }
 
 // How many explicit tracks the template writes.

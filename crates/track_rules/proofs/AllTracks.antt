@@ -9,6 +9,7 @@ use lib.Dec.{ltb}
 use lib.ListN.{length, get_or, length-append, length-take, get_or-append}
 use lib.Seq.{get_or-take}
 use borrow.Author.Tests.{lt-ltb, le-ltb}
+use Rattle.std.proofs.lemmas.Bool.{cases_lt}
 use Rattle.sizing.specs.declared.MinMax.{MinMax}
 use Rattle.template_rules.specs.Template.{Component}
 use Rattle.track_rules.specs.declared.WrittenTrack.{WrittenTrack}
@@ -18,7 +19,7 @@ use Rattle.track_rules.specs.declared.Plan.{Plan}
 use Rattle.track_rules.specs.Written.{written_out}
 use Rattle.track_rules.specs.Records.{listed, negative_of, explicit_of, positive_of, tracks_in, implicit, spare_at, negative_at, explicit_tracks, area_count, positive_run, all_tracks, no_track, closed_by, open_to}
 use Rattle.track_rules.specs.Steps.{totals_of, sum_of, written_at, written_count, cursor_at, track_at, closed_at, plan_of}
-use Rattle.track_rules.proofs.Lists.{lt_or_ge, length-listed, get-listed, get-past}
+use Rattle.track_rules.proofs.Lists.{length-listed, get-listed, get-past}
 use Rattle.track_rules.proofs.Cursors.{length-written, written_at_lem}
 use Rattle.track_rules.proofs.Opened.{open_whole}
 
@@ -68,7 +69,7 @@ module _ (a : AxisTracks) (cs : List Component) (sp : List MinMax) where
       rw (le-ltb i n k)
       (get-past (listed f n) (listed g (positive_of a)) i no_track k₂ ∙ ap (λ (j : ℕ). get_or (listed g (positive_of a)) j no_track) s
       ∙ get-listed g (positive_of a) (i - n) no_track (omega arith) ∙ ap (λ (j : ℕ). implicit Positive (spare_at sp j)) s₂))
-      (lt_or_ge i n))
+      (cases_lt i n))
 
   -- track t of the list is the track that the rule gives for t
   pub get-all : (t : ℕ) → t < tracks_in a → get_or (all_tracks a cs sp) t no_track ≡ track_at a cs sp t
@@ -105,15 +106,15 @@ module _ (a : AxisTracks) (cs : List Component) (sp : List MinMax) where
       (get-past e p (t - negative_of a) no_track g₁ ∙ ap (λ (i : ℕ). get_or p i no_track) s₂
       ∙ get-run (t - n) (omega arith)
       ∙ ap (λ (b : Bool). implicit (cond b Area Positive) (spare_at sp (t - n))) (same_test j)))
-      (lt_or_ge t n)))
-      (lt_or_ge t (negative_of a))
+      (cases_lt t n)))
+      (cases_lt t (negative_of a))
     where
       same_test : negative_of a + count_in a cs ≤ t → ltb (t - (negative_of a + count_in a cs)) (explicit_of a - count_in a cs) ≡ ltb t (negative_of a + explicit_of a)
       same_test h =
           ⊎_elim
           (λ (k : t < negative_of a + explicit_of a). lt-ltb (t - (negative_of a + count_in a cs)) (explicit_of a - count_in a cs) (omega arith) ∙ sym (lt-ltb t (negative_of a + explicit_of a) k))
           (λ (k : negative_of a + explicit_of a ≤ t). le-ltb (t - (negative_of a + count_in a cs)) (explicit_of a - count_in a cs) (omega arith) ∙ sym (le-ltb t (negative_of a + explicit_of a) k))
-          (lt_or_ge t (negative_of a + explicit_of a))
+          (cases_lt t (negative_of a + explicit_of a))
 
 module _ (a : AxisTracks) (cs : List Component) (sp : List MinMax) (item : ℕ → Bool) where
   -- the tracks before and after those of the template are open
@@ -160,5 +161,5 @@ closed_any a cs sp sp₂ item t =
     ⊎_elim
     (λ (k : t < negative_of a + count_in a cs). closed-explicit a cs sp item t h k ∙ sym (closed-explicit a cs sp₂ item t h k))
     (λ (k : negative_of a + count_in a cs ≤ t). closed-past a cs sp item t k ∙ sym (closed-past a cs sp₂ item t k))
-    (lt_or_ge t (negative_of a + count_in a cs)))
-    (lt_or_ge t (negative_of a))
+    (cases_lt t (negative_of a + count_in a cs)))
+    (cases_lt t (negative_of a))

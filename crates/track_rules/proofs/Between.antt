@@ -7,12 +7,12 @@ use mathlib.Core.Bool.{Bool, true, false, cond, not, ◌&&◌, ◌||◌}
 use mathlib.Core.List.{List}
 use lib.Dec.{leb, eqb}
 use borrow.Author.Tests.{eqb-true, eqb-false}
+use Rattle.std.proofs.lemmas.Bool.{cases_lt}
 use Rattle.sizing.specs.declared.MinMax.{MinMax}
 use Rattle.track_rules.specs.declared.WrittenTrack.{WrittenTrack}
 use Rattle.track_rules.specs.declared.AxisTracks.{AxisTracks}
 use Rattle.track_rules.specs.Records.{negative_of, explicit_of, positive_of, tracks_in, closed_by, open_to}
 use Rattle.track_rules.specs.Rust.{RustTrack, pushes, close_back, never, State, state, limit}
-use Rattle.track_rules.proofs.Lists.{lt_or_ge}
 use Rattle.track_rules.proofs.Raw.{or-none, or-twice, raw, raw_same, raw-push, raw-close}
 
 -- the flag b: whether a fit repeat ended the grid
@@ -60,7 +60,7 @@ module _ (a : AxisTracks) (item : ℕ → Bool) (T : ℕ → WrittenTrack) where
             ⊎_elim
             (λ (x : n < 1). g.last e (omega arith) pos)
             (λ (x : 1 ≤ n). let y : tracks_in a - 1 ≡ s.at + (n - 1) = omega arith in rw y (sym (hc (n - 1) (omega arith))))
-            (lt_or_ge n 1);
+            (cases_lt n 1);
       }
 
   pub fit-good : (s : State) (b : Bool) → Good a item T s b → (z : ℕ → MinMax) (n : ℕ) → n ≤ limit a - s.at →

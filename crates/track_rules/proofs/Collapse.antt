@@ -8,6 +8,7 @@ use mathlib.Core.List.{List}
 use lib.Dec.{leb}
 use lib.ListN.{length, get_or}
 use borrow.Author.Tests.{lt-leb, leb-false, eq-eqb, ne_eqb}
+use Rattle.std.proofs.lemmas.Bool.{cases_lt}
 use Rattle.sizing.specs.declared.MinMax.{MinMax}
 use Rattle.template_rules.specs.Template.{Component}
 use Rattle.track_rules.specs.declared.GridTrack.{GridTrack}
@@ -16,7 +17,6 @@ use Rattle.track_rules.specs.declared.AxisTracks.{AxisTracks}
 use Rattle.track_rules.specs.Tracks.{gutter_of, track_of}
 use Rattle.track_rules.specs.Records.{tracks_in, all_tracks, no_track, item_at, closed_in, open_to, fit_ends_in, shut_gutter, record_in, records_of}
 use Rattle.track_rules.specs.Css.{Collapses, Stays}
-use Rattle.track_rules.proofs.Lists.{lt_or_ge}
 use Rattle.track_rules.proofs.Opened.{open_le, open_closed, open_last, gutter-late, not_fit}
 use Rattle.track_rules.proofs.AllTracks.{length-all}
 use Rattle.track_rules.proofs.RecordList.{records-in}
@@ -61,7 +61,7 @@ open_above f (suc n) t h e = go (λ k. open_above f n t k e) (f n) refl
         ⊎_elim
         (λ (k : t < n). omega (arith, open_closed f n q, rec k))
         (λ (k : n ≤ t). let s : t ≡ n = omega arith in let x : f n ≡ false = rw s at e in let z : ◌≡◌ {A = ℕ} 0 1 = cc in absurd (omega arith))
-        (lt_or_ge t n)
+        (cases_lt t n)
     go rec false q = omega (arith, open_last f n q)
 
 or_false : (a b : Bool) → (a || b) ≡ false → (a ≡ false) × (b ≡ false)

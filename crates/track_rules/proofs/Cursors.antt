@@ -6,12 +6,13 @@ use mathlib.Core.Logic.{⊎_elim}
 use mathlib.Core.List.{List, [], ◌∷◌}
 use lib.ListN.{length, get_or, drop, length-append, length-map, get_or-append}
 use borrow.Author.Tests.{lt-ltb, le-ltb, eq-eqb, ne_eqb}
+use Rattle.std.proofs.lemmas.Bool.{cases_lt}
 use Rattle.template_rules.specs.Template.{Component}
 use Rattle.track_rules.specs.declared.Cursor.{Cursor}
 use Rattle.track_rules.specs.Written.{repeats_of, copies, written, once_of, written_out}
 use Rattle.track_rules.specs.Records.{no_track}
 use Rattle.track_rules.specs.Steps.{total_of, totals_of, sum_of, cursor, settle_of, cursor_of, next_of, no_component, written_in, written_at}
-use Rattle.track_rules.proofs.Lists.{lt_or_ge, get-past, length-copies, get-copies, drop_tail, drop_head}
+use Rattle.track_rules.proofs.Lists.{get-past, length-copies, get-copies, drop_tail, drop_head}
 
 pub settle_here : (n : ℕ) (ns : List ℕ) (k o : ℕ) → o < n → settle_of (n ∷ ns) k o ≡ cursor k o
 unfolding settle_of
@@ -32,7 +33,7 @@ offset_le (n ∷ ns) k o =
     ⊎_elim
     (λ (h : o < n). rw (settle_here n ns k o h) (omega arith))
     (λ (h : n ≤ o). rw (settle_on n ns k o h) (omega (arith, offset_le ns (suc k) (o - n))))
-    (lt_or_ge o n)
+    (cases_lt o n)
 
 pub cursor_offset : (ns : List ℕ) (t : ℕ) → (cursor_of ns t).offset ≤ t
 unfolding cursor_of
@@ -48,7 +49,7 @@ next_from ns (n ∷ l) k o e =
     (λ (h : n ≤ o).
     let s : o + 1 - n ≡ o - n + 1 = omega arith in
     rw (settle_on n l k o h, settle_on n l k (o + 1) (omega arith), s) (next_from ns l (suc k) (o - n) (drop_tail ns k n l e)))
-    (lt_or_ge o n)
+    (cases_lt o n)
 
 settle-next : (ns : List ℕ) (t : ℕ) →
     settle_of (drop (cursor_of ns t).component ns) (cursor_of ns t).component ((cursor_of ns t).offset + 1) ≡ cursor_of ns (t + 1)
@@ -133,7 +134,7 @@ written_from_lem all r (c ∷ cs) k o e h =
     (λ (g : total_of r c ≤ o).
     rw (totals_cons r c cs, settle_on (total_of r c) (totals_of r cs) k o g)
     (written_tail r c cs o g ∙ written_from_lem all r cs (suc k) (o - total_of r c) (drop_tail all k c cs e) (omega (arith, sum_cons r c cs))))
-    (lt_or_ge o (total_of r c))
+    (cases_lt o (total_of r c))
 
 -- track t of the written-out template stands at the cursor of t
 pub written_at_lem : (cs : List Component) (r t : ℕ) → t < sum_of (totals_of r cs) → get_or (written_out cs r) t no_track ≡ written_at cs (cursor_of (totals_of r cs) t)

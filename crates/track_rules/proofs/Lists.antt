@@ -10,15 +10,9 @@ use lib.Dec.{ltb}
 use lib.ListN.{length, get_or, drop, length-append, get_or-append}
 use lib.Seq.{get_or-append-add, get_or-append_seam}
 use borrow.Author.Tests.{ltb-true, ltb-false}
+use Rattle.std.proofs.lemmas.Bool.{cases_lt}
 use Rattle.track_rules.specs.Written.{copies}
 use Rattle.track_rules.specs.Records.{listed}
-
-pub lt_or_ge : (a b : ℕ) → (a < b) ⊎ (b ≤ a)
-lt_or_ge a b = go (ltb a b) refl
-  where
-    go : (t : Bool) → ltb a b ≡ t → (a < b) ⊎ (b ≤ a)
-    go true e = inl (ltb-true a b e)
-    go false e = inr (ltb-false a b e)
 
 pub length-listed : {A : Type 0} (f : ℕ → A) (n : ℕ) → length (listed f n) ≡ n
 length-listed f zero = refl
@@ -33,7 +27,7 @@ get-listed f (suc n) i d h =
     let e : i ≡ length (listed f n) = omega (arith, length-listed f n) in
     let g : i ≡ n = omega arith in
     ap (λ (j : ℕ). get_or (listed f n ++ (f n ∷ [])) j d) e ∙ get_or-append_seam (listed f n) (f n) [] d ∙ ap f (sym g))
-    (lt_or_ge i n)
+    (cases_lt i n)
 
 pub listed_same : {A : Type 0} (f g : ℕ → A) (n : ℕ) → ((i : ℕ) → i < n → f i ≡ g i) → listed f n ≡ listed g n
 listed_same f g zero h = refl
@@ -64,7 +58,7 @@ get-copies (suc n) l i d h =
     get-past l (copies n l) i d k
     ∙ get-copies n l (i - length l) d (omega (arith, suc-mul n (length l)))
     ∙ sym (ap (λ (j : ℕ). get_or l j d) (mod-eq-sub-mod k)))
-    (lt_or_ge i (length l))
+    (cases_lt i (length l))
 
 pub get-map : {A B : Type 0} (f : A → B) (l : List A) (i : ℕ) (d : B) (e : A) → i < length l → get_or (map f l) i d ≡ f (get_or l i e)
 get-map f [] i d e h = absurd (omega arith)

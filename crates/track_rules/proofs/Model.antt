@@ -9,6 +9,7 @@ use mathlib.Core.List.{List, [], ◌∷◌, map}
 use lib.Dec.{leb, eqb}
 use lib.ListN.{length, get_or}
 use borrow.Author.Tests.{lt-ltb, le-ltb, eq-eqb, ne_eqb}
+use Rattle.std.proofs.lemmas.Bool.{cases_lt}
 use Rattle.sizing.specs.declared.MinMax.{MinMax}
 use Rattle.sizing.specs.declared.Sizing.{Sizing}
 use Rattle.template_rules.specs.Template.{Component}
@@ -21,7 +22,7 @@ use Rattle.track_rules.specs.Written.{repeats_of, written, written_out}
 use Rattle.track_rules.specs.Records.{listed, negative_of, explicit_of, positive_of, tracks_in, records_in, spare_at, all_tracks, no_track, item_at, closed_by, open_to, record_in, records_of}
 use Rattle.track_rules.specs.Steps.{total_of, totals_of, sum_of, cursor_of, written_in, written_at, track_at, closed_at, plan_of, pair_with, record_of}
 use Rattle.track_rules.specs.Rust.{RustTrack, bare, rust_gutter, rust_track, pushes, never, cycled, State, limit, room, plain_step, step, steps, negative_part, explicit_part, positive_part, close_first, close_last, in_order, initialize_grid_tracks}
-use Rattle.track_rules.proofs.Lists.{lt_or_ge, listed_same, map-listed, get-map}
+use Rattle.track_rules.proofs.Lists.{listed_same, map-listed, get-map}
 use Rattle.track_rules.proofs.Cursors.{sum_nil, sum_cons, written_at_lem, written_head, written_tail}
 use Rattle.track_rules.proofs.Opened.{gutter-late}
 use Rattle.track_rules.proofs.AllTracks.{count_in, track-negative, track-explicit, track-past, closed-negative, closed-past}
@@ -41,7 +42,7 @@ written-cycled r c i h =
     let z : length c.tracks ≡ 0 = omega arith in
     absurd (omega (arith, mul-zero (repeats_of r c.count), ap (λ (n : ℕ). repeats_of r c.count * n) z)))
     (λ (k : 1 ≤ length c.tracks). k)
-    (lt_or_ge (length c.tracks) 1) in
+    (cases_lt (length c.tracks) 1) in
     get-map (written c.count) c.tracks (i % length c.tracks) no_track auto_size (mod-lt i pos)
 
 module _ (a : AxisTracks) (item : ℕ → Bool) (T : ℕ → WrittenTrack) where
@@ -175,7 +176,7 @@ module _ (a : AxisTracks) (cs : List Component) (sp : List MinMax) (item : ℕ �
       ∙ sym (written_at_lem cs a.repetitions i (omega arith))) in
       rw (lt-ltb 0 (explicit_of a) h) (r.0, r.1, omega (arith, r.2)))
       (λ (h : explicit_of a ≤ 0). rw (le-ltb 0 (explicit_of a) h) (false, first_good, omega arith))
-      (lt_or_ge 0 (explicit_of a))
+      (cases_lt 0 (explicit_of a))
 
   abbrev closing : Bool → ℕ → Bool
   closing d g = eqb g (tracks_in a) || (eqb g 0 || mixed F (tracks_in a) d g)
@@ -209,7 +210,7 @@ module _ (a : AxisTracks) (cs : List Component) (sp : List MinMax) (item : ℕ �
       (λ q. ⊎_elim
       (λ (k : s.at < tracks_in a). closed-past a cs sp item (tracks_in a - 1) (omega arith))
       (λ (k : tracks_in a ≤ s.at). g.last q (omega (arith, g.within)) (omega arith))
-      (lt_or_ge s.at (tracks_in a)))
+      (cases_lt s.at (tracks_in a)))
       ∙ ap (λ (o : ℕ). F t || leb o (suc t)) (sym (plan-opened a cs sp item))
 
   shown-record : (s : State) (d : Bool) → Good a item T s d → s.at ≡ before → (i : ℕ) → i < records_in a → shown a.gap (size_by T) F (closing d) i ≡ bare (record_of a cs sp item i)
@@ -228,7 +229,7 @@ module _ (a : AxisTracks) (cs : List Component) (sp : List MinMax) (item : ℕ �
       let x : shown a.gap (size_by T) F (closing d) (suc i) ≡ rust_track (size_by T (i / 2)) (F (i / 2)) = rw (ne_eqb (suc i % 2) 0 (λ z. omega arith), q) in
       let y : pair_with a.gap (eqb (suc i % 2) 0) (T (i / 2)) (F (i / 2)) o ≡ track_of (T (i / 2)) (F (i / 2)) = rw (ne_eqb (suc i % 2) 0 (λ z. omega arith)) in
       x ∙ bare-track (T (i / 2)) (F (i / 2)) ∙ ap bare (sym (record-later a cs sp item i ∙ y)))
-      (lt_or_ge (suc i % 2) 1)
+      (cases_lt (suc i % 2) 1)
 
 -- the list of records, their sources left out, is what the Rust makes
 pub rust_records : (a : AxisTracks) (cs : List Component) (sp : List MinMax) (items : List ℕ) → initialize_grid_tracks a cs sp (item_at items) ≡ map bare (records_of a cs sp items)

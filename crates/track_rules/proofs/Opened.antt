@@ -6,8 +6,8 @@ use mathlib.Core.Logic.{◌⊎◌, inl, inr}
 use mathlib.Core.Bool.{Bool, true, false, cond, ◌&&◌, ◌||◌}
 use lib.Dec.{leb, eqb}
 use borrow.Author.Tests.{le-leb, lt-leb, eq-eqb, ne_eqb}
+use Rattle.std.proofs.lemmas.Bool.{cases_lt}
 use Rattle.track_rules.specs.Records.{open_to}
-use Rattle.track_rules.proofs.Lists.{lt_or_ge}
 
 -- one past the last open track
 pub open_le : (f : ℕ → Bool) (n : ℕ) → open_to f n ≤ n
@@ -41,7 +41,7 @@ open_whole f (suc n) h = open_last f n (let e : suc n - 1 ≡ n = omega arith in
 -- the gutter's rule as document 01 says it, and as the code tests it
 pub gutter-late : (f : ℕ → Bool) (n t : ℕ) (ends : Bool) → t < n → (ends ≡ false → f (n - 1) ≡ false) →
     (eqb (suc t) n || f t || (ends && leb (open_to f n) (suc t))) ≡ (f t || leb (open_to f n) (suc t))
-gutter-late f n t ends h last = go (lt_or_ge (suc t) (open_to f n))
+gutter-late f n t ends h last = go (cases_lt (suc t) (open_to f n))
   where
     last_one : (b : Bool) → ends ≡ b → open_to f n ≤ suc t → (eqb (suc t) n || f t || (b && true)) ≡ (f t || true)
     last_one true e k = all (eqb (suc t) n) (f t)

@@ -8,6 +8,7 @@ use mathlib.Core.List.{List, []}
 use lib.Dec.{leb, eqb}
 use lib.ListN.{length, get_or}
 use borrow.Author.Tests.{eq-eqb, ne_eqb}
+use Rattle.std.proofs.lemmas.Bool.{cases_lt}
 use Rattle.sizing.specs.declared.MinMax.{MinMax}
 use Rattle.template_rules.specs.Template.{Component}
 use Rattle.track_rules.specs.declared.GridTrack.{GridTrack}
@@ -15,10 +16,11 @@ use Rattle.track_rules.specs.declared.WrittenTrack.{WrittenTrack}
 use Rattle.track_rules.specs.declared.AxisTracks.{AxisTracks}
 use Rattle.track_rules.specs.declared.Cursor.{Cursor}
 use Rattle.track_rules.specs.declared.Plan.{Plan}
+use Rattle.track_rules.specs.declared.TrackWalk.{TrackWalk}
 use Rattle.track_rules.specs.Tracks.{gutter_of, track_of}
 use Rattle.track_rules.specs.Records.{tracks_in, records_in, all_tracks, no_track, item_at, closed_by, closed_in, open_to, fit_ends_in, shut_gutter, record_in, records_of}
-use Rattle.track_rules.specs.Steps.{totals_of, track_with, cursor_at, track_at, closed_at, plan_of, pair_with, record_with, record_of}
-use Rattle.track_rules.proofs.Lists.{lt_or_ge, length-listed, get-listed}
+use Rattle.track_rules.specs.Steps.{totals_of, track_with, cursor_at, track_at, closed_at, plan_of, pair_with, record_with, record_of, state_at}
+use Rattle.track_rules.proofs.Lists.{length-listed, get-listed}
 use Rattle.track_rules.proofs.Opened.{open_same, gutter-late, not_fit}
 use Rattle.track_rules.proofs.AllTracks.{count_in, length-all, get-all, closed_any}
 
@@ -72,7 +74,7 @@ module _ (a : AxisTracks) (cs : List Component) (sp : List MinMax) (item : ℕ �
       let x : record_in l item a.gap (suc i) ≡ track_of (get_or l (i / 2) no_track) (closed_in l item (i / 2)) = rw (ne_eqb (suc i % 2) 0 (λ z. omega arith), g) in
       let y : pair_with a.gap (eqb (suc i % 2) 0) (track_at a cs sp (i / 2)) (closed_at a cs sp item (i / 2)) (leb o (suc i / 2)) ≡ track_of (track_at a cs sp (i / 2)) (closed_at a cs sp item (i / 2)) = rw (ne_eqb (suc i % 2) 0 (λ z. omega arith)) in
       x ∙ ap (λ (w : WrittenTrack). track_of w (closed_by item w (i / 2))) (get-all a cs sp (i / 2) t) ∙ sym (record-later i ∙ y))
-      (lt_or_ge (suc i % 2) 1)
+      (cases_lt (suc i % 2) 1)
 
 -- the list of records
 module _ (a : AxisTracks) (cs : List Component) (sp : List MinMax) (items : List ℕ) where
@@ -112,3 +114,18 @@ pub record_of_lem : (a : AxisTracks) (cs : List Component) (sp : List MinMax) (i
 unfolding record_of
 record_of_lem a cs sp item i p u e g =
     ap (λ (q : Plan). record_with a q cs sp item u i) e ∙ ap (λ (v : Cursor). record_with a (plan_of a cs item) cs sp item v i) g
+
+abbrev carried : AxisTracks → Plan → Cursor → TrackWalk
+carried a p u = record { axis = a; plan = p; cursor = u }
+
+-- what is carried to a record, by the plan and the cursor of its place
+pub carried-of : (a : AxisTracks) (cs : List Component) (item : ℕ → Bool) (i : ℕ) (p : Plan) (u : Cursor) →
+    p ≡ plan_of a cs item → u ≡ cursor_at a (totals_of a.repetitions cs) ((i - 1) / 2) → carried a p u ≡ state_at a cs item i
+unfolding state_at
+carried-of a cs item i p u e f = ap₂ (carried a) e f
+
+-- with it, it is the record of the axis
+pub carried-record : (a : AxisTracks) (cs : List Component) (sp : List MinMax) (item : ℕ → Bool) (i : ℕ) (s : TrackWalk) → s ≡ state_at a cs item i
+    → record_with s.axis s.plan cs sp item s.cursor i ≡ record_of a cs sp item i
+unfolding state_at
+carried-record a cs sp item i s e = rw e (record_of_lem a cs sp item i (plan_of a cs item) (cursor_at a (totals_of a.repetitions cs) ((i - 1) / 2)) refl refl)

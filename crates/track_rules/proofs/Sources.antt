@@ -8,6 +8,7 @@ use mathlib.Core.List.{List, [], ◌∷◌, ◌++◌, map, map-append}
 use lib.Dec.{ltb}
 use lib.ListN.{length, get_or, length-map}
 use borrow.Author.Tests.{lt-ltb, le-ltb, lt-leb, eq-eqb, ne_eqb}
+use Rattle.std.proofs.lemmas.Bool.{cases_lt}
 use Rattle.sizing.specs.declared.MinMax.{MinMax}
 use Rattle.sizing.specs.declared.Sizing.{Sizing}
 use Rattle.template_rules.specs.Template.{Component}
@@ -24,7 +25,7 @@ use Rattle.track_rules.specs.Written.{repeats_of, source_of, copies, written, on
 use Rattle.track_rules.specs.Records.{negative_of, explicit_of, tracks_in, records_in, all_tracks, no_track, item_at, closed_in, fit_ends_in, shut_gutter, record_in, records_of, axis_refusal, record_answer_of}
 use Rattle.track_rules.specs.Steps.{track_at}
 use Rattle.track_rules.specs.Sources.{writers, template_tracks, writer, CssSource, RecordSource}
-use Rattle.track_rules.proofs.Lists.{lt_or_ge, map-copies, get-map}
+use Rattle.track_rules.proofs.Lists.{map-copies, get-map}
 use Rattle.track_rules.proofs.Cursors.{length-written, written_at_lem}
 use Rattle.track_rules.proofs.AllTracks.{count_in, get-all, track-negative, track-explicit, track-past}
 use Rattle.track_rules.proofs.RecordList.{records-in}
@@ -124,8 +125,8 @@ module _ (a : AxisTracks) (cs : List Component) (sp : List MinMax) (items : List
       ⊎_elim
       (λ (k : t < negative_of a + template_tracks a cs). ap is_gutter (source-explicit t h k) ∙ of-count (writer a cs (t - negative_of a)))
       (λ (k : negative_of a + template_tracks a cs ≤ t). ap is_gutter (source-past t k) ∙ either (ltb t (negative_of a + explicit_of a)))
-      (lt_or_ge t (negative_of a + template_tracks a cs)))
-      (lt_or_ge t (negative_of a))
+      (cases_lt t (negative_of a + template_tracks a cs)))
+      (cases_lt t (negative_of a))
     where
       of-count : (k : RepetitionCount) → is_gutter (source_of k) ≡ false
       of-count Single = refl
@@ -177,7 +178,7 @@ module _ (a : AxisTracks) (cs : List Component) (sp : List MinMax) where
                 (λ (z : k % 2 < 1). omega arith)
                 (λ (z : 1 ≤ k % 2).
                 no (sym (ap is_gutter (sym (odd-source (λ q. omega arith)) ∙ e)) ∙ no-gutter a cs sp items (k / 2)))
-                (lt_or_ge (k % 2) 1),
+                (cases_lt (k % 2) 1),
             even-source,
           );
           track = λ z. rw (odd-source (λ q. omega arith)) (track-source a cs sp items (k / 2));
@@ -194,4 +195,4 @@ module _ (a : AxisTracks) (cs : List Component) (sp : List MinMax) where
       ⊎_elim
       (λ (z : k % 2 < 1). let e : k % 2 ≡ 0 = omega arith in even-source items k d h e ∙ sym (even-source others k d h e))
       (λ (z : 1 ≤ k % 2). odd-source items k d h (λ q. omega arith) ∙ sym (odd-source others k d h (λ q. omega arith)))
-      (lt_or_ge (k % 2) 1)
+      (cases_lt (k % 2) 1)

@@ -7,6 +7,7 @@ use mathlib.Core.Logic.{⊎_elim}
 use mathlib.Core.Bool.{Bool}
 use mathlib.Core.List.{List, [], ◌∷◌}
 use lib.ListN.{length, get_or, get_or-eq_default}
+use Rattle.std.proofs.lemmas.Bool.{cases_lt}
 use Rattle.sizing.specs.declared.MinMax.{MinMax}
 use Rattle.template_rules.specs.Template.{Component}
 use Rattle.track_rules.specs.declared.WrittenTrack.{WrittenTrack}
@@ -14,7 +15,6 @@ use Rattle.track_rules.specs.declared.AxisTracks.{AxisTracks}
 use Rattle.track_rules.specs.Tracks.{auto_size}
 use Rattle.track_rules.specs.Records.{negative_of, tracks_in, spare_at, negative_at, all_tracks, no_track}
 use Rattle.track_rules.specs.Css.{forwards, backwards}
-use Rattle.track_rules.proofs.Lists.{lt_or_ge}
 use Rattle.track_rules.proofs.AllTracks.{count_in, get-all, track-negative, track-past}
 
 -- before the grid the spare sizes are aligned to its start
@@ -29,7 +29,7 @@ align s m t pos h =
     let ad : d % s < s = mod-lt d pos in
     let up : k ≤ b = ⊎_elim
     (λ (g : b < k). let w : s * (b + 1) ≤ s * k = mul-le-mul_left s (omega arith) in absurd (omega (arith, mul-add s b 1)))
-    (λ (g : k ≤ b). g) (lt_or_ge b k) in
+    (λ (g : k ≤ b). g) (cases_lt b k) in
     let x : s * b ≡ s * k + s * (b - k) = ap (λ (j : ℕ). s * j) (let y : b ≡ k + (b - k) = omega arith in y) ∙ mul-add s k (b - k) in
     let v : s - m % s + t ≡ (s - 1 - d % s) + s * (b - k) = omega arith in
     rw v (add-mul-mod_self_left (s - 1 - d % s) s (b - k) ∙ mod-eq_of_lt (omega arith))
@@ -42,7 +42,7 @@ negative_css s m t h =
     let y : length s ≤ length s - 1 - (m - 1 - t) % length s = omega arith in
     get_or-eq_default s auto_size x ∙ sym (get_or-eq_default s auto_size y))
     (λ (k : 1 ≤ length s). ap (λ (i : ℕ). get_or s i auto_size) (align (length s) m t k h))
-    (lt_or_ge (length s) 1)
+    (cases_lt (length s) 1)
 
 module _ (a : AxisTracks) (cs : List Component) (sp : List MinMax) (item : ℕ → Bool) where
   -- implicit tracks before the grid take CSS's sizes

@@ -10,6 +10,7 @@ use Rattle.track_rules.specs.declared.TrackSource.TheVariants.{Area, Positive}
 use Rattle.track_rules.specs.declared.AxisTracks.{AxisTracks}
 use Rattle.track_rules.specs.declared.Cursor.{Cursor}
 use Rattle.track_rules.specs.declared.Plan.{Plan}
+use Rattle.track_rules.specs.declared.TrackWalk.{TrackWalk}
 use Rattle.track_rules.specs.Tracks.{gutter_of, track_of}
 use Rattle.track_rules.specs.Written.{repeats_of, once_of}
 use Rattle.track_rules.specs.Records.{negative_of, explicit_of, tracks_in, implicit, spare_at, negative_at, no_track, closed_by, open_to}
@@ -113,3 +114,8 @@ record_with a p cs sp item u (suc i) =
 unfoldable pub record_of : AxisTracks → List Component → List MinMax → (ℕ → Bool) → ℕ → GridTrack
 unfolding plan_of totals_of cursor_of
 record_of a cs sp item i = record_with a (plan_of a cs item) cs sp item (cursor_at a (totals_of a.repetitions cs) ((i - 1) / 2)) i
+
+-- what is carried to record i
+unfoldable pub state_at : AxisTracks → List Component → (ℕ → Bool) → ℕ → TrackWalk
+unfolding plan_of totals_of cursor_of
+state_at a cs item i = record { axis = a; plan = plan_of a cs item; cursor = cursor_at a (totals_of a.repetitions cs) ((i - 1) / 2) }

@@ -1,19 +1,9 @@
 // The records that there are.
 ghost use Rattle.std.specs.Prelude.{◌≡◌};
-ghost use Rattle.track_rules.specs.Tracks.{zero_size, grid_track, gutter_of, track_of, zero_grid_track};
+ghost use Rattle.track_rules.specs.Tracks.{grid_track, gutter_of, track_of, zero_grid_track};
 
 use crate::{GridTrack, GridTrackKind, TrackSource, WrittenTrack};
 use sizing::{MinMax, Sizing};
-
-// The size of a collapsed record.
-fn zero_size() -> MinMax
-    ensures { result ≡ zero_size }
-{
-    MinMax {
-        min: Sizing::Length(0.0),
-        max: Sizing::Length(0.0),
-    }
-}
 
 // Makes every record. A collapsed one is a fixed one of size 0, from the same source.
 pub fn new_with_kind(
@@ -28,7 +18,7 @@ pub fn new_with_kind(
         kind,
         collapsed,
         source,
-        size: if collapsed { zero_size() } else { size },
+        size: if collapsed { MinMax::default() } else { size },
     }
 }
 
@@ -36,7 +26,7 @@ pub fn new_with_kind(
 pub fn gutter(gap: Sizing, collapsed: bool) -> GridTrack
     ensures { result ≡ gutter_of gap collapsed }
 {
-    let size = MinMax { min: gap, max: gap };
+    let size = MinMax::from(gap);
     new_with_kind(GridTrackKind::Gutter, TrackSource::Gutter, size, collapsed)
 }
 
@@ -56,10 +46,5 @@ pub fn track(written: WrittenTrack, collapsed: bool) -> GridTrack
 pub fn zero() -> GridTrack
     ensures { result ≡ zero_grid_track }
 {
-    new_with_kind(
-        GridTrackKind::Track,
-        TrackSource::Negative,
-        zero_size(),
-        false,
-    )
+    GridTrack::default()
 }

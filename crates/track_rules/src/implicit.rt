@@ -11,10 +11,7 @@ use sizing::{MinMax, Sizing};
 pub fn auto_size() -> MinMax
     ensures { result ≡ auto_size }
 {
-    MinMax {
-        min: Sizing::Auto,
-        max: Sizing::Auto,
-    }
+    MinMax::from(Sizing::Auto)
 }
 
 // A track whose size is a spare one.

@@ -9,16 +9,21 @@ pub mod number;
 use sizing::{MinMax, Sizing};
 use track_counts::TrackCounts;
 
+// The most records of an axis: each of its three counts of tracks is at most 10,000, and a gutter stands before and after each track.
+pub const MOST_RECORDS: usize = 2 * 3 * coordinates::line::MOST_TRACKS as usize + 1;
+
 // Whether a record is a track or a gutter between tracks.
-#[derive(Clone, Copy, Debug, PartialEq, Eq)]
+#[derive(Clone, Copy, Debug, PartialEq, Eq, Default)]
 pub enum GridTrackKind {
+    #[default]
     Track,
     Gutter,
 }
 
 // Where a record came from: before the grid, a single or counted repeat, an automatic repeat, an area alone, after the grid; or it is a gutter.
-#[derive(Clone, Copy, Debug, PartialEq, Eq)]
+#[derive(Clone, Copy, Debug, PartialEq, Eq, Default)]
 pub enum TrackSource {
+    #[default]
     Negative,
     Template,
     Automatic,
@@ -28,7 +33,7 @@ pub enum TrackSource {
 }
 
 // A track record. A collapsed one has both sizes length 0, and keeps its source.
-#[derive(Clone, Copy, Debug, PartialEq)]
+#[derive(Clone, Copy, Debug, PartialEq, Default)]
 pub struct GridTrack {
     pub kind: GridTrackKind,
     pub collapsed: bool,

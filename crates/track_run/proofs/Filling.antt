@@ -8,6 +8,7 @@ use mathlib.Core.Bool.{Bool, true, false, cond}
 use mathlib.Core.List.{List, [], ◌∷◌, ◌++◌, append_assoc}
 use lib.Dec.{eqb, ltb}
 use lib.ListN.{length, get_or, set, take, drop, replicate, length-append, length-drop, drop_of_length-le, get_or-append}
+use Rattle.std.proofs.lemmas.Bool.{cases_lt}
 use Rattle.std.proofs.lemmas.List.{length-take-le}
 use lib.Seq.{drop-cons, set_at}
 use borrow.Author.Tests.{ltb-false, lt-ltb, le-ltb, eq-eqb, ne_eqb}
@@ -25,7 +26,7 @@ use Rattle.track_rules.specs.Written.{written_out}
 use Rattle.track_rules.specs.Records.{listed, negative_of, explicit_of, tracks_in, records_in, all_tracks, no_track, item_at, record_in, records_of, axis_refusal}
 use Rattle.track_rules.specs.Steps.{totals_of, word_totals, cursor_of, next_of, cursor_at, plan_of, record_of}
 use Rattle.track_rules.specs.Lines.{Stands}
-use Rattle.track_rules.proofs.Lists.{lt_or_ge, length-listed, listed_same}
+use Rattle.track_rules.proofs.Lists.{length-listed, listed_same}
 use Rattle.coordinates.proofs.Faults.{fault_some}
 use Rattle.track_rules.proofs.Words.{totals_words}
 use Rattle.track_rules.proofs.Cursors.{next-cursor}
@@ -38,10 +39,6 @@ use Rattle.track_run.specs.Steps.{fill_count, filled_to, state_at, state_record,
 module _ (a : AxisTracks) (cs : List Component) (item : ℕ → Bool) where
   abbrev state : Plan → Cursor → TrackWalk
   state p u = record { axis = a; plan = p; cursor = u }
-
-  pub state-of : (i : ℕ) (p : Plan) (u : Cursor) → p ≡ plan_of a cs item → u ≡ cursor_at a (totals_of a.repetitions cs) ((i - 1) / 2) → state p u ≡ state_at a cs item i
-  unfolding state_at
-  state-of i p u e f = ap (λ (q : Plan). state q u) e ∙ ap (λ (v : Cursor). state (plan_of a cs item) v) f
 
   -- the loop's record is the axis's
   pub state-record : (sp : List MinMax) (i : ℕ) → state_record cs sp item (state_at a cs item i) i ≡ record_of a cs sp item i
@@ -68,11 +65,11 @@ module _ (a : AxisTracks) (cs : List Component) (item : ℕ → Bool) where
       rw (ne_eqb (i % 2) 1 (λ e. omega arith), le-ltb i (2 * m + 2) y)
       (ap (λ (l : List ℕ). state (plan_of a cs item) (next_of l (cursor_of r ((i - 1) / 2 - m)))) same
       ∙ ap (λ (u : Cursor). state (plan_of a cs item) u) (next-cursor r ((i - 1) / 2 - m) (omega arith)) ∙ ap at z))
-      (lt_or_ge i (2 * m + 2)))
+      (cases_lt i (2 * m + 2)))
       (λ (x : 1 ≤ i % 2).
       let z : (i - 1) / 2 ≡ i / 2 = omega arith in
       rw (eq-eqb (i % 2) 1 (omega arith), z))
-      (lt_or_ge (i % 2) 1))
+      (cases_lt (i % 2) 1))
 
 state_axis : (a : AxisTracks) (cs : List Component) (item : ℕ → Bool) (i : ℕ) → (state_at a cs item i).axis ≡ a
 unfolding state_at

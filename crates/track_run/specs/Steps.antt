@@ -1,12 +1,13 @@
 -- What the filling loop computes, step by step.
-use Rattle.std.specs.Prelude.{ℕ, ◌+◌, ◌*◌, ◌-◌, ◌/◌, ◌%◌, Bool, cond, List, ◌++◌, ltb, eqb, drop}
+use Rattle.std.specs.Prelude.{ℕ, ◌+◌, ◌*◌, ◌%◌, Bool, cond, List, ◌++◌, ltb, eqb, drop}
 use Rattle.sizing.specs.declared.MinMax.{MinMax}
 use Rattle.template_rules.specs.Template.{Component}
 use Rattle.track_rules.specs.declared.GridTrack.{GridTrack}
 use Rattle.track_rules.specs.declared.AxisTracks.{AxisTracks}
 use Rattle.track_rules.specs.declared.Cursor.{Cursor}
 use Rattle.track_rules.specs.Records.{listed, negative_of, tracks_in, records_in, axis_refusal}
-use Rattle.track_rules.specs.Steps.{totals_of, cursor_of, next_of, cursor_at, plan_of, record_with, record_of}
+use Rattle.track_rules.specs.Steps.{next_of, record_with, record_of}
+unfoldable pub use Rattle.track_rules.specs.Steps.{state_at}
 use Rattle.track_rules.specs.declared.TrackWalk.{TrackWalk}
 
 -- how many records are written
@@ -17,11 +18,6 @@ fill_count a lent items = cond (eqb (axis_refusal a) 0) (cond (ltb lent (records
 -- the first n records, and the rest of the run as before
 abbrev pub filled_to : AxisTracks → List Component → List MinMax → (ℕ → Bool) → ℕ → List GridTrack → List GridTrack
 filled_to a cs sp item n run = listed (record_of a cs sp item) n ++ drop n run
-
--- what the loop carries at record i
-unfoldable pub state_at : AxisTracks → List Component → (ℕ → Bool) → ℕ → TrackWalk
-unfolding plan_of totals_of cursor_of
-state_at a cs item i = record { axis = a; plan = plan_of a cs item; cursor = cursor_at a (totals_of a.repetitions cs) ((i - 1) / 2) }
 
 unfoldable pub state_record : List Component → List MinMax → (ℕ → Bool) → TrackWalk → ℕ → GridTrack
 state_record cs sp item s i = record_with s.axis s.plan cs sp item s.cursor i

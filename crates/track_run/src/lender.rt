@@ -4,19 +4,14 @@ ghost use Rattle.template_rules.specs.Template.{components_of};
 ghost use Rattle.track_rules.specs.Written.{spares_of};
 ghost use Rattle.track_run.specs.Run.{run_after, zero_records};
 
-use template_rules::Template;
-use track_rules::{AxisTracks, GridTrack, SpareSizes};
+use track_record::LentTracks;
+use track_rules::{AxisTracks, GridTrack, MOST_RECORDS};
 
 // The run after the call, of as many records as the largest panel has; zero records past 2N + 1, and all zero where the call refuses.
-pub fn axis_records(
-    template: Template,
-    spares: SpareSizes,
-    items: &[u8],
-    axis: AxisTracks,
-) -> [GridTrack; 60001]
-    ensures { result ≡ run_after axis (components_of template.entry) (spares_of spares.entry.minimums.now spares.entry.maximums.now) items.now (zero_records 60001) }
+pub fn axis_records(lent: LentTracks, axis: AxisTracks) -> [GridTrack; MOST_RECORDS]
+    ensures { result ≡ run_after axis (components_of lent.entry.template) (spares_of lent.entry.spares.minimums.now lent.entry.spares.maximums.now) lent.entry.items.now (zero_records 60001) }
 {
-    let mut records = [track_rules::grid_track::zero(); 60001];
-    let _ = crate::initialize_grid_tracks(&mut records, template, spares, items, axis);
+    let mut records = [track_rules::grid_track::zero(); MOST_RECORDS];
+    let _ = crate::initialize_grid_tracks(&mut records, lent, axis);
     records
 }

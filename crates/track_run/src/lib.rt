@@ -11,26 +11,25 @@ pub mod lender;
 pub mod state;
 
 use coordinates::Fault;
-use template_rules::Template;
-use track_rules::{AxisTracks, GridTrack, SpareSizes};
+use track_record::LentTracks;
+use track_record::rule::begin_at;
+use track_rules::{AxisTracks, GridTrack};
 
 // Writes the records of an axis into a lent run, 2N + 1 of them. Refuses a gap out of range by 3, a count out of range by 4, fewer records and
 // fewer than N item bytes by 10, and writes nothing then.
 pub fn initialize_grid_tracks(
     records: &mut [GridTrack],
-    template: Template,
-    spares: SpareSizes,
-    items: &[u8],
+    lent: LentTracks,
     axis: AxisTracks,
 ) -> Result<u32, Fault>
-    ensures { (answered_fill result ≡ fill_answer_of axis (length records.old) (length items.now))
-        × (records.new ≡ run_after axis (components_of template.entry) (spares_of spares.entry.minimums.now spares.entry.maximums.now) items.now records.old) }
+    ensures { (answered_fill result ≡ fill_answer_of axis (length records.old) (length lent.entry.items.now))
+        × (records.new ≡ run_after axis (components_of lent.entry.template) (spares_of lent.entry.spares.minimums.now lent.entry.spares.maximums.now) lent.entry.items.now records.old) }
 {
-    let count = state::fill_count(records.len(), items.len(), axis)?;
-    let mut at = state::begin_at(template, items, axis, 0);
+    let count = state::fill_count(records.len(), lent.items.len(), axis)?;
+    let mut at = begin_at(lent.template, lent.items, axis, 0);
     for (index, record) in records[..count as usize].iter_mut().enumerate() {
-        *record = state::record_at(template, spares, items, at, index);
-        at = state::advance(template.components, at, index);
+        *record = lent.record_with(at, index as u64);
+        at = state::advance(lent.template.components, at, index);
     }
     Ok(count)
 }

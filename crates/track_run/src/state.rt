@@ -1,15 +1,12 @@
 // What the filling loop carries, and the functions that it is made of.
 ghost use Rattle.std.specs.Prelude.{◌≡◌};
-ghost use Rattle.template_rules.specs.Template.{components_of};
-ghost use Rattle.track_rules.specs.Written.{spares_of};
-ghost use Rattle.track_rules.specs.Records.{item_at};
 ghost use Rattle.track_rules.specs.Steps.{word_totals};
 ghost use Rattle.track_run.specs.Run.{answered_fill, fill_answer_of};
-ghost use Rattle.track_run.specs.Steps.{fill_count, state_at, state_record, advance_of};
+ghost use Rattle.track_run.specs.Steps.{fill_count, advance_of};
 
 use coordinates::Fault;
-use template_rules::Template;
-use track_rules::{AxisTracks, GridTrack, SpareSizes, TrackWalk};
+use track_record::plan::{check_axis, track_count};
+use track_rules::{AxisTracks, TrackWalk};
 
 // How many records are written: 2N + 1. Refuses a gap out of range by 3, a count out of range by 4, fewer records and fewer than N item bytes
 // by 10.
@@ -18,38 +15,13 @@ pub fn fill_count(lent: usize, items: usize, axis: AxisTracks) -> Result<u32, Fa
     ensures answered { answered_fill result ≡ fill_answer_of axis lent items }
     ensures counted { (answered_fill result).count ≡ fill_count axis lent items }
 {
-    if let Some(fault) = track_record::plan::axis_refusal(axis) {
-        return Err(fault);
-    }
-    let tracks = track_record::plan::track_count(axis);
+    check_axis(axis)?;
+    let tracks = track_count(axis);
     let count = 2 * tracks + 1;
     if lent < count as usize || items < tracks as usize {
         return Err(Fault::Short);
     }
     Ok(count)
-}
-
-// The state at record `index`.
-pub fn begin_at(template: Template, items: &[u8], axis: AxisTracks, index: usize) -> TrackWalk
-    ensures { result ≡ state_at axis (components_of template.entry) (item_at items.now) index }
-{
-    let plan = track_record::plan::make_plan(template, items, axis);
-    let cursor = track_record::rule::cursor_at(template.components, axis, index as u64);
-    TrackWalk { axis, plan, cursor }
-}
-
-// Record `index`, in its state.
-#[tactic(auto, unfolding(crate::specs::Steps::state_record))]
-pub fn record_at(
-    template: Template,
-    spares: SpareSizes,
-    items: &[u8],
-    at: TrackWalk,
-    index: usize,
-) -> GridTrack
-    ensures { result ≡ state_record (components_of template.entry) (spares_of spares.entry.minimums.now spares.entry.maximums.now) (item_at items.now) at index }
-{
-    track_record::rule::record_with(template, spares, items, at, index as u64)
 }
 
 // The state of record `index` + 1 from that of record `index`: the cursor moves after each gutter from the template's first track on.
@@ -62,8 +34,7 @@ pub fn advance(components: &[u64], at: TrackWalk, index: usize) -> TrackWalk
         return at;
     }
     TrackWalk {
-        axis: at.axis,
-        plan: at.plan,
         cursor: track_record::cursor::next(components, at.axis.repetitions, at.cursor),
+        ..at
     }
 }

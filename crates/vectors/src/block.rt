@@ -2,7 +2,7 @@
 use crate::answers::seen_answer;
 use crate::calls::seen_calls;
 use crate::expected::Expected;
-use crate::input::{Lines, Reader, Word, field, head_of, number_of};
+use crate::input::{Lines, Reader, Word, head_of};
 use crate::marks::seen_marks;
 use crate::names::seen_names;
 use crate::questions::seen_questions;
@@ -25,10 +25,7 @@ pub struct Block<'a> {
 
 // The lengths of the stores that a line gives.
 fn lengths_of(line: &[u8]) -> StoreLengths {
-    StoreLengths {
-        columns: number_of(text::part(line, b' ', 1)),
-        rows: number_of(text::part(line, b' ', 2)),
-    }
+    StoreLengths::written(text::part(line, b' ', 1), text::part(line, b' ', 2))
 }
 
 // The answers of what was read or displayed, or the answers to questions.
@@ -47,6 +44,7 @@ fn seen_fault(expected: Expected, fault: SheetFault) -> Expected {
             .refused(Fault::Overlap, pair.line)
             .overlap(Some(pair)),
         SheetFault::Line(at) => expected.refused(at.fault, at.line),
+        SheetFault::Whole(fault) => expected.refused(fault, 0),
     }
 }
 

@@ -38,10 +38,7 @@ fn entry_at(line: &[u8], first: usize) -> Entry<'_>
 // One call: axis, line and name; the lengths of the lent stores stand first where the block gives lengths.
 fn call(line: &[u8], given: bool, panel: Panel, tables: &mut Tables) -> Result<Panel, Fault> {
     if given {
-        let lengths = StoreLengths {
-            columns: number_of(field(line, 0)),
-            rows: number_of(field(line, 1)),
-        };
+        let lengths = StoreLengths::written(field(line, 0), field(line, 1));
         return tables.enter(panel, Some(lengths), entry_at(line, 2));
     }
     tables.enter(panel, None, entry_at(line, 0))

@@ -1,12 +1,11 @@
 // Rows of conversions: explicit count, grid line, refusal, origin-zero line, the grid line back, and its mark, `y` or `n`; or explicit count, `-`, refusal,
 // origin-zero line, its grid line, and refusal and tracks that it implies before the grid, and after it. Beside a refusal stand zeros and `n`.
 use crate::input::{Lines, field, line_of, number_of};
-use coordinates::signed::{joined, split};
 use coordinates::{Fault, GridLine, MarkedLine, OriginZeroLine};
 
 // The whole number that a field writes, 0 where it writes none.
 fn whole_of(field: &[u8]) -> i16 {
-    joined(split(line_of(field)))
+    line_of(field).clamp(i16::MIN.into(), i16::MAX.into()) as i16
 }
 
 // The explicit count of a row.
@@ -41,7 +40,7 @@ fn written_line(row: &[u8]) -> Option<Result<(i16, bool), u32>> {
 // Whether a grid line that is converted is, back again, the line that a field writes.
 fn is_back(there: Result<MarkedLine, Fault>, explicit: u16, field: &[u8]) -> bool {
     match there {
-        Ok(there) => there.line.into_grid_line(explicit) == Ok(GridLine(whole_of(field))),
+        Ok(there) => there.value.into_grid_line(explicit) == Ok(GridLine(whole_of(field))),
         Err(_) => true,
     }
 }
@@ -51,7 +50,7 @@ fn is_right(row: &[u8]) -> bool {
     let explicit = explicit_of(row);
     let there = GridLine(whole_of(field(row, 1))).into_origin_zero_line(explicit);
     let answer = there
-        .map(|there| (there.line.0, there.held))
+        .map(|there| (there.value.0, there.held))
         .map_err(u32::from);
     written_line(row) == Some(answer) && is_back(there, explicit, field(row, 4))
 }
@@ -86,10 +85,9 @@ fn is_row_right(row: &[u8]) -> bool {
 
 // How many of the rows differ.
 pub fn different_rows(rows: Lines) -> u64 {
-    let mut different: u64 = 0;
     let lines = rows.text.split(|byte| *byte == b'\n');
-    for row in lines.take(rows.count as usize) {
-        different = different.wrapping_add(u64::from(!is_row_right(row)));
-    }
-    different
+    lines
+        .take(rows.count as usize)
+        .filter(|row| !is_row_right(row))
+        .count() as u64
 }

@@ -1,6 +1,9 @@
 // An expected text that is compared part by part.
 use coordinates::{Axis, Fault};
+use panel_text::LINE_BYTES;
 use sheet_rules::Overlap;
+use std::fmt;
+use std::fmt::{Display, Write};
 
 // What is left of an expected text after the parts that it went on with; none once it went on otherwise.
 #[derive(Clone, Copy, Debug, PartialEq, Eq)]
@@ -8,12 +11,12 @@ pub struct Expected<'a> {
     rest: Option<&'a [u8]>,
 }
 
-// The text after a part, where it starts with that.
-fn after_part<'a>(text: &'a [u8], part: &[u8]) -> Option<&'a [u8]> {
-    if text.starts_with(part) {
-        return text.get(part.len()..);
+impl<'a> Write for Expected<'a> {
+    // The text goes on with a part.
+    fn write_str(&mut self, part: &str) -> fmt::Result {
+        *self = self.part(part.as_bytes());
+        Ok(())
     }
-    None
 }
 
 impl<'a> Expected<'a> {
@@ -30,17 +33,20 @@ impl<'a> Expected<'a> {
     // The text goes on with a part.
     pub fn part(self, part: &[u8]) -> Expected<'a> {
         Expected {
-            rest: self.rest.and_then(|rest| after_part(rest, part)),
+            rest: self
+                .rest
+                .filter(|rest| rest.starts_with(part))
+                .and_then(|rest| rest.get(part.len()..)),
         }
     }
 
-    // A number, digit after digit, the highest first.
-    pub fn number(self, number: u64) -> Expected<'a> {
-        let digit = [b'0' + (number % 10) as u8];
-        if number < 10 {
-            return self.part(&digit);
+    // A number in decimal.
+    pub fn number<N: Display + Drop>(self, number: N) -> Expected<'a> {
+        let mut seen = self;
+        match write!(seen, "{number}") {
+            Ok(()) => seen,
+            Err(_) => Expected { rest: None },
         }
-        self.number(number / 10).part(&digit)
     }
 
     // The letter of an axis.
@@ -53,7 +59,7 @@ impl<'a> Expected<'a> {
 
     // The line of a refusal: its fault, and the line of the sheet that has it, 0 for none.
     pub fn refused(self, fault: Fault, line: u32) -> Expected<'a> {
-        let mut text = [0u8; 128];
+        let mut text = [0u8; LINE_BYTES];
         let count = panel_text::refused_line(&mut text, u32::from(fault), line);
         self.part(&text[..count])
     }
@@ -64,9 +70,9 @@ impl<'a> Expected<'a> {
             return self;
         };
         self.part(b"pair\t")
-            .number(u64::from(pair.earlier))
+            .number(pair.earlier)
             .part(b"\t")
-            .number(u64::from(pair.later))
+            .number(pair.later)
             .part(b"\n")
     }
 }

@@ -1,11 +1,9 @@
 // Placements within a span of pixels and around a line, beside the expected text: `within` or `around`, then their numbers.
 use crate::expected::Expected;
 use crate::tables::{Shown, StoreLengths};
-use coordinates::Fault;
-use panel_hits::{Around, Span, placements_around, placements_within};
-
-// The placements that a list has room for.
-const MOST_HITS: usize = 256;
+use coordinates::{Axis, Fault};
+use panel_hits::{Around, AxisSpan, placements_around, placements_within};
+use placement_hits::list::MOST_HITS;
 
 // How many item bytes, and how many bytes of both stores, are lent.
 #[derive(Clone, Copy, Debug, PartialEq, Eq)]
@@ -14,58 +12,58 @@ pub struct ListLengths {
     pub stores: StoreLengths,
 }
 
-// A list after its word: its numbers, each after a tab.
-fn seen_list<'a>(
+// The placements that are listed: those within a span, or around a line.
+#[derive(Clone, Copy, Debug, PartialEq, Eq)]
+pub enum Listed {
+    Within(AxisSpan),
+    Around(Around),
+}
+
+impl Listed {
+    // The axis.
+    fn axis(self) -> Axis {
+        match self {
+            Listed::Within(span) => span.axis,
+            Listed::Around(around) => around.axis,
+        }
+    }
+
+    // The word of a list.
+    fn word(self) -> &'static [u8] {
+        match self {
+            Listed::Within(_) => b"within",
+            Listed::Around(_) => b"around",
+        }
+    }
+
+    // Lists the placements of a panel.
+    fn list(self, shown: Shown, items: &[u8], hits: &mut [u32; MOST_HITS]) -> Result<u32, Fault> {
+        match self {
+            Listed::Within(span) => placements_within(shown.grid, shown.lent, items, span, hits),
+            Listed::Around(around) => placements_around(
+                shown.grid, shown.lent, items, around, hits,
+            ),
+        }
+    }
+}
+
+// A list: its word, and its numbers, each after a tab.
+pub fn seen_list<'a>(
     expected: Expected<'a>,
-    word: &[u8],
-    found: Result<u32, Fault>,
-    hits: &[u32; MOST_HITS],
+    listed: Listed,
+    lengths: ListLengths,
+    shown: Shown,
 ) -> Expected<'a> {
-    let count = match found {
+    let mut hits = [0u32; MOST_HITS];
+    let lent = shown.with_stores(lengths.stores);
+    let items = lent.items(listed.axis(), lengths.items);
+    let count = match listed.list(lent, items, &mut hits) {
         Ok(count) => count as usize,
         Err(fault) => return expected.refused(fault, 0),
     };
-    let mut seen = expected.part(word);
+    let mut seen = expected.part(listed.word());
     for hit in hits.iter().take(count) {
-        seen = seen.part(b"\t").number(u64::from(*hit));
+        seen = seen.part(b"\t").number(*hit);
     }
     seen.part(b"\n")
-}
-
-// The placements within a span.
-pub fn seen_within<'a>(
-    expected: Expected<'a>,
-    span: Span,
-    lengths: ListLengths,
-    shown: Shown,
-) -> Expected<'a> {
-    let mut hits = [0u32; MOST_HITS];
-    let asked = shown.with_stores(lengths.stores);
-    let found = placements_within(
-        asked.grid,
-        asked.lent,
-        asked.items(span.axis, lengths.items),
-        span,
-        &mut hits,
-    );
-    seen_list(expected, b"within", found, &hits)
-}
-
-// The placements around a line.
-pub fn seen_around<'a>(
-    expected: Expected<'a>,
-    around: Around,
-    lengths: ListLengths,
-    shown: Shown,
-) -> Expected<'a> {
-    let mut hits = [0u32; MOST_HITS];
-    let asked = shown.with_stores(lengths.stores);
-    let found = placements_around(
-        asked.grid,
-        asked.lent,
-        asked.items(around.axis, lengths.items),
-        around,
-        &mut hits,
-    );
-    seen_list(expected, b"around", found, &hits)
 }

@@ -21,21 +21,15 @@ mod resizes;
 mod tables;
 mod window;
 
-use panel_tables::region::{PANEL_BYTES, PANEL_WORDS};
 use replay::replay_all;
 use std::io;
-use tables::{STORE, Tables};
+use tables::Tables;
 use window::Window;
 
 fn main(rt: HostRuntime) -> io::Result<()> {
     let mut out = rt.stdout();
     let mut window = Window::new();
-    let mut tables = Tables {
-        words: [0; PANEL_WORDS],
-        bytes: [0; PANEL_BYTES],
-        columnstore: [0; STORE],
-        rowstore: [0; STORE],
-    };
+    let mut tables = Tables::new();
     let counts = replay_all(&mut rt.stdin(), &mut out, &mut window, &mut tables)?;
     counts.print(&mut out)
 }

@@ -1,6 +1,4 @@
 // The line-name lists beside the expected text: `names`, axis, line, then its names.
-ghost use Rattle.std.specs.Prelude.{◌≤◌};
-
 use crate::expected::Expected;
 use crate::tables::Shown;
 use coordinates::Axis;
@@ -51,7 +49,7 @@ fn seen_line<'a>(
         return expected;
     }
     let head = expected.part(b"names\t").axis(axis).part(b"\t");
-    seen_list(head.number(u64::from(line)), shown, axis, line).part(b"\n")
+    seen_list(head.number(line), shown, axis, line).part(b"\n")
 }
 
 // The lists of an axis.

@@ -12,15 +12,6 @@ pub struct Cursor {
     pub items: u32,
 }
 
-// A number after its sign.
-fn seen_signed(expected: Expected, number: i32) -> Expected {
-    let size = u64::from(number.unsigned_abs());
-    if number < 0 {
-        return expected.part(b"-").number(size);
-    }
-    expected.number(size)
-}
-
 // The nearest line.
 pub fn seen_nearest<'a>(expected: Expected<'a>, cursor: Cursor, shown: Shown) -> Expected<'a> {
     let items = shown.items(cursor.axis, cursor.items);
@@ -32,7 +23,7 @@ pub fn seen_nearest<'a>(expected: Expected<'a>, cursor: Cursor, shown: Shown) ->
         cursor.position,
     );
     match found {
-        Ok(line) => seen_signed(expected.part(b"nearest\t"), line).part(b"\n"),
+        Ok(line) => expected.part(b"nearest\t").number(line).part(b"\n"),
         Err(fault) => expected.refused(fault, 0),
     }
 }

@@ -2,21 +2,21 @@
 ghost use Rattle.std.specs.Prelude.{◌≤◌};
 
 use crate::expected::Expected;
-use crate::hits::{ListLengths, seen_around, seen_within};
+use crate::hits::{ListLengths, Listed, seen_list};
 use crate::input::{Lines, axis_of, bits_of, field, line_of, number_of};
 use crate::nearest::{Cursor, seen_nearest};
 use crate::resizes::seen_resize;
 use crate::tables::{Shown, StoreLengths};
 use coordinates::Axis;
-use panel_hits::{Around, Span};
+use line_positions::Span;
+use panel_hits::{Around, AxisSpan};
 
 // What a line asks: the line nearest to a cursor, the least resize of an axis, or the placements within a span or around a line.
 #[derive(Clone, Copy)]
 enum Question {
     Nearest(Cursor),
     Resize(Axis),
-    Within(Span, ListLengths),
-    Around(Around, ListLengths),
+    List(Listed, ListLengths),
 }
 
 // The lengths that a list is asked with, from a field on.
@@ -25,10 +25,7 @@ fn lengths_at(line: &[u8], first: usize) -> ListLengths
 {
     ListLengths {
         items: number_of(field(line, first)),
-        stores: StoreLengths {
-            columns: number_of(field(line, first + 1)),
-            rows: number_of(field(line, first + 2)),
-        },
+        stores: StoreLengths::written(field(line, first + 1), field(line, first + 2)),
     }
 }
 
@@ -46,11 +43,12 @@ fn question_of(text: &[u8]) -> Question {
         b"within" => {
             let low = bits_of(second);
             let high = bits_of(field(text, 3));
-            Question::Within(Span { axis, low, high }, lengths_at(text, 4))
+            let bits = Span { low, high };
+            Question::List(Listed::Within(AxisSpan { axis, bits }), lengths_at(text, 4))
         }
         _ => {
             let line = line_of(second);
-            Question::Around(Around { axis, line }, lengths_at(text, 3))
+            Question::List(Listed::Around(Around { axis, line }), lengths_at(text, 3))
         }
     }
 }
@@ -60,8 +58,7 @@ fn seen_question<'a>(expected: Expected<'a>, question: Question, shown: Shown) -
     match question {
         Question::Nearest(cursor) => seen_nearest(expected, cursor, shown),
         Question::Resize(axis) => seen_resize(expected, axis, shown),
-        Question::Within(span, lengths) => seen_within(expected, span, lengths, shown),
-        Question::Around(around, lengths) => seen_around(expected, around, lengths, shown),
+        Question::List(listed, lengths) => seen_list(expected, listed, lengths, shown),
     }
 }
 

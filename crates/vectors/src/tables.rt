@@ -1,6 +1,7 @@
 // The tables that a sheet is read into, and what is lent of them.
-ghost use Rattle.std.specs.Prelude.{◌≤◌, length};
+ghost use Rattle.std.specs.Prelude.{◌≤◌};
 
+use crate::input::number_of;
 use coordinates::{Axis, Fault};
 use panel_names::entering::enter_name;
 use panel_tables::region::{PANEL_BYTES, PANEL_WORDS, marks};
@@ -15,6 +16,16 @@ pub const STORE: usize = 32800;
 pub struct StoreLengths {
     pub columns: u32,
     pub rows: u32,
+}
+
+impl StoreLengths {
+    // Those that two fields write.
+    pub fn written(columns: &[u8], rows: &[u8]) -> StoreLengths {
+        StoreLengths {
+            columns: number_of(columns),
+            rows: number_of(rows),
+        }
+    }
 }
 
 // A line and a name that are entered in an axis.
@@ -59,22 +70,42 @@ fn lent(lengths: Option<StoreLengths>) -> (usize, usize)
 }
 
 impl Tables {
+    // Tables of zeros.
+    pub fn new() -> Tables {
+        Tables {
+            words: [0; PANEL_WORDS],
+            bytes: [0; PANEL_BYTES],
+            columnstore: [0; STORE],
+            rowstore: [0; STORE],
+        }
+    }
+
+    // Calls with the tables, and with so many bytes of both stores as are lent.
+    fn lend<T, F>(&mut self, lengths: Option<StoreLengths>, call: F) -> T
+    where
+        F: FnOnce(&mut [u64; PANEL_WORDS], &mut [u8; PANEL_BYTES], &mut [u8], &mut [u8]) -> T,
+        requires { F.IsAlwaysCallable call }
+    {
+        let (columns, rows) = lent(lengths);
+        let columnstore = &mut self.columnstore[..];
+        let rowstore = &mut self.rowstore[..];
+        call(
+            &mut self.words,
+            &mut self.bytes,
+            &mut columnstore[..columns],
+            &mut rowstore[..rows],
+        )
+    }
+
     // Reads a sheet.
     pub fn read(
         &mut self,
         sheet: &[u8],
         lengths: Option<StoreLengths>,
     ) -> Result<Panel, SheetFault> {
-        let (columns, rows) = lent(lengths);
-        let columnstore = &mut self.columnstore[..];
-        let rowstore = &mut self.rowstore[..];
-        sheet::read_sheet(
-            sheet,
-            &mut self.words,
-            &mut self.bytes,
-            &mut columnstore[..columns],
-            &mut rowstore[..rows],
-        )
+        self.lend(lengths, |words, bytes, columnstore, rowstore| {
+            sheet::read_sheet(sheet, words, bytes, columnstore, rowstore)
+        })
     }
 
     // Reads a sheet for display.
@@ -83,16 +114,9 @@ impl Tables {
         sheet: &[u8],
         lengths: Option<StoreLengths>,
     ) -> Result<Display, SheetFault> {
-        let (columns, rows) = lent(lengths);
-        let columnstore = &mut self.columnstore[..];
-        let rowstore = &mut self.rowstore[..];
-        sheet::display_sheet(
-            sheet,
-            &mut self.words,
-            &mut self.bytes,
-            &mut columnstore[..columns],
-            &mut rowstore[..rows],
-        )
+        self.lend(lengths, |words, bytes, columnstore, rowstore| {
+            sheet::display_sheet(sheet, words, bytes, columnstore, rowstore)
+        })
     }
 
     // Enters a line and a name in an axis of a panel.
@@ -102,18 +126,17 @@ impl Tables {
         lengths: Option<StoreLengths>,
         entry: Entry,
     ) -> Result<Panel, Fault> {
-        let (columns, rows) = lent(lengths);
-        let columnstore = &mut self.columnstore[..];
-        let rowstore = &mut self.rowstore[..];
-        enter_name(
-            panel,
-            &mut self.words,
-            &mut columnstore[..columns],
-            &mut rowstore[..rows],
-            entry.axis,
-            entry.line,
-            entry.name,
-        )
+        self.lend(lengths, |words, _, columnstore, rowstore| {
+            enter_name(
+                panel,
+                words,
+                columnstore,
+                rowstore,
+                entry.axis,
+                entry.line,
+                entry.name,
+            )
+        })
     }
 
     // A panel with these tables.

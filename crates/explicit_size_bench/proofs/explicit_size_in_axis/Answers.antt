@@ -31,5 +31,5 @@ answered inner gap x g cs r e f p =
 pub returns : goal.returns
 returns c =
     let a = c.args in
-    c.numbers_of.ensures
-    ∙ answered _ _ _ _ (template_of a.components.now a.minimums.now a.maximums.now) _ c.length_of.ensures c.sizing_of.ensures c.compute_explicit_grid_size_in_axis.ensures
+    c.from-2.ensures
+    ∙ answered _ _ _ _ (template_of a.components.now a.minimums.now a.maximums.now) _ c.length_of.ensures c.from.ensures c.compute_explicit_grid_size_in_axis.ensures

@@ -1,7 +1,8 @@
 use native.Mathlib.Omega.{arith}
 use mathlib.Core.Path.{ap, ◌∙◌}
 use lib.Seq.{sets}
-use Rattle.library_records.proofs.Running.{few_records, run_words_lem}
+use Rattle.panel_calls.proofs.Carried.{few_records}
+use Rattle.library_records.proofs.Running.{run_words_lem}
 use Rattle.library_records.proofs.write_records.Goals as goal
 
 pub returns : goal.returns

@@ -1,14 +1,15 @@
 use mathlib.Core.Path.{ap, ◌∙◌}
+use lib.ListN.{length}
 use Rattle.std.specs.Prelude.{Option}
 use Rattle.std.specs.Option.{unwrap_or}
 use Rattle.coordinates.specs.Axes.{axis_of}
 use Rattle.name_entries.specs.declared.NameEntry.{NameEntry}
 use Rattle.name_entries.specs.LineEntries.{no_entry}
 use Rattle.std.proofs.lemmas.Result.{err_from_is_err_and}
-use Rattle.panel_rules.specs.Calls.{NameTables}
+use Rattle.panel_rules.specs.Calls.{NameTables, store_in}
 use Rattle.panel_names.specs.Lent.{lent_tables}
 use Rattle.panel_names.proofs.LineEntries.{shown-entry}
-use Rattle.palgwern.proofs.Parts.{axis_length, shows-none, shows-short, shows-name}
+use Rattle.palgwern.proofs.Parts.{shows-none, shows-short, shows-name}
 use Rattle.palgwern.proofs.place_name.Goals as goal
 
 pub returns-in_err-axis : goal.returns-in_err-axis
@@ -17,10 +18,10 @@ returns-in_err-axis c =
     let p = err_from_is_err_and c.from_residual.result c.from_residual.ensures.1 in
     rw (p.1, p.2, c.in_err-axis.ensures.1) (shows-none a.grid (lent_tables a.lent) a.axis a.line a.place c.in_err-axis.ensures.0)
 
-pub returns-then-min-lt-AXIS_BYTES : goal.returns-then-min-lt-AXIS_BYTES
-returns-then-min-lt-AXIS_BYTES c =
+pub returns-then-shorter_store-lt-AXIS_BYTES : goal.returns-then-shorter_store-lt-AXIS_BYTES
+returns-then-shorter_store-lt-AXIS_BYTES c =
     let a = c.args in
-    shows-short a.grid (lent_tables a.lent) a.axis a.line a.place c.in_ok-axis.ensures.0 (rw c.min.ensures at c.if-min-lt-AXIS_BYTES.true)
+    shows-short a.grid (lent_tables a.lent) a.axis a.line a.place c.in_ok-axis.ensures.0 (rw c.shorter_store.ensures at c.if-shorter_store-lt-AXIS_BYTES.true)
 
 pub returns : goal.returns
 returns c =
@@ -28,7 +29,7 @@ returns c =
     let t : NameTables = lent_tables a.lent in
     let same = c.in_ok-axis.ensures.1 in
     shows-name a.grid t a.axis a.line a.place
-    c.store_length-bytes.result (unwrap_or c.line_entry-entry.result no_entry) c.name_part.result c.in_ok-axis.ensures.0
-    (rw c.min.ensures at c.if-min-lt-AXIS_BYTES.false)
-    (c.store_length-bytes.ensures ∙ rw same (axis_length (axis_of a.axis) a.lent.columnstore.now a.lent.rowstore.now))
+    _ (unwrap_or c.line_entry-entry.result no_entry) c.name_part.result c.in_ok-axis.ensures.0
+    (rw c.shorter_store.ensures at c.if-shorter_store-lt-AXIS_BYTES.false)
+    (ap length (c.store.ensures ∙ ap (store_in t) same))
     (ap (λ (e : Option NameEntry). unwrap_or e no_entry) c.line_entry-entry.ensures ∙ rw same (shown-entry a.grid t (axis_of a.axis) a.line a.place)) c.name_part.ensures

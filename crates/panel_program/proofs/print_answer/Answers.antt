@@ -1,7 +1,6 @@
-use Rattle.std.proofs.Common.{◌≡◌, true, false, sym, ap, ◌∙◌, arith, rules}
-use Rattle.panel_answer.specs.Walk.{is_end}
+use Rattle.std.proofs.Common.{sym, ap, ◌∙◌, arith, rules}
 use Rattle.panel_answer.specs.Text.{text_from}
-use Rattle.panel_answer.proofs.Fills.{shorter, same_bytes, at-end}
+use Rattle.panel_answer.proofs.Fills.{told-left, none-left, shorter, same_bytes}
 use Rattle.panel_answer.proofs.Text.{text-end}
 use Rattle.panel_program.specs.Printed.{zero_tables}
 use Rattle.panel_program.proofs.Bytes.{part_ok, none_ok, ok_whole}
@@ -12,7 +11,7 @@ loop-lent-init g c = (search rules, none_ok _ _ _)
 
 pub loop-lent-smaller : goal.loop-lent-smaller
 loop-lent-smaller g c =
-    let e : is_end c.loop-lent.next ≡ false = sym c.is_end.ensures ∙ c.loop-lent-test.true in
+    let e = told-left c.loop-lent.next (sym c.is_some.ensures ∙ c.loop-lent-test.true) in
     shorter c.fill-filled.ensures e (omega (arith, c.loop-lent.invariant.0))
 
 pub loop-lent-preserved : goal.loop-lent-preserved
@@ -23,5 +22,5 @@ loop-lent-preserved g c =
 pub returns-clause-printed : goal.returns-clause-printed
 unfolding zero_tables
 returns-clause-printed g c =
-    let e : is_end c.loop-lent.next ≡ true = sym c.is_end.ensures ∙ c.loop-lent-test.false in
-    ok_whole c.loop-lent.invariant.1 (ap (text_from _) (at-end c.loop-lent.next e) ∙ text-end _) c.begin_answer-begun.ensures.first_after
+    let e = none-left c.loop-lent.next (sym c.is_some.ensures ∙ c.loop-lent-test.false) in
+    ok_whole c.loop-lent.invariant.1 (ap (text_from _) e ∙ text-end _) c.begin_answer-begun.ensures.first_after

@@ -28,4 +28,4 @@ answered g words cs r strategy gap x e i s q h =
 
 pub returns : goal.returns
 returns c =
-    answered c.args.grid c.args.words.now _ _ _ _ _ c.template_on.ensures.template c.inner_given.ensures c.strategy_in.ensures c.sizing_of.ensures c.resize_answer.ensures
+    answered c.args.grid c.args.words.now _ _ _ _ _ c.template_on.ensures.template c.inner_bits.ensures c.from.ensures c.from-2.ensures c.resize_answer.ensures

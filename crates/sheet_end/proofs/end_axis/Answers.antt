@@ -1,32 +1,31 @@
 use Rattle.std.proofs.lemmas.Result.{err_from_is_err_and}
-use Rattle.sheet_end.proofs.Faults.{open_end, unsized_end, crowded_end, count-is, accepted-end}
+use mathlib.Core.Path.{ap}
+use Rattle.axis_tables.specs.Readings.{unended_numbers, axis_reading, repeat_numbers}
+use Rattle.sheet_end.proofs.Faults.{open_end, unsized_end, crowded_end, accepted-end}
 use Rattle.sheet_end.proofs.end_axis.Goals as goal
 
 pub returns-in-Some : goal.returns-in-Some
-returns-in-Some c = open_end c.args.state c.args.reading c.args.words.now _ c.in-Some.is
+returns-in-Some c =
+    let a = c.args.axis in
+    open_end a.state (axis_reading a.reading) c.args.words.now _ (ap unended_numbers c.in-Some.is)
 
 pub returns-in_err-size : goal.returns-in_err-size
 returns-in_err-size c =
-    let a = c.args in
+    let a = c.args.axis in
     let p = err_from_is_err_and c.from_residual.result c.from_residual.ensures.1 in
-    rw (p.1, p.2) (unsized_end a.state a.reading a.words.now c.in_default.is c.in_err-size.field-0.0 c.in_err-size.ensures)
+    rw (p.1, p.2) (unsized_end a.state (axis_reading a.reading) c.args.words.now (ap unended_numbers c.in_default.is) c.in_err-size.field-0.0 c.in_err-size.ensures)
 
-pub returns-then-entries-gt-MOST_ENTRIES : goal.returns-then-entries-gt-MOST_ENTRIES
-returns-then-entries-gt-MOST_ENTRIES c =
-    let a = c.args in
-    let n = c.count_entries-entries in
-    crowded_end a.state a.reading a.words.now c.in_default.is c.in_ok-size.size c.in_ok-size.ensures n.result n.ensures c.if-entries-gt-MOST_ENTRIES.true
-
-pub put_entries-requires : goal.put_entries-requires
-put_entries-requires c =
-    let a = c.args in
-    let n = c.count_entries-entries in
-    let few = c.if-entries-gt-MOST_ENTRIES.false in
-    (count-is a.state a.reading a.words.now c.in_default.is c.in_ok-size.size c.in_ok-size.ensures n.result n.ensures few, few)
+pub returns-in_err-entries : goal.returns-in_err-entries
+returns-in_err-entries c =
+    let a = c.args.axis in
+    let p = err_from_is_err_and c.from_residual-in_err-entries.result c.from_residual-in_err-entries.ensures.1 in
+    rw (p.1, p.2)
+    (crowded_end a.state (axis_reading a.reading) c.args.words.now (ap unended_numbers c.in_default.is) c.in_ok-size.size c.in_ok-size.ensures c.put_entries.new.words
+    c.in_err-entries.field-0.0 c.in_err-entries.ensures)
 
 pub returns : goal.returns
 returns c =
-    let a = c.args in
-    let n = c.count_entries-entries in
+    let a = c.args.axis in
     rw c.with_size.ensures
-    (accepted-end a.state a.reading a.words.now c.in_default.is c.in_ok-size.size c.in_ok-size.ensures n.result n.ensures c.if-entries-gt-MOST_ENTRIES.false c.put_entries.new.words c.put_entries.ensures)
+    (accepted-end a.state (axis_reading a.reading) c.args.words.now (ap unended_numbers c.in_default.is) c.in_ok-size.size c.in_ok-size.ensures c.put_entries.new.words
+    c.in_ok-entries.entries c.in_ok-entries.ensures)

@@ -6,21 +6,30 @@ use mathlib.Core.List.{List}
 use Rattle.text.specs.Split.{split}
 use Rattle.coordinates.specs.declared.refusal.Fault.{Fault}
 use Rattle.coordinates.specs.Refusals.{fault_number, refused_by}
-use Rattle.panel_tables.specs.Regions.{area_words_in, area_bytes_in}
 use Rattle.panel_tables.specs.Written.{PanelHeld, panel_held_of}
 use Rattle.panel_cells.specs.Steps.{area_number_of}
 use Rattle.sheet_forms.specs.Answers.{said_of}
 use Rattle.sheet_forms.specs.Faults.{first_of}
+use Rattle.sheet_forms.specs.Said.{Record}
 use Rattle.sheet_faults.specs.Lines.{noted_by}
-use Rattle.sheet_faults.specs.Parts.{before_of}
+use Rattle.sheet_faults.specs.Parts.{before_of, shared_of}
 use Rattle.sheet_faults.proofs.Parts.{line-by, line-noted}
 use Rattle.sheet_step.specs.Drafts.{held_of}
+use Rattle.panel_tables.specs.Readings.{Reading, panel_reading}
 use Rattle.sheet_step.proofs.read_line.Goals as goal
 
 -- the fault of a refusal has its number
 err-number : (r : Result (Unit {0}) Fault) → fault_number (result_err r) ≡ refused_by r
 err-number (Ok u) = refl
 err-number (Err fault) = refl
+
+-- the faults of a record, and the first area that shares a cell with it, over the same tables
+before-same : {k k₁ : ℕ} {w w₁ b b₁ n n₁ : List ℕ} (r : Reading) (said : Record) → k ≡ k₁ → w ≡ w₁ → b ≡ b₁ → n ≡ n₁
+    → before_of k r w b n said ≡ before_of k₁ r w₁ b₁ n₁ said
+before-same r said ek ew eb en = rw (ek, ew, eb, en) refl
+
+shared-same : {k k₁ : ℕ} {w w₁ : List ℕ} (said : Record) → k ≡ k₁ → w ≡ w₁ → shared_of k w said ≡ shared_of k₁ w₁ said
+shared-same said ek ew = rw (ek, ew) refl
 
 pub returns : goal.returns
 unfolding panel_held_of
@@ -29,12 +38,14 @@ returns c =
     let h : PanelHeld = held_of d in
     let fs : List (List ℕ) = split 9 c.args.line.now in
     let there = c.read_record-there in
+    let areas = c.areas-areas.ensures in
     let earlier =
-    c.fault_here-before.ensures
-    ∙ ap (λ (n : List ℕ). before_of d.panel.grid.areas d.reading (area_words_in d.words) (area_bytes_in d.bytes) n (said_of there.result.said)) c.part_at.ensures in
+    c.fault_before-before.ensures
+    ∙ before-same (panel_reading d.reading) (said_of there.result.said) areas.count areas.words areas.bytes c.part_at.ensures in
+    let sharing = c.shared-with.ensures ∙ shared-same (said_of there.result.said) areas.count areas.words in
     let written : fault_number c.err-written.result ≡ refused_by c.write.result = ap fault_number c.err-written.ensures.value ∙ err-number c.write.result in record {
       read = line-by h fs there.ensures.0 there.ensures.1 there.ensures.2 earlier c.write.ensures c.stage-reached.ensures
-          (c.first_fault.ensures ∙ ap (first_of (fault_number c.fault_here-before.result)) written);
-      overlap = line-noted h fs there.ensures.0 there.ensures.1 there.ensures.2 earlier c.write.ensures c.shared_here-with.ensures
-          (c.noted.ensures ∙ ap (noted_by (fault_number c.fault_here-before.result) (area_number_of c.shared_here-with.result)) written);
+          (c.first_fault.ensures ∙ ap (first_of (fault_number c.fault_before-before.result)) written);
+      overlap = line-noted h fs there.ensures.0 there.ensures.1 there.ensures.2 earlier c.write.ensures sharing
+          (c.noted.ensures ∙ ap (noted_by (fault_number c.fault_before-before.result) (area_number_of c.shared-with.result)) written);
     }

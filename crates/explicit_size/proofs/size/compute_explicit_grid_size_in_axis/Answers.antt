@@ -1,4 +1,5 @@
 use Rattle.std.specs.Prelude.{Option}
+use Rattle.std.proofs.Common.{rules}
 use mathlib.Core.Path.{◌≡◌, sym, ap, ◌∙◌}
 use mathlib.Core.Bool.{true}
 use mathlib.Core.List.{List}
@@ -36,15 +37,16 @@ module _ (words minimums maximums : List ℕ) where
       rw (length-template words minimums maximums, le-leb (length words) 64 h)
       (g ∙ ap (with_areas areas) (f ∙ ap (template_size_of inner strategy gap) (rw (length-template words minimums maximums, le-leb (length words) 64 h, v) at e)))
 
-pub returns-then-template-gt64 : goal.returns-then-template-gt64
-returns-then-template-gt64 c =
+pub returns-then-template-gt-MOST_COMPONENTS : goal.returns-then-template-gt-MOST_COMPONENTS
+returns-then-template-gt-MOST_COMPONENTS c =
     let t = c.args.template in
     inside t.components.now t.minimums.now t.maximums.now _ _ _ _ _ (sym c.space_in_range.ensures ∙ c.if-not-space_in_range.false)
-    (crowds t.components.now t.minimums.now t.maximums.now _ _ _ _ _ c.if-template-gt64.true c.crowded_by.ensures)
+    (crowds t.components.now t.minimums.now t.maximums.now _ _ _ _ _ c.if-template-gt-MOST_COMPONENTS.true c.crowded_by.ensures)
 
 pub returns : goal.returns
 returns c =
     let t = c.args.template in
+    let value : c.unwrap_or.result ≡ inner_value c.args.space.inner = search rules in
     inside t.components.now t.minimums.now t.maximums.now _ _ _ _ _ (sym c.space_in_range.ensures ∙ c.if-not-space_in_range.false)
-    (counts t.components.now t.minimums.now t.maximums.now _ _ _ _ _ _ _ _ c.if-template-gt64.false c.inner_value.ensures c.gathered-summary.ensures.0
-    c.template_size-size.ensures.0 c.size_with_areas.ensures)
+    (counts t.components.now t.minimums.now t.maximums.now _ _ _ _ _ _ _ _ c.if-template-gt-MOST_COMPONENTS.false value c.gathered-summary.ensures
+    c.template_size-size.ensures c.size_with_areas.ensures)

@@ -1,12 +1,26 @@
-use Rattle.std.proofs.Common.{◌∙◌}
-use Rattle.history_lines.proofs.Steps.{no-digits, no_tab, line-found}
+use Rattle.std.proofs.Common.{rules, ◌≡◌, arith, ◌∙◌, drop}
+use Rattle.std.proofs.lemmas.Grind.{common_steps}
+use Rattle.history_lines.specs.Found.{Unmarked, MarkedBy}
+use Rattle.history_lines.proofs.Steps.{line_unmarked, line_open, line_found}
 use Rattle.history_lines.proofs.find.find_line.Goals as goal
 
-pub returns-in_err-tab : goal.returns-in_err-tab
-returns-in_err-tab c = c.from_residual.ensures ∙ no-digits _ _ _ _ c.after_digits.ensures c.in_err-tab.was
+pub returns-in_err-text : goal.returns-in_err-text
+returns-in_err-text c =
+    let a = c.args in
+    let cut : c.in_ok-get.field-0.now ≡ drop a.place a.s.now = grind (arith, common_steps) in
+    let m : Unmarked a.number (drop a.place a.s.now) = rw (← cut) (search rules) in
+    c.from_residual-in_err-text.ensures ∙ line_unmarked a.number a.s.now a.place m
 
-pub returns-in_err-start : goal.returns-in_err-start
-returns-in_err-start c = c.from_residual-in_err-start.ensures ∙ no_tab _ _ _ _ c.after_digits.ensures _ c.in_ok-tab.was _ c.after_byte.ensures c.in_err-start.was
+pub returns-in_err-length : goal.returns-in_err-length
+returns-in_err-length c =
+    let a = c.args in
+    let cut : c.in_ok-get.field-0.now ≡ drop a.place a.s.now = grind (arith, common_steps) in
+    let m : MarkedBy a.number (drop a.place a.s.now) c.in_ok-text.text.now = rw (← cut) (search rules) in
+    c.from_residual-in_err-length.ensures ∙ line_open a.number a.s.now a.place c.in_ok-text.text.now (grind (arith, common_steps)) m (search rules)
 
 pub returns : goal.returns
-returns c = line-found _ _ _ _ c.after_digits.ensures _ c.in_ok-tab.was _ c.after_byte.ensures _ _ c.in_ok-start.was c.ended_text.ensures
+returns c =
+    let a = c.args in
+    let cut : c.in_ok-get.field-0.now ≡ drop a.place a.s.now = grind (arith, common_steps) in
+    let m : MarkedBy a.number (drop a.place a.s.now) c.in_ok-text.text.now = rw (← cut) (search rules) in
+    search (rules, line_found a.number a.s.now a.place c.in_ok-text.text.now (grind (arith, common_steps)) m)

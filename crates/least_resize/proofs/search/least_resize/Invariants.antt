@@ -8,5 +8,5 @@ use Rattle.least_resize.proofs.search.least_resize.Given as goal
 -- the distances that are left find what all of them do
 abbrev pub invariant-loop-distance : goal.invariant-loop-distance
 invariant-loop-distance l =
-    search_from (differs_in l.repeat (components_of l.template) l.count) l.current l.distance (65536 - l.distance)
-    ≡ search_from (differs_in l.repeat (components_of l.template) l.count) l.current 1 65535
+    search_from (differs_in l.search.repeat (components_of l.search.template) l.count) l.current l.distance (65536 - l.distance)
+    ≡ search_from (differs_in l.search.repeat (components_of l.search.template) l.count) l.current 1 65535

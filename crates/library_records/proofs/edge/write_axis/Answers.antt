@@ -13,7 +13,7 @@ pub returns : goal.returns
 returns c =
     let a = c.args in
     let head = c.head_count-head.result in
-    axis-words (axis_tracks a.lent.grid) (template_in a.lent.grid a.lent.tables.now) (spares_in a.lent.grid a.lent.tables.now) a.lent.items.now c.plan_on-plan.result c.plan_on-plan.ensures a.words.now c.write_edge.new.words c.write_pairs.new.words c.write_edge-2.new.words
+    axis-words (axis_tracks a.lent.grid) (template_in a.lent.grid a.lent.tables.now) (spares_in a.lent.grid a.lent.tables.now) a.lent.items.now c.plan-plan.result c.plan-plan.ensures a.words.now c.write_edge.new.words c.write_pairs.new.words c.write_edge-2.new.words
     a.first a.count head ((a.count - head) / 2) c.head_count-head.ensures refl c.write_edge.ensures c.write_pairs.ensures c.write_edge-2.ensures
 
 pub write_edge-requires-2 : goal.write_edge-requires-2
@@ -25,7 +25,7 @@ write_edge-requires-2 c =
     let done = head + 2 * ((a.count - head) / 2) in
     let kept : length c.write_pairs.new.words ≡ length a.words.now =
     ap length c.write_pairs.ensures ∙ simp length-sets (ap length c.write_edge.ensures ∙ simp length-sets) in record {
-      plan_value = c.plan_on-plan.ensures;
+      plan_value = c.plan-plan.ensures;
       count_bound = tail_one a.count head fits;
       count_in_bounds = subst (λ (n : ℕ). 3 * done + 3 * (a.count - done) ≤ n) (sym kept) (tail_room (length a.words.now) a.count head fits p.count_in_bounds);
     }
@@ -38,7 +38,7 @@ write_pairs-requires c =
     let fits = head_fits a.first a.count head c.head_count-head.ensures in
     let s = c.args.lent.grid in
     let kept : length c.write_edge.new.words ≡ length a.words.now = ap length c.write_edge.ensures ∙ simp length-sets in record {
-      written_value = planned_count (axis_tracks s) (part_of a.lent.tables.now 0 s.template.components) (part_of a.lent.tables.now 64 s.template.tracks) (part_of a.lent.tables.now 2112 s.template.tracks) (item_at a.lent.items.now) c.plan_on-plan.result c.plan_on-plan.ensures;
+      written_value = planned_count (axis_tracks s) (part_of a.lent.tables.now 0 s.template.components) (part_of a.lent.tables.now 64 s.template.tracks) (part_of a.lent.tables.now 2112 s.template.tracks) (item_at a.lent.items.now) c.plan-plan.result c.plan-plan.ensures;
       count_in_bounds = subst (λ (n : ℕ). 3 * head + 6 * ((a.count - head) / 2) ≤ n) (sym kept) (pairs_room (length a.words.now) a.count head fits p.count_in_bounds);
     }
 
@@ -48,4 +48,4 @@ write_edge-requires c =
     let p = c.requires in
     let head = c.head_count-head.result in
     let fits = head_fits a.first a.count head c.head_count-head.ensures in
-    record { plan_value = c.plan_on-plan.ensures; count_bound = head_one a.first a.count head c.head_count-head.ensures; count_in_bounds = omega (arith, fits, p.count_in_bounds) }
+    record { plan_value = c.plan-plan.ensures; count_bound = head_one a.first a.count head c.head_count-head.ensures; count_in_bounds = omega (arith, fits, p.count_in_bounds) }

@@ -11,7 +11,7 @@ use Rattle.name_search.proofs.areas.mark_areas.Goals as goal
 pub loop-i-preserved : goal.loop-i-preserved
 loop-i-preserved c = let a = c.args in let l = c.loop-i in
     rest-step a.marks.now l.marks c.mark_area.new.marks (λ k. any (edged? a.name.now (side_of a.end) (suc (a.sought.from + k))) (areas_of a.sought.axis (drop l.i a.areas.edges.now) (drop l.i a.areas.names.now) a.areas.store.now)) (λ k. edged? a.name.now (side_of a.end) (suc (a.sought.from + k)) (area_of a.sought.axis (get_or a.areas.edges.now l.i 0) (get_or a.areas.names.now l.i 0) a.areas.store.now)) (λ k. any (edged? a.name.now (side_of a.end) (suc (a.sought.from + k))) (areas_of a.sought.axis (drop (l.i + 1) a.areas.edges.now) (drop (l.i + 1) a.areas.names.now) a.areas.store.now)) (λ k. any (edged? a.name.now (side_of a.end) (suc (a.sought.from + k))) (areas_of a.sought.axis a.areas.edges.now a.areas.names.now a.areas.store.now))
-    (λ k. areas-step (edged? a.name.now (side_of a.end) (suc (a.sought.from + k))) a.sought.axis a.areas.edges.now a.areas.names.now a.areas.store.now l.i (omega arith)) l.invariant (rw (← c.word_at-area.ensures) c.mark_area.ensures)
+    (λ k. areas-step (edged? a.name.now (side_of a.end) (suc (a.sought.from + k))) a.sought.axis a.areas.edges.now a.areas.names.now a.areas.store.now l.i (omega arith)) l.invariant (rw (c.area.ensures.edges, c.area.ensures.name, c.area.ensures.store) at c.mark_area.ensures)
 
 pub returns : goal.returns
 returns c = let a = c.args in let l = c.loop-i in

@@ -1,17 +1,13 @@
--- The loop's invariant: the highest of number and the entries from the next on is the highest of all.
-use mathlib.Core.Path.{◌≡◌, sym, ◌∙◌}
-use native.Mathlib.Omega.{arith}
-use borrow.Author.Rules.{rules}
+use Rattle.std.proofs.Common.{rules, ◌∙◌}
+use Rattle.std.proofs.lemmas.Iterator.{YieldsList-from_slice}
+use Rattle.std.proofs.lemmas.Iterator.Consumers.{fold_from_yields_List}
 use Prim.Native.Nat.{max}
-use lib.ListN.{get_or}
 use Rattle.name_entries.specs.Entries.{entry_of}
-use Rattle.name_lines.proofs.HighestLine.{entry-step, entry-end}
+use Rattle.name_lines.proofs.HighestLine.{entries_fold}
 use Rattle.name_search.proofs.highest.highest_entry.Goals as goal
 
-pub loop-word-preserved : goal.loop-word-preserved
-loop-word-preserved c = let l = c.loop-word in let a = c.args in
-    let higher : c.max-number.result ≡ max l.number (entry_of (get_or a.entries.now l.word-index 0)).line = search rules in
-    rw higher (sym (entry-step l.number a.entries.now l.word-index (omega arith)) ∙ l.invariant)
-
 pub returns : goal.returns
-returns c = let l = c.loop-word in let a = c.args in sym (entry-end l.number a.entries.now l.word-index (omega arith)) ∙ l.invariant
+returns c =
+    let a = c.args in
+    fold_from_yields_List _ (λ m w. max m (entry_of w).line) 0 c.fold.result c.fold.ensures.ran (YieldsList-from_slice a.entries.now cc) (λ m x b q k. search rules)
+    ∙ entries_fold 0 a.entries.now

@@ -7,16 +7,16 @@ pub overflow_mul-result : goal.overflow_mul-result
 overflow_mul-result c = let a = c.args in
     let e = after-times a.times a.line a.tracks c.if-times-eq0.false in
     let b = line_bound a.times a.line a.tracks 4294967296 (omega arith) (omega arith) in
-    rw c.repetitions_written.ensures (omega arith)
+    rw c.requires.counted (omega arith)
 
 pub overflow_add-result-2 : goal.overflow_add-result-2
 overflow_add-result-2 c = let a = c.args in
     let e = after-times a.times a.line a.tracks c.if-times-eq0.false in
     let b = line_bound a.times a.line a.tracks 4294967296 (omega arith) (omega arith) in
-    rw c.repetitions_written.ensures (omega arith)
+    rw c.requires.counted (omega arith)
 
 pub returns : goal.returns
 returns c = let a = c.args in
     let e = after-times a.times a.line a.tracks c.if-times-eq0.false in
     let b = line_bound a.times a.line a.tracks 4294967296 (omega arith) (omega arith) in
-    rw c.repetitions_written.ensures (sym e)
+    rw c.requires.counted (sym e)

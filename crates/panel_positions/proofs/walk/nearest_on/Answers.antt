@@ -9,19 +9,20 @@ pub returns-in_err-sought : goal.returns-in_err-sought
 returns-in_err-sought c =
     let a = c.args in
     let p = err_from_is_err_and c.from_residual.result c.from_residual.ensures.1 in
-    rw (p.1, p.2) (nearest-refused a.grid a.words.now a.items.now a.cursor _ c.in_err-sought.ensures (fault_some _))
+    rw (p.1, p.2) (nearest-refused a.lent.grid a.lent.tables.now a.lent.items.now a.cursor _ (rw c.at.ensures at c.in_err-sought.ensures) (fault_some _))
 
 pub grid_line_at-requires : goal.grid_line_at-requires
 grid_line_at-requires c =
     let a = c.args in
-    let small = counts-small a.grid a.words.now a.items.now a.cursor _ c.in_ok-sought.ensures refl in
-    record { place_bound = place-small a.grid a.words.now a.items.now a.cursor _ c.in_ok-sought.ensures refl; negative_bound = small.1; explicit_bound = small.0 }
+    let e = rw c.at.ensures at c.in_ok-sought.ensures in
+    let small = counts-small a.lent.grid a.lent.tables.now a.lent.items.now a.cursor _ e refl in
+    record { place_bound = place-small a.lent.grid a.lent.tables.now a.lent.items.now a.cursor _ e refl; negative_bound = small.1; explicit_bound = small.0 }
 
 pub returns : goal.returns
 returns c =
     let a = c.args in
-    let e = c.in_ok-sought.ensures in
-    let small = counts-small a.grid a.words.now a.items.now a.cursor _ e refl in
-    let place = place-small a.grid a.words.now a.items.now a.cursor _ e refl in
-    nearest-found a.grid a.words.now a.items.now a.cursor _ e _ refl
-    (handed_on c.in_ok-sought.sought.nearest a.grid.implicit.negative a.grid.size.explicit c.grid_line_at.result place small.1 small.0 c.grid_line_at.ensures)
+    let e = rw c.at.ensures at c.in_ok-sought.ensures in
+    let small = counts-small a.lent.grid a.lent.tables.now a.lent.items.now a.cursor _ e refl in
+    let place = place-small a.lent.grid a.lent.tables.now a.lent.items.now a.cursor _ e refl in
+    nearest-found a.lent.grid a.lent.tables.now a.lent.items.now a.cursor _ e _ refl
+    (handed_on c.in_ok-sought.sought.nearest a.lent.grid.implicit.negative a.lent.grid.size.explicit c.grid_line_at.result place small.1 small.0 c.grid_line_at.ensures)

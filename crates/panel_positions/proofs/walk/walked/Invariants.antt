@@ -7,4 +7,4 @@ use Rattle.panel_positions.proofs.walk.walked.Given as goal
 
 abbrev pub invariant-loop-done : goal.invariant-loop-done
 invariant-loop-done l =
-    (l.done ≤ l.count) × (l.count ≤ 30000) × (l.at ≡ carried_to l.grid l.words l.items (2 * l.done + 1)) × (l.walk ≡ walked_to l.span l.inner (records_on l.grid l.words l.items) (2 * l.done + 1))
+    (l.done ≤ l.count) × (l.count ≤ 30000) × (l.at ≡ carried_to l.lent.grid l.lent.tables.now l.lent.items.now (2 * l.done + 1)) × (l.walk ≡ walked_to l.span l.inner (records_on l.lent.grid l.lent.tables.now l.lent.items.now) (2 * l.done + 1))

@@ -9,9 +9,6 @@ use Rattle.panel_resolving.proofs.find.find_named_line.Goals as goal
 pub loop-line-init : goal.loop-line-init
 loop-line-init c = let a = c.args in let b = a.beside in (λ h. sym c.asks_own-own.ensures ∙ h, found_first b.around b.index.now b.store.now (area_words_in b.words.now) (area_bytes_in b.bytes.now) a.question c.name_of-name.result.now c.asks_own-own.result c.asks_own-own.ensures)
 
-pub find_line-requires : goal.find_line-requires
-find_line-requires c = c.requires
-
 pub returns-in-Ok : goal.returns-in-Ok
 returns-in-Ok c = let a = c.args in let b = a.beside in let l = c.loop-line in rw (← c.placement_bytes.ensures, ← c.name_of-name.ensures) (found_at b.around b.index.now b.store.now (area_words_in b.words.now) (area_bytes_in b.bytes.now) a.question c.name_of-name.result.now l.own l.invariant.0 c.in-Ok.line (rw (c.in-Ok.is, c.stem_sought-stem.ensures, c.sought_for-sought.ensures) at c.find_line.ensures) l.invariant.1)
 

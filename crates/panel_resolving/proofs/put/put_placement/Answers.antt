@@ -1,12 +1,14 @@
 use mathlib.Core.Path.{ap, ◌∙◌}
-use lib.Seq.{sets}
-use Rattle.library_numbers.specs.declared.PlacementNumbers.{PlacementNumbers}
+use Prim.Native.Nat.{◌+◌, ◌-◌}
+use native.Mathlib.Omega.{arith}
 use Rattle.panel_resolving.specs.Placements.{numbers_of}
-use Rattle.panel_resolving.proofs.Numbers.{small-numbers}
+use Rattle.panel_resolving.proofs.Numbers.{small-numbers, numbers_put}
 use Rattle.panel_resolving.proofs.put.put_placement.Goals as goal
 
-pub put_numbers-requires : goal.put_numbers-requires
-put_numbers-requires c = (c.requires, rw c.from.ensures (small-numbers c.args.answer))
+pub numbers_of-written-requires : goal.numbers_of-written-requires
+numbers_of-written-requires c = rw c.from.ensures (small-numbers c.args.answer)
 
 pub returns : goal.returns
-returns c = let a = c.args in c.put_numbers.ensures ∙ ap (λ (n : PlacementNumbers). sets a.numbers.now a.place (numbers_of n)) c.from.ensures
+returns c =
+    let a = c.args in
+    numbers_put a.numbers.now _ _ a.place (a.place + 8 - a.place) (c.copy_from_slice.ensures.after ∙ c.numbers_of-written.ensures ∙ ap numbers_of c.from.ensures) (omega arith) (omega (arith, c.requires))

@@ -9,9 +9,6 @@ use Rattle.panel_resolving.proofs.resolve.resolve_line_names.Goals as goal
 pub loop-last-init : goal.loop-last-init
 loop-last-init c = λ h. never h
 
-pub resolve_end-resolved-requires : goal.resolve_end-resolved-requires
-resolve_end-resolved-requires c = record { explicit_bound = c.if-beside-gt-MOST_TRACKS.false; lists = c.requires }
-
 pub returns-then-last : goal.returns-then-last
 unfolding resolution_by answered_line
 returns-then-last c = let a = c.args in let l = c.loop-last in let second = c.resolve_end-resolved in

@@ -1,16 +1,19 @@
-use mathlib.Core.Path.{sym, ◌∙◌}
+use mathlib.Core.Path.{refl, sym, ◌∙◌}
+use mathlib.Core.List.{◌++◌}
+use Rattle.name_lines.specs.Suffixes.{tail_of}
+use Rattle.panel_resolving.specs.Listing.{first_named}
 use Rattle.name_search.specs.Sought.{line_sought}
 use Rattle.panel_resolving.specs.Names.{sought_by}
-use Rattle.panel_resolving.proofs.Sought.{part_listed, has_when, own-sought, own-ascend, alone-sought}
+use Rattle.panel_resolving.proofs.Sought.{part_listed, own-sought, own-ascend, alone-sought}
 use Rattle.panel_resolving.proofs.search.find_line.Goals as goal
 
 pub nth_listed-requires : goal.nth_listed-requires
-nth_listed-requires c = own-ascend c.args.sought.axis c.args.beside.store.now c.part_from.result.now c.part_from-2.result.now c.area_bytes.result.now c.args.stem.now c.args.sought.edge c.group_part-part.result.now c.named_part-own.result.now c.group_of-group.result.listed c.list_name-named.result (part_listed c.args.beside.around.grouping c.args.beside.index.now c.args.beside.store.now c.args.stem.now c.args.sought.edge c.requires c.group_of-group.result c.group_part-part.result.now c.group_of-group.ensures c.group_part-part.ensures) (has_when _ _ _ c.list_name-named.ensures) c.named_part-own.ensures c.if-listed.true
+nth_listed-requires c = own-ascend c.args.sought.axis c.args.beside.store.now c.part_from.result.now c.part_from-2.result.now c.area_bytes.result.now c.args.stem.now c.args.sought.edge c.group_part-part.result.now c.named_part-own.result.now c.group_of-group.result.listed (first_named c.args.beside.store.now c.group_part-part.result.now (c.args.stem.now ++ tail_of c.args.sought.edge)) (part_listed c.args.beside.around.grouping c.args.beside.index.now c.args.beside.store.now c.args.stem.now c.args.sought.edge c.args.beside.lists c.group_of-group.result c.group_part-part.result.now c.group_of-group.ensures c.group_part-part.ensures) (λ h. refl) c.named_part-own.ensures c.if-listed.true
 
 pub returns-then-not-is_drawn : goal.returns-then-not-is_drawn
 unfolding line_sought sought_by
 returns-then-not-is_drawn c = rw (
-  alone-sought c.args.sought.axis c.args.beside.store.now c.part_from.result.now c.part_from-2.result.now c.area_bytes.result.now c.args.stem.now c.args.sought.edge c.group_part-part.result.now c.named_part-own.result.now c.group_of-group.result.listed c.list_name-named.result (part_listed c.args.beside.around.grouping c.args.beside.index.now c.args.beside.store.now c.args.stem.now c.args.sought.edge c.requires c.group_of-group.result c.group_part-part.result.now c.group_of-group.ensures c.group_part-part.ensures) (has_when _ _ _ c.list_name-named.ensures) c.named_part-own.ensures c.if-listed.true (sym c.is_drawn.ensures ∙ c.if-not-is_drawn.true),
+  alone-sought c.args.sought.axis c.args.beside.store.now c.part_from.result.now c.part_from-2.result.now c.area_bytes.result.now c.args.stem.now c.args.sought.edge c.group_part-part.result.now c.named_part-own.result.now c.group_of-group.result.listed (first_named c.args.beside.store.now c.group_part-part.result.now (c.args.stem.now ++ tail_of c.args.sought.edge)) (part_listed c.args.beside.around.grouping c.args.beside.index.now c.args.beside.store.now c.args.stem.now c.args.sought.edge c.args.beside.lists c.group_of-group.result c.group_part-part.result.now c.group_of-group.ensures c.group_part-part.ensures) (λ h. refl) c.named_part-own.ensures c.if-listed.true (sym c.is_drawn.ensures ∙ c.if-not-is_drawn.true),
   c.group_part-part.ensures,
   c.group_of-group.ensures,
   c.part_from.ensures,
@@ -22,7 +25,7 @@ returns-then-not-is_drawn c = rw (
 pub returns : goal.returns
 unfolding sought_by
 returns c = rw (
-  own-sought c.args.sought.axis c.args.beside.store.now c.part_from.result.now c.part_from-2.result.now c.area_bytes.result.now c.args.stem.now c.args.sought.edge c.group_part-part.result.now c.named_part-own.result.now c.group_of-group.result.listed c.list_name-named.result (part_listed c.args.beside.around.grouping c.args.beside.index.now c.args.beside.store.now c.args.stem.now c.args.sought.edge c.requires c.group_of-group.result c.group_part-part.result.now c.group_of-group.ensures c.group_part-part.ensures) (has_when _ _ _ c.list_name-named.ensures) c.named_part-own.ensures,
+  own-sought c.args.sought.axis c.args.beside.store.now c.part_from.result.now c.part_from-2.result.now c.area_bytes.result.now c.args.stem.now c.args.sought.edge c.group_part-part.result.now c.named_part-own.result.now c.group_of-group.result.listed (first_named c.args.beside.store.now c.group_part-part.result.now (c.args.stem.now ++ tail_of c.args.sought.edge)) (part_listed c.args.beside.around.grouping c.args.beside.index.now c.args.beside.store.now c.args.stem.now c.args.sought.edge c.args.beside.lists c.group_of-group.result c.group_part-part.result.now c.group_of-group.ensures c.group_part-part.ensures) (λ h. refl) c.named_part-own.ensures,
   c.group_part-part.ensures,
   c.group_of-group.ensures,
   c.part_from.ensures,

@@ -23,9 +23,9 @@ loop-i-preserved c = let a = c.args in let l = c.loop-i in
     let seen = (rw (c.placement_at-place.ensures, c.placement_words.ensures) at c.eq.ensures) ∙ same-axis _ _ in
     elim c.if-eq.branch [
       | then-eq w ↦ let put = w.put_placement in rw (w.numbers-is, w.last-is) (
-        ap length put.ensures ∙ (length-sets l.numbers (8 * l.i) (numbers_of (placement_numbers (answered_placement w.placed_by.result))) ∙ l.invariant.0),
+        ap length put.ensures ∙ (length-sets l.numbers (8 * l.i) (numbers_of (placement_numbers (answered_placement w.placed_on.result))) ∙ l.invariant.0),
         rest-taken (on_axis a.run.around.axis (placement_words_in a.words.now)) (numbers_by (resolution_by a.run.around.explicit (bears_by a.run.around a.index.now a.store.now (area_words_in a.words.now) (area_bytes_in a.bytes.now)) (placement_bytes_in a.bytes.now)) (placement_words_in a.words.now)) a.run.first a.run.count l.i l.numbers c.loop-i-test.true (sym seen ∙ w.if-eq.true) put.new.numbers
-            (rw (w.placed_by.ensures, w.resolve_line_names-last.ensures, w.line_placement-line.ensures, c.placement_at-place.ensures, c.placement_words.ensures) at put.ensures) ∙ l.invariant.1,
+            (rw (w.placed_on.ensures, w.resolve_line_names-last.ensures, w.line_placement-line.ensures, c.placement_at-place.ensures, c.placement_words.ensures) at put.ensures) ∙ l.invariant.1,
         omega (arith, c.loop-i-test.true),
         λ e h. (rw (w.line_placement-line.ensures, c.placement_at-place.ensures, c.placement_words.ensures, first_of_lem a.run.first l.i e) at w.resolve_line_names-last.ensures),
       )

@@ -1,13 +1,8 @@
 -- `picture_areas::draw_run` meets its contract. Assumes nothing.
 use Rattle.std.proofs.Common.{rules, ◌≡◌, None, Err, sym, ◌∙◌}
 use Rattle.picture_areas.specs.Places.{area_place_in}
-use Rattle.picture_areas.proofs.Runs.{place_drawn, draw_refused, draw_put}
+use Rattle.picture_areas.proofs.Runs.{draw_refused, draw_put}
 use Rattle.picture_areas.proofs.draw.draw_run.Goals as goal
-
-pub returns-in-Some : goal.returns-in-Some
-returns-in-Some c =
-    let a = c.args in
-    place_drawn a.panel a.words.now a.bytes.now a.name.now a.run c.in-Some.index (sym c.area_index.ensures ∙ c.in-Some.is) _ c.grow_area-broken.ensures
 
 pub returns-in_err-panel : goal.returns-in_err-panel
 returns-in_err-panel c =

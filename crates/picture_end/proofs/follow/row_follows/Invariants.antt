@@ -6,8 +6,8 @@ use Rattle.sheet_rules.specs.Contents.{lines_from}
 use Rattle.sheet_rules.specs.Kinds.{row_follows}
 use Rattle.picture_end.proofs.follow.row_follows.Given as goal
 
-abbrev pub invariant-loop-at : goal.invariant-loop-at
-invariant-loop-at l = row_follows (lines_from (split 10 (drop l.from l.sheet))) ≡ row_follows (lines_from (split 10 (drop l.at l.sheet)))
+abbrev pub invariant-loop-end : goal.invariant-loop-end
+invariant-loop-end l = row_follows (lines_from (split 10 l.rest)) ≡ row_follows (lines_from (split 10 (drop l.at l.rest)))
 
-abbrev pub decreases-loop-at : goal.decreases-loop-at
-decreases-loop-at l = length l.sheet - l.at
+abbrev pub decreases-loop-end : goal.decreases-loop-end
+decreases-loop-end l = length l.rest - l.at

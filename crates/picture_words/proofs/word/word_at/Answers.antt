@@ -1,13 +1,11 @@
--- `picture_words::word_at` meets its contract. Assumes nothing.
-use mathlib.Core.Path.{sym}
-use native.Mathlib.Omega.{arith}
-use Rattle.picture_words.proofs.Words.{words_past, word-here}
+use Rattle.std.proofs.Common.{arith, ◌≡◌, ◌∙◌, ap, [], drop, get_or}
+use Rattle.std.proofs.lemmas.Grind.{common_steps}
+use Rattle.text.specs.Split.{split}
+use Rattle.picture_words.proofs.Words.{word_first}
 use Rattle.picture_words.proofs.word.word_at.Goals as goal
-
-pub returns-then-line-at : goal.returns-then-line-at
-returns-then-line-at c = rw (words_past c.args.line.now c.args.at c.if-line-at.true)
 
 pub returns : goal.returns
 returns c =
     let a = c.args in
-    sym (word-here a.line.now a.at c.word_end-end.result (omega arith) c.word_end-end.ensures.place)
+    let rest : c.unwrap_or.result.now ≡ drop a.at a.line.now = grind (arith, common_steps) in
+    c.part.ensures ∙ ap (λ s. get_or (split 9 s) 0 []) rest ∙ word_first a.line.now a.at

@@ -26,7 +26,7 @@ returns-then-end-sheet c =
     let s = c.args.sheet.now in
     let l = c.loop-at in
     let h : PanelHeld = held_of l.draft in
-    let f = c.find-end in
+    let f = c.part_end-end in
     let parts = split-no-more 10 s l.at f.result (omega arith) f.ensures c.if-end-sheet.true in record {
       lines = sym
           (l.invariant.lines
@@ -47,7 +47,7 @@ returns-then-end-sheet c =
     }
 
 pub slice_bounds-text-end : goal.slice_bounds-text-end
-slice_bounds-text-end c = find-le 10 _ c.loop-at.at c.find-end.result (omega arith) c.find-end.ensures
+slice_bounds-text-end c = find-le 10 _ c.loop-at.at c.part_end-end.result (omega arith) c.part_end-end.ensures
 
 pub overlap_at-requires : goal.overlap_at-requires
 overlap_at-requires c = rw c.read_line-read.ensures.overlap (shared-few (held_of c.loop-at.draft) _)
@@ -57,7 +57,7 @@ returns-in-Some c =
     let s = c.args.sheet.now in
     let l = c.loop-at in
     let h : PanelHeld = held_of l.draft in
-    let f = c.find-end in
+    let f = c.part_end-end in
     let k = c.read_line-read in
     let x : PanelStepped = record { fault = number_of c.in-Some.fault; held = held_of k.new.draft } in
     let parts = split-more 10 s l.at f.result (omega arith) f.ensures c.if-end-sheet.false in
@@ -91,7 +91,7 @@ loop-at-preserved c =
     let s = c.args.sheet.now in
     let l = c.loop-at in
     let h : PanelHeld = held_of l.draft in
-    let f = c.find-end in
+    let f = c.part_end-end in
     let k = c.read_line-read in
     let x : PanelStepped = record { fault = 0; held = held_of k.new.draft } in
     let parts = split-more 10 s l.at f.result (omega arith) f.ensures c.if-end-sheet.false in

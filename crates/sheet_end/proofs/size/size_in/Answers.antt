@@ -24,5 +24,5 @@ ranged s = and_i (inner_in_range (inner_in s)) (sizing_in_range (sizing_of s.gap
 
 pub returns : goal.returns
 unfolding size_in
-returns c = rw (c.compute_explicit_grid_size_in_axis.ensures, c.sizing_of.ensures, c.strategy_in.ensures, c.inner_in.ensures, c.part_from-3.ensures, c.part_from-2.ensures, c.part_from.ensures)
+returns c = rw (c.compute_explicit_grid_size_in_axis.ensures, c.from-2.ensures, c.from.ensures, c.inner_in.ensures, c.template_in.ensures.maximums, c.template_in.ensures.minimums, c.template_in.ensures.components)
     (answer-in-range _ _ _ _ _ (ranged c.args.state.grid.space))

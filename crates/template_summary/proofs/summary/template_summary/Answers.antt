@@ -1,29 +1,21 @@
-use mathlib.Core.Path.{◌≡◌, refl, sym, ap, subst, ◌∙◌}
+use mathlib.Core.Path.{◌≡◌, refl, ◌∙◌}
 use mathlib.Core.List.{List, foldl}
-use Prim.Native.Nat.{ℕ, suc, ◌+◌, ◌-◌, ◌^◌, ◌<◌, ◌≤◌}
+use Prim.Native.Nat.{ℕ, suc, ◌+◌, ◌-◌, ◌<◌, ◌≤◌}
 use native.Mathlib.Numerals.{add-one}
 use native.Mathlib.Omega.{arith}
 use borrow.Author.Tests.{le-leb}
 use lib.ListN.{length, get_or, drop, drop_of_length-le}
 use lib.Seq.{drop-cons}
-use Rattle.std.proofs.Common.{rules}
 use lib.Ieee.{Float}
 use Rattle.template_rules.specs.Template.{component_of, tracks_from, with_tracks, template_of, components_of}
 use Rattle.template_rules.specs.Summary.{steps_inside, first_part}
 use Rattle.template_rules.specs.Steps.{summary_step, summary_of, totals_of, cut_after}
-use Rattle.template_rules.specs.Bounds.{OfWord, Gathered}
+use Rattle.template_rules.specs.Bounds.{CountOfWord, Gathered}
 use Rattle.template_rules.specs.declared.GridTemplateComponent.{GridTemplateComponent}
 use Rattle.template_rules.specs.declared.TemplateSummary.{TemplateSummary}
-use Rattle.template_rules.proofs.Bounds.{of_word, length-tracks, none-gathered, step-gathered, more-gathered}
-use Rattle.template_rules.proofs.FirstPart.{part_none, part_step_lem, gathered_first_part, cut-tracks, cut-steps, cut-of-word}
+use Rattle.template_rules.proofs.Bounds.{length-tracks, none-gathered, step-gathered}
+use Rattle.template_rules.proofs.FirstPart.{part_none, part_step_lem, gathered_first_part, cut-tracks, cut-steps}
 use Rattle.template_summary.proofs.summary.template_summary.Goals as goal
-
--- the component that a step takes: of the word w, cut to k steps inside it
-taken : (w k : ℕ) (k' : ℕ) (c d : GridTemplateComponent) → c ≡ component_of w → d ≡ cut_after k' c → k' ≡ k → d ≡ cut_after k (component_of w)
-taken w k k' c d e f g = f ∙ ap (λ (x : GridTemplateComponent). cut_after k' x) e ∙ ap (λ (x : ℕ). cut_after x (component_of w)) g
-
-taken-of-word : (w k : ℕ) (d : GridTemplateComponent) → w < 2 ^ 64 → d ≡ cut_after k (component_of w) → OfWord d
-taken-of-word w k d h e = subst OfWord (sym e) (cut-of-word k (component_of w) (of_word w h))
 
 taken-steps : (w k n : ℕ) (d : GridTemplateComponent) → d ≡ cut_after k (component_of w) → n ≡ steps_inside d.count d.length → n ≤ k
 taken-steps w k n d e f = rw (f, e) (cut-steps k (component_of w)).0
@@ -52,11 +44,12 @@ module _ (minimums maximums : List ℕ) (inner : Float) where
   unfolding template_of first_part
   done words i left s all h g = rw (drop_of_length-le words h) at g
 
-  next-gathered : (n : ℕ) (s s' : TemplateSummary) (k : GridTemplateComponent) → OfWord k → Gathered n s → s' ≡ summary_step inner s (with_tracks minimums maximums k) → Gathered (n + 1) s'
+  next-gathered : (n : ℕ) (s s' : TemplateSummary) (k : GridTemplateComponent) → CountOfWord k.count k.length → k.length ≤ 65535 → Gathered n s
+      → s' ≡ summary_step inner s (with_tracks minimums maximums k) → Gathered (n + 1) s'
   unfolding summary_step
-  next-gathered n s s' k w g e =
+  next-gathered n s s' k h m g e =
       rw (e, length-tracks minimums maximums k.first k.length)
-      (step-gathered n s k.count k.length (totals_of inner k.count (tracks_from minimums maximums k.first k.length)) g w.counted w.length)
+      (step-gathered n s k.count k.length (totals_of inner k.count (tracks_from minimums maximums k.first k.length)) g h m)
 
 pub loop-word-init : goal.loop-word-init
 unfolding summary_of
@@ -64,33 +57,24 @@ loop-word-init c = (none-gathered, refl)
 
 pub returns-then-left-eq0 : goal.returns-then-left-eq0
 returns-then-left-eq0 c =
-    let t = c.args.template in (
-      rw (le-leb (length t.components.now) 64 c.if-template-gt64.false)
-          (stopped t.minimums.now t.maximums.now c.args.inner t.components.now c.loop-word.word-index c.loop-word.left c.loop-word.summary _ c.if-left-eq0.true c.loop-word.invariant.1
-          ∙ gathered_first_part c.args.inner c.args.steps (components_of t)),
-      more-gathered _ 64 _ c.loop-word.invariant.0 (omega arith),
-    )
-
-pub add_component-summary-requires : goal.add_component-summary-requires
-add_component-summary-requires c =
-    let h : get_or c.args.template.components.now c.loop-word.word-index 0 < 2 ^ 64 = search rules in
-    (more-gathered _ 64 _ c.loop-word.invariant.0 (omega arith), taken-of-word _ (c.loop-word.left - 1) _ h (taken _ _ _ _ _ c.component_of.ensures c.first_tracks-component.ensures refl))
+    let t = c.args.template in
+    rw (le-leb (length t.components.now) 64 c.if-template-gt-MOST_COMPONENTS.false)
+    (stopped t.minimums.now t.maximums.now c.args.inner t.components.now c.loop-word.word-index c.loop-word.left c.loop-word.summary _ c.if-left-eq0.true c.loop-word.invariant.1
+    ∙ gathered_first_part c.args.inner c.args.steps (components_of t))
 
 pub loop-word-preserved : goal.loop-word-preserved
 loop-word-preserved c =
     let t = c.args.template in
-    let h : get_or t.components.now c.loop-word.word-index 0 < 2 ^ 64 = search rules in
-    let d = taken (get_or t.components.now c.loop-word.word-index 0) (c.loop-word.left - 1) _ _ _ c.component_of.ensures c.first_tracks-component.ensures refl in (
-      next-gathered _ _ _ _ _ _ _ (taken-of-word _ _ _ h d) c.loop-word.invariant.0 c.add_component-summary.ensures,
-      turn t.minimums.now t.maximums.now c.args.inner t.components.now c.loop-word.word-index c.loop-word.left c.steps_inside.result c.first_tracks-component.result c.loop-word.summary
-          c.add_component-summary.result _ c.loop-word-test.true c.if-left-eq0.false d c.steps_inside.ensures c.add_component-summary.ensures c.loop-word.invariant.1,
+    let k = c.component_after-component.result in (
+      next-gathered _ _ _ _ _ _ k.parts k.counted k.small.1 c.loop-word.invariant.0 c.add_component-summary.ensures,
+      turn t.minimums.now t.maximums.now c.args.inner t.components.now c.loop-word.word-index c.loop-word.left c.steps_inside.result k.parts c.loop-word.summary
+          c.add_component-summary.result _ c.loop-word-test.true c.if-left-eq0.false c.component_after-component.ensures c.steps_inside.ensures c.add_component-summary.ensures
+          c.loop-word.invariant.1,
     )
 
 pub returns : goal.returns
 returns c =
-    let t = c.args.template in (
-      rw (le-leb (length t.components.now) 64 c.if-template-gt64.false)
-          (done t.minimums.now t.maximums.now c.args.inner t.components.now c.loop-word.word-index c.loop-word.left c.loop-word.summary _ c.loop-word-test.false c.loop-word.invariant.1
-          ∙ gathered_first_part c.args.inner c.args.steps (components_of t)),
-      more-gathered _ 64 _ c.loop-word.invariant.0 (omega arith),
-    )
+    let t = c.args.template in
+    rw (le-leb (length t.components.now) 64 c.if-template-gt-MOST_COMPONENTS.false)
+    (done t.minimums.now t.maximums.now c.args.inner t.components.now c.loop-word.word-index c.loop-word.left c.loop-word.summary _ c.loop-word-test.false c.loop-word.invariant.1
+    ∙ gathered_first_part c.args.inner c.args.steps (components_of t))

@@ -1,48 +1,45 @@
--- `text::cut_parts` meets its contract: the parts counted and the starts put so far, and those from `at` on. Assumes nothing.
-use Prim.Native.Nat.{ℕ, ◌+◌, ◌≤◌}
-use mathlib.Core.Path.{refl, sym, ap, ◌∙◌}
-use mathlib.Core.List.{List}
-use native.Mathlib.Omega.{arith}
-use lib.ListN.{length, length-set}
-use lib.Seq.{sets}
-use Rattle.text.specs.Places.{starts_from}
-use Rattle.text.proofs.Laws.{find-le}
-use Rattle.text.proofs.Places.{parts_from, parts_whole, parts-past, parts_next, starts-next, sets_next, sets_last}
+use Rattle.std.proofs.Common.{rules, tests, arith, ◌≡◌, ◌∙◌, ◌<◌, refl, sym, ap, eqb, length, get_or}
+use Rattle.std.specs.List.{slice_split}
+use Rattle.std.proofs.lemmas.List.{length_push}
+use Rattle.std.proofs.lemmas.Iterator.Consumers.{YieldsList-turn, YieldsList-end, YieldsList-at}
+use Rattle.std.proofs.lemmas.Iterator.Splits.{YieldsList-from_slice_split}
+use Rattle.text.specs.Split.{split}
+use Rattle.text.proofs.Library.{split_parts}
+use Rattle.text.proofs.Places.{reach_split, reach_next, sets_next, sets_last}
 use Rattle.text.proofs.fields.cut_parts.Goals as goal
 
-pub loop-at-init : goal.loop-at-init
-loop-at-init c =
-    let a = c.args in
-    let p = sym (parts_whole a.b a.s.now) in
-    (omega arith, omega arith, refl, omega (arith, ap length p), ap (λ (ps : List (List ℕ)). sets a.starts.now 0 (starts_from 0 ps)) p)
+pub loop-part-init : goal.loop-part-init
+loop-part-init c = (refl, omega arith, omega (arith, reach_split c.args.b c.args.s.now), refl)
 
-pub overflow_add-at : goal.overflow_add-at
-overflow_add-at c =
+pub overflow_add-at-in-loop-part : goal.overflow_add-at-in-loop-part
+overflow_add-at-in-loop-part c =
     let a = c.args in
-    let l = c.loop-at in
-    let f = c.find-end in
-    omega (arith, find-le a.b a.s.now l.at f.result (omega arith) f.ensures)
+    let l = c.loop-part in
+    let parts = slice_split (λ x. eqb x a.b) a.s.now in
+    let t : (length l.yielded < length parts) × (c.in-Some.part.now ≡ get_or parts (length l.yielded) c.in-Some.part.now) =
+    YieldsList-turn (YieldsList-at c.into_iter-part-iterator.ensures.into_iter_gives (YieldsList-from_slice_split _ (λ x. eqb x a.b) a.s.now c.split-part-items.ensures.rest c.split-part-items.ensures.done c.split-part-items.ensures.closure (λ x r q k. search (rules, tests)))) l.yielded _ l.yielded_by _ _ c.in-Some.part c.in-Some.is c.next.ensures.steps in
+    let u : (l.count < length (split a.b a.s.now)) × (c.in-Some.part.now ≡ get_or (split a.b a.s.now) l.count c.in-Some.part.now) = rw (split_parts a.b a.s.now, sym l.invariant.0) at t in
+    omega (arith, reach_next _ _ _ u.0 u.1, l.invariant.2)
 
-pub loop-at-preserved : goal.loop-at-preserved
-loop-at-preserved c =
+pub loop-part-preserved : goal.loop-part-preserved
+loop-part-preserved c =
     let a = c.args in
-    let l = c.loop-at in
-    let f = c.find-end in
-    let put = c.put_start in
-    let fits : l.at ≤ length a.s.now = omega arith in
-    let p = ap length (parts_next a.b a.s.now l.at f.result fits f.ensures) in
-    let q = starts-next a.b a.s.now l.at f.result fits f.ensures in (
-      omega (arith, find-le a.b a.s.now l.at f.result fits f.ensures),
-      omega (arith, f.ensures),
-      ap length put.ensures ∙ length-set l.starts l.count l.at ∙ l.invariant.2,
-      omega (arith, p),
-      l.invariant.4 ∙ ap (sets l.starts l.count) q ∙ sets_next l.starts _ l.count l.at (starts_from (f.result + 1) (parts_from a.b a.s.now (f.result + 1))) put.ensures,
+    let l = c.loop-part in
+    let parts = slice_split (λ x. eqb x a.b) a.s.now in
+    let t : (length l.yielded < length parts) × (c.in-Some.part.now ≡ get_or parts (length l.yielded) c.in-Some.part.now) =
+    YieldsList-turn (YieldsList-at c.into_iter-part-iterator.ensures.into_iter_gives (YieldsList-from_slice_split _ (λ x. eqb x a.b) a.s.now c.split-part-items.ensures.rest c.split-part-items.ensures.done c.split-part-items.ensures.closure (λ x r q k. search (rules, tests)))) l.yielded _ l.yielded_by _ _ c.in-Some.part c.in-Some.is c.next.ensures.steps in
+    let u : (l.count < length (split a.b a.s.now)) × (c.in-Some.part.now ≡ get_or (split a.b a.s.now) l.count c.in-Some.part.now) = rw (split_parts a.b a.s.now, sym l.invariant.0) at t in (
+      omega (arith, l.invariant.0, length_push l.yielded c.in-Some.part),
+      omega (arith, l.invariant.1),
+      omega (arith, reach_next _ _ _ u.0 u.1, l.invariant.2),
+      l.invariant.3 ∙ sets_next _ _ _ u.0 u.1 _ _ _ c.put_start.ensures,
     )
 
 pub returns : goal.returns
 returns c =
     let a = c.args in
-    let l = c.loop-at in
-    let put = c.put_start-2 in
-    let p = ap length (parts-past a.b a.s.now l.at (omega arith)) in
-    (omega (arith, p), sym (l.invariant.4 ∙ sets_last a.b a.s.now _ _ _ _ (omega arith) put.ensures))
+    let l = c.loop-part in
+    let parts = slice_split (λ x. eqb x a.b) a.s.now in
+    let t = YieldsList-end (YieldsList-at c.into_iter-part-iterator.ensures.into_iter_gives (YieldsList-from_slice_split _ (λ x. eqb x a.b) a.s.now c.split-part-items.ensures.rest c.split-part-items.ensures.done c.split-part-items.ensures.closure (λ x r q k. search (rules, tests)))) l.yielded _ l.yielded_by _ _ c.in-None.is c.next.ensures.steps in
+    let n : l.count ≡ length (split a.b a.s.now) = l.invariant.0 ∙ t.1 ∙ ap length (split_parts a.b a.s.now) in
+    (n, sym (l.invariant.3 ∙ sets_last _ _ _ _ _ (omega (arith, n)) c.put_start-2.ensures))

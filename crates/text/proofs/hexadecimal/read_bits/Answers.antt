@@ -22,12 +22,6 @@ returns-in_err-bits c =
     let l = c.loop-b in
     c.from_residual.ensures ∙ sym (l.invariant.2 ∙ hex-bad _ l.b-index l.bits c.loop-b-test.true (digit_none (get_or c.args.s.now l.b-index 0) (sym c.digit.ensures ∙ c.in_err-bits.was)))
 
-pub overflow_add-bits : goal.overflow_add-bits
-overflow_add-bits c =
-    let l = c.loop-b in
-    let d = digit_some (get_or c.args.s.now l.b-index 0) c.in_ok-bits.field-0 (sym c.digit.ensures ∙ c.in_ok-bits.was) in
-    omega (arith, hex_room l.b-index l.bits c.in_ok-bits.field-0 (omega arith) l.invariant.1 (omega (arith, d.0, d.1)))
-
 pub loop-b-preserved : goal.loop-b-preserved
 loop-b-preserved c =
     let l = c.loop-b in

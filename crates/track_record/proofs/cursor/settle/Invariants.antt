@@ -1,10 +1,10 @@
-use Prim.Native.Nat.{◌≤◌, max}
+-- Past so many of the components the cursor is settled as it was before them.
+use Prim.Native.Nat.{◌+◌}
 use mathlib.Core.Path.{◌≡◌}
-use lib.ListN.{length, drop}
+use lib.ListN.{drop}
 use Rattle.track_rules.specs.Steps.{word_totals, settle_of}
 use Rattle.track_record.proofs.cursor.settle.Given as goal
 
-abbrev pub invariant-loop-component : goal.invariant-loop-component
-invariant-loop-component l =
-    (l.component ≤ max l.at.component (length l.components))
-    × (settle_of (drop l.component (word_totals l.repetitions l.components)) l.component l.offset ≡ settle_of (drop l.at.component (word_totals l.repetitions l.components)) l.at.component l.at.offset)
+abbrev pub invariant-loop-passed : goal.invariant-loop-passed
+invariant-loop-passed l =
+    settle_of (drop l.passed (word_totals l.repetitions l.rest)) (l.at.component + l.passed) l.offset ≡ settle_of (word_totals l.repetitions l.rest) l.at.component l.at.offset

@@ -10,9 +10,9 @@ use Rattle.track_record.proofs.cursor.total.Goals as goal
 
 pub overflow_mul-result : goal.overflow_mul-result
 overflow_mul-result c =
-    let x = c.component_of-component.result in
+    let x = c.from-component.result in
     let a = c.args in
-    let e : x ≡ component_of a.word = c.component_of-component.ensures in
+    let e : x ≡ component_of a.word = c.from-component.ensures in
     let l : x.length < 65536 = rw e (length-fits a.word (omega arith)) in
     let n : repeats_of a.repetitions x.count < 4294967296 = rw e (repeats_fits a.repetitions a.word (omega arith)) in
     let m : c.repeats.result < 4294967296 = rw c.repeats.ensures n in
@@ -21,7 +21,7 @@ overflow_mul-result c =
 pub returns : goal.returns
 unfolding word_total
 returns c =
-    let x = c.component_of-component.result in
+    let x = c.from-component.result in
     let a = c.args in
     ap (λ (n : ℕ). n * x.length) c.repeats.ensures
-    ∙ ap (λ (y : GridTemplateComponent). repeats_of a.repetitions y.count * y.length) c.component_of-component.ensures
+    ∙ ap (λ (y : GridTemplateComponent). repeats_of a.repetitions y.count * y.length) c.from-component.ensures

@@ -4,12 +4,12 @@ use mathlib.Core.Path.{◌≡◌, ap, ◌∙◌}
 use mathlib.Core.Logic.{⊎_elim}
 use mathlib.Core.List.{List}
 use lib.ListN.{length, get_or, drop}
+use Rattle.std.proofs.lemmas.Bool.{cases_lt}
 use Rattle.std.proofs.lemmas.Grind.{common_steps}
 use Rattle.track_rules.specs.Steps.{word_total}
 use mathlib.Core.Bool.{not, ◌&&◌}
 use Rattle.track_rules.specs.Records.{item_at, open_to}
 use Rattle.track_rules.proofs.Opened.{open_le}
-use Rattle.track_rules.proofs.Lists.{lt_or_ge}
 use Rattle.track_record.specs.declared.Repeated.{Repeated}
 use Rattle.track_record.proofs.Components.{runs_first, component-left, turn}
 use Rattle.track_record.proofs.Opens.{open-first, turn-none, turn-some}
@@ -70,5 +70,5 @@ returns c =
     ⊎_elim
     (λ (h : l.done < a.count). absurd (omega (arith, component-left a.repetitions a.template.components.now l.word-index 0 (a.count - l.done) (l.invariant.1 (omega arith)) (omega arith), c.loop-word-test.false)))
     (λ (h : a.count ≤ l.done). omega (arith, l.invariant.0))
-    (lt_or_ge l.done a.count) in
+    (cases_lt l.done a.count) in
     rw (← all) l.invariant.3

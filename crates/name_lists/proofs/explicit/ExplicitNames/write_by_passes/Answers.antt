@@ -1,6 +1,6 @@
 use Prim.Native.Nat.{◌+◌, ◌≤◌}
 use native.Mathlib.Omega.{arith}
-use Rattle.name_lists.proofs.Lines.{lines-begin, lines-room, lines-turn, lines-done}
+use Rattle.name_lists.proofs.Lines.{lines-begin, lines-room, lines-turn, lines-done, lines-last}
 use Rattle.name_lists.proofs.explicit.ExplicitNames.write_by_passes.Goals as goal
 
 pub loop-line-init : goal.loop-line-init
@@ -18,3 +18,7 @@ returns c = let a = c.args in let l = c.loop-line in
 pub write_line-count-requires : goal.write_line-count-requires
 write_line-count-requires c = let a = c.args in let l = c.loop-line in
     lines-room a.self.explicit a.self.names.entries.now a.self.names.store.now a.words.now l.words l.count l.line l.invariant (omega arith) (omega arith)
+
+pub returns-2 : goal.returns-2
+returns-2 c = let a = c.args in let l = c.loop-line in
+    lines-last a.self.explicit a.self.names.entries.now a.self.names.store.now a.words.now l.words l.count l.line l.invariant (omega arith) _ _ c.write_line-count.ensures
