@@ -9,9 +9,11 @@ use Rattle.sizing.specs.declared.MinMax.{MinMax}
 use Rattle.template_rules.specs.Template.{Component, count_of, length_of, component_of, track_at, tracks_from, with_tracks, template_of}
 use Rattle.axis_tables.specs.Runs.{words_from, part_of}
 use Rattle.axis_tables.specs.View.{Sizes, Piece, name, track, Item, single, repeat, Unended, none, inside, AxisView, sizes_of, tracks_in, tracks_of, components_of, NameRecord, name_of, names_in, names_from, names_of, written, axis_names, axis_bytes}
-use Rattle.axis_tables.specs.Store.{component_word, name_word}
+use Rattle.template_rules.specs.Template.{component_word}
+use Rattle.name_entries.specs.Places.{name_word}
 use Rattle.axis_tables.specs.Written.{components_from, min_of, max_of, record_word, axis_tracks, regions_of, words_with, names_store, state_of}
-use Rattle.axis_tables.specs.Reads.{name_place, name_record_in}
+use Rattle.name_entries.specs.Places.{name_place}
+use Rattle.axis_tables.specs.Reads.{name_record_in}
 use Rattle.axis_tables.proofs.Lays.{lay_part, pad-is}
 use Rattle.axis_tables.proofs.Runs.{length-words, All, all_append, run-back}
 use Rattle.axis_tables.proofs.Joins.{length-components}

@@ -8,7 +8,8 @@ use lib.Seq.{sets}
 use Rattle.axis_tables.specs.Lay.{pad, Region, joined}
 use Rattle.axis_tables.specs.Runs.{bytes_of}
 use Rattle.axis_tables.specs.View.{Sizes, name, track, Repeat, Item, single, repeat, none, inside, AxisView, tracks_in, tracks_of, components_of, NameRecord, name_of, names_of, with_template, more_pieces}
-use Rattle.axis_tables.specs.Store.{component_word, name_word}
+use Rattle.template_rules.specs.Template.{component_word}
+use Rattle.name_entries.specs.Places.{name_word}
 use Rattle.axis_tables.specs.Written.{min_of, max_of, record_word, regions_of, words_with, axis_words}
 use Rattle.axis_tables.proofs.Lays.{pad_puts, lay-put}
 use Rattle.axis_tables.proofs.Runs.{bytes-more, length-words, words_more}

@@ -5,7 +5,7 @@ use mathlib.Core.List.{List, [], ◌∷◌, ◌++◌, append_assoc, append-nil}
 use native.Mathlib.Omega.{arith}
 use lib.ListN.{length, length-append}
 use Rattle.axis_tables.specs.View.{Sizes, name, track, Repeat, Item, single, repeat, pieces_of, tracks_in, tracks_of, components_of, NameRecord, names_in, names_from, names_of, more_pieces}
-use Rattle.axis_tables.specs.Store.{component_word}
+use Rattle.template_rules.specs.Template.{component_word}
 use Rattle.axis_tables.specs.Written.{components_from}
 use Rattle.axis_tables.proofs.Joins.{length_more, tracks_in_lem, tracks_of_lem, components_of_lem, components_from_lem, names_in_lem, names_from_lem}
 

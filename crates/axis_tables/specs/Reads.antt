@@ -1,7 +1,11 @@
 -- What the words of an axis read as, whatever they are.
-use Rattle.std.specs.Prelude.{ℕ, ◌/◌, ◌%◌, List, cond, eqb, Option, Some, None}
+use Rattle.std.specs.Prelude.{ℕ, List, cond, eqb, Float, Option, Some, None}
+use Rattle.sizing.specs.Words.{float_up_to, largest_bits, sizing_of}
+use Rattle.template_rules.specs.declared.AutoRepeatStrategy.{AutoRepeatStrategy}
+use Rattle.template_rules.specs.declared.RepeatSpace.{RepeatSpace}
+use Rattle.template_rules.specs.Strategies.{strategy_of}
+use Rattle.name_entries.specs.Places.{name_place}
 use Rattle.axis_tables.specs.declared.AxisSpace.{AxisSpace}
-use Rattle.axis_tables.specs.declared.NamePlace.{NamePlace}
 use Rattle.axis_tables.specs.Runs.{part_of}
 use Rattle.axis_tables.specs.View.{NameRecord}
 
@@ -9,9 +13,17 @@ use Rattle.axis_tables.specs.View.{NameRecord}
 abbrev pub inner_bits : AxisSpace → Option ℕ
 inner_bits s = cond (eqb s.definite 0) None (Some s.inner)
 
--- a name's word taken apart
-unfoldable pub name_place : ℕ → NamePlace
-name_place w = record { component = w % 256; place = w / 256 % 256; offset = w / 65536 % 65536; length = w / 4294967296 % 256 }
+-- "inner size or `-`"
+abbrev pub inner_in : AxisSpace → Option Float
+inner_in s = cond (eqb s.definite 0) None (Some (float_up_to largest_bits s.inner))
+
+-- rule 0 is `max`, 1 is `min`
+abbrev pub strategy_in : AxisSpace → AutoRepeatStrategy
+strategy_in s = strategy_of s.rule
+
+-- what an automatic repeat of the axis is asked with
+abbrev pub repeat_space : AxisSpace → RepeatSpace
+repeat_space s = record { inner = inner_in s; strategy = strategy_in s; gap = sizing_of s.gap }
 
 -- the name that a word stands for, with its bytes
 abbrev pub name_record_in : List ℕ → ℕ → NameRecord

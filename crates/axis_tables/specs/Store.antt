@@ -1,8 +1,10 @@
 -- The words of an axis and its small state, and what each record does to them, whatever they hold.
-use Rattle.std.specs.Prelude.{ℕ, ◌+◌, ◌*◌, ◌%◌, List, Bool, true, false, cond, ltb, length, set, Option, Some, None, Result, Ok, Err}
+use Rattle.std.specs.Prelude.{ℕ, ◌+◌, List, Bool, true, false, cond, ltb, length, set, Option, Some, None, Result, Ok, Err}
 use Rattle.std.proofs.lemmas.List.Edits.{sets}
 use Rattle.coordinates.specs.declared.refusal.Fault.{Fault}
 use Rattle.coordinates.specs.Refusals.{number_of}
+use Rattle.template_rules.specs.Template.{component_word}
+use Rattle.name_entries.specs.Places.{name_word}
 use Rattle.axis_tables.specs.declared.AxisSpace.{AxisSpace}
 use Rattle.axis_tables.specs.declared.TemplateCounts.{TemplateCounts}
 use Rattle.axis_tables.specs.declared.ImplicitCounts.{ImplicitCounts}
@@ -14,14 +16,6 @@ use Rattle.axis_tables.specs.Readings.{OpenRepeat, AxisReading, axis_reading}
 use Rattle.axis_tables.specs.View.{no_room, named_fault, repeat_kind}
 
 -- ---- words
-
--- a component's word of layer 3: number, kind (0 single, 1 counted, 2 fill, 3 fit), place of its first track, number of tracks
-unfoldable pub component_word : ℕ → ℕ → ℕ → ℕ → ℕ
-component_word number kind first length = number % 65536 + kind % 4 * 65536 + first % 65536 * 4294967296 + length % 65536 * 281474976710656
-
--- a name's word: the component, the place in it, and where its bytes lie
-unfoldable pub name_word : ℕ → ℕ → ℕ → ℕ → ℕ
-name_word component place offset length = component % 256 + place % 256 * 256 + offset % 65536 * 65536 + length % 256 * 4294967296
 
 -- where each region of an axis's words starts; components start at 0
 abbrev pub minimums : ℕ

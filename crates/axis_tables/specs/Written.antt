@@ -7,7 +7,9 @@ use Rattle.axis_tables.specs.Readings.{AxisReading}
 use Rattle.axis_tables.specs.Lay.{pad, Region, region, lay}
 use Rattle.axis_tables.specs.Runs.{words_from}
 use Rattle.axis_tables.specs.View.{Sizes, name, track, Item, single, repeat, Unended, none, inside, AxisView, AxisOutcome, written, tracks_in, tracks_of, components_of, NameRecord, name_of, axis_names, axis_bytes}
-use Rattle.axis_tables.specs.Store.{component_word, name_word, zero_template, AxisPut, put, InWords, InMarks, InNames}
+use Rattle.template_rules.specs.Template.{component_word}
+use Rattle.name_entries.specs.Places.{name_word}
+use Rattle.axis_tables.specs.Store.{zero_template, AxisPut, put, InWords, InMarks, InNames}
 
 -- the words of the components of items whose first track is number n
 abbrev pub components_from : ℕ → List Item → List ℕ

@@ -7,9 +7,11 @@ pub mod name;
 pub mod write;
 
 ghost use Rattle.std.specs.Prelude.{◌≡◌};
-ghost use Rattle.axis_tables.specs.Reads.{inner_bits};
+ghost use Rattle.axis_tables.specs.Reads.{inner_bits, inner_in, repeat_space};
 
-use template_rules::RepetitionCount;
+use sizing::Sizing;
+use sizing::word::length_of;
+use template_rules::{AutoRepeatStrategy, GridTemplateComponent, RepeatSpace};
 
 // The space of an axis, as its `axis` record says it: whether it has an inner size, the bits of that, rule 0 `max` or 1 `min`, the
 // gap's word.
@@ -28,6 +30,26 @@ impl AxisSpace {
         ensures { result ≡ inner_bits self }
     {
         (self.definite != 0).then_some(self.inner)
+    }
+
+    // The inner size, where the axis has one.
+    pub fn inner(self) -> Option<f32>
+        ensures { result ≡ inner_in self }
+    {
+        self.inner_bits().map(length_of)
+    }
+}
+
+impl From<AxisSpace> for RepeatSpace {
+    ghost from_gives = { λ space asked. asked ≡ repeat_space space };
+
+    // What decides with its template how often an automatic repeat of the axis is written out.
+    fn from(space: AxisSpace) -> RepeatSpace {
+        RepeatSpace {
+            inner: space.inner(),
+            strategy: AutoRepeatStrategy::from(space.rule),
+            gap: Sizing::from(space.gap),
+        }
     }
 }
 
@@ -90,22 +112,7 @@ pub struct AxisState {
 #[derive(Clone, Copy, Debug, PartialEq, Eq, Default)]
 pub struct AxisReading {
     pub seen: bool,
-    pub unended: Option<ComponentPlace>,
-}
-
-// A component of a template: how often it is written out, the place of its first track, and how many tracks it has.
-#[derive(Clone, Copy, Debug, PartialEq, Eq)]
-pub struct ComponentPlace {
-    pub count: RepetitionCount,
-    pub first: u32,
-    pub length: u32,
-}
-
-// The sizes of a track, each a word.
-#[derive(Clone, Copy, Debug, PartialEq, Eq)]
-pub struct TrackSizes {
-    pub min: u64,
-    pub max: u64,
+    pub unended: Option<GridTemplateComponent>,
 }
 
 // An axis after the records so far, and what reading needs of it.
@@ -113,14 +120,4 @@ pub struct TrackSizes {
 pub struct AxisAfter {
     pub state: AxisState,
     pub reading: AxisReading,
-}
-
-// Where a name stands and where its bytes lie: the component before or in which it stands, its place there (0 outside a repeat,
-// i + 1 after i of the repeat's tracks), and its part of the store.
-#[derive(Clone, Copy, Debug, PartialEq, Eq)]
-pub struct NamePlace {
-    pub component: u32,
-    pub place: u32,
-    pub offset: u32,
-    pub length: u32,
 }

@@ -6,16 +6,12 @@ ghost use Rattle.axis_tables.specs.Readings.{axis_reading};
 ghost use Rattle.axis_tables.specs.View.{no_room, named_fault};
 ghost use Rattle.axis_tables.specs.Runs.{put_bytes};
 
-use crate::layout::{AXIS_BYTES, NAMES};
-use crate::write::{copy_what_fits, copy_within, set_at};
-use crate::{AxisAfter, AxisReading, NamePlace};
-use coordinates::Fault;
-
-// The longest name, in bytes.
-pub const LONGEST_NAME: usize = 32;
-
-// The most `name` records of an axis.
-const MOST_NAMES: u32 = 4096;
+use crate::layout::{AXIS_BYTES, MOST_NAMES, NAMES};
+use crate::write::{copy_what_fits, copy_within};
+use crate::{AxisAfter, AxisReading};
+use coordinates::limit::LONGEST_NAME;
+use coordinates::{Fault, set_at};
+use name_entries::NamePlace;
 
 // The bytes of a name from `at` on, where the store has room for them, and else nothing.
 #[tactic(auto, unfolding(crate::specs::Runs::put_bytes))]
@@ -55,7 +51,7 @@ fn place_in(reading: AxisReading) -> u32
 {
     match reading.unended {
         None => 0,
-        Some(repeat) => (repeat.length % 0x100 + 1) % 0x100,
+        Some(repeat) => ((repeat.length % 0x100 + 1) % 0x100) as u32,
     }
 }
 
@@ -72,7 +68,7 @@ pub fn put_name(
     let length = name.len();
     let names = axis.state.room.names;
     let used = axis.state.room.used;
-    if no_room(MOST_NAMES, AXIS_BYTES as u32, names, used, length) {
+    if no_room(MOST_NAMES as u32, AXIS_BYTES as u32, names, used, length) {
         return Err(named_fault(length, Fault::Crowded));
     }
     let word = u64::from(NamePlace {

@@ -1,15 +1,6 @@
-// Places of a lent part.
-ghost use Rattle.std.specs.Prelude.{◌≡◌, ◌+◌, ◌≤◌, set, length};
+// Values copied into a lent part.
+ghost use Rattle.std.specs.Prelude.{◌≡◌, ◌+◌, ◌≤◌, length};
 ghost use Rattle.std.proofs.lemmas.List.Edits.{sets};
-
-// A word or a byte at a place, where there is one.
-pub fn set_at<T: Copy>(items: &mut [T], at: usize, value: T)
-    ensures { items.new ≡ set items.old at value }
-{
-    if at < items.len() {
-        items[at] = value;
-    }
-}
 
 // Values from a place on, where there is room for them.
 #[tactic(auto, using(crate::proofs::Sets::put_sets))]

@@ -4,9 +4,8 @@ ghost use Rattle.axis_tables.specs.Readings.{axis_reading};
 ghost use Rattle.axis_tables.specs.Store.{InMarks, answered_axis, put_item, put_extra, put_axis};
 
 use axis_tables::layout::AXIS_MARKS;
-use axis_tables::write::set_at;
 use axis_tables::{AxisAfter, AxisSpace};
-use coordinates::Fault;
+use coordinates::{Fault, set_at};
 
 // An `axis` record. It is never refused.
 pub fn put_axis(axis: AxisAfter, space: AxisSpace) -> AxisAfter

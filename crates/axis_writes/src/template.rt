@@ -1,28 +1,25 @@
 // What `track`, `repeat` and `end` do to an axis.
 ghost use Rattle.std.specs.Prelude.{◌≡◌, ◌+◌, set, Ok};
 ghost use Rattle.sheet_forms.specs.Answers.{repetition_said};
-ghost use Rattle.axis_tables.specs.Readings.{axis_reading, repeat_numbers, count_kind, count_number};
+ghost use Rattle.template_rules.specs.Template.{count_kind, count_number};
+ghost use Rattle.axis_tables.specs.Readings.{axis_reading, repeat_numbers};
 ghost use Rattle.axis_tables.specs.Store.{InWords, answered_axis, put_single, put_repeated, put_track, open_repeat, close_repeat};
 ghost use Rattle.axis_tables.specs.View.{repeat_kind};
 
-use axis_tables::layout::{MAXIMUMS, MINIMUMS};
-use axis_tables::write::set_at;
-use axis_tables::{AxisAfter, ComponentPlace, TemplateCounts, TrackSizes};
-use coordinates::Fault;
-use sheet_forms::Repetition;
-use template_rules::RepetitionCount;
+use axis_tables::layout::{MAXIMUMS, MINIMUMS, TEMPLATE_TRACKS};
+use axis_tables::{AxisAfter, TemplateCounts};
+use coordinates::{Fault, set_at};
+use sheet_forms::{Repetition, TrackSizes};
+use template_rules::{GridTemplateComponent, RepetitionCount};
 
 // The most components of a template.
-const MOST_COMPONENTS: u32 = MINIMUMS as u32;
-
-// The most tracks of a template.
-const MOST_TRACKS: u32 = (MAXIMUMS - MINIMUMS) as u32;
+const MOST_COMPONENTS: u32 = template_rules::component::MOST_COMPONENTS as u32;
 
 // The most tracks of a repeat.
-const MOST_REPEATED: u32 = 32;
+const MOST_REPEATED: u64 = 32;
 
 // The largest number of a counted repeat.
-const MOST_NUMBER: u32 = 65535;
+const MOST_NUMBER: u32 = u16::MAX as u32;
 
 // The sizes of a track of that number.
 fn put_sizes(words: &mut [u64], track: u32, sizes: TrackSizes)
@@ -38,12 +35,12 @@ fn put_single(axis: AxisAfter, words: &mut [u64], sizes: TrackSizes) -> Result<A
     ensures { record { answer = answered_axis axis.state (axis_reading axis.reading) result; words = words.new } ≡ put_single axis.state (axis_reading axis.reading) words.old sizes.min sizes.max }
 {
     let TemplateCounts { components, tracks } = axis.state.room.template;
-    if MOST_COMPONENTS <= components || MOST_TRACKS <= tracks {
+    if MOST_COMPONENTS <= components || TEMPLATE_TRACKS as u32 <= tracks {
         return Err(Fault::Crowded);
     }
-    let word = u64::from(ComponentPlace {
+    let word = u64::from(GridTemplateComponent {
         count: RepetitionCount::Single,
-        first: tracks,
+        first: u64::from(tracks),
         length: 1,
     });
     set_at(words, components as usize, word);
@@ -60,20 +57,20 @@ fn put_single(axis: AxisAfter, words: &mut [u64], sizes: TrackSizes) -> Result<A
 #[tactic(auto, unfolding(axis_tables::specs::Store::put_repeated))]
 fn put_repeated(
     axis: AxisAfter,
-    repeat: ComponentPlace,
+    repeat: GridTemplateComponent,
     words: &mut [u64],
     sizes: TrackSizes,
 ) -> Result<AxisAfter, Fault>
     ensures { record { answer = answered_axis axis.state (axis_reading axis.reading) result; words = words.new } ≡ put_repeated axis.state (axis_reading axis.reading) (repeat_numbers repeat) words.old sizes.min sizes.max }
 {
     let tracks = axis.state.room.template.tracks;
-    if MOST_REPEATED <= repeat.length || MOST_TRACKS <= tracks {
+    if MOST_REPEATED <= repeat.length || TEMPLATE_TRACKS as u32 <= tracks {
         return Err(Fault::Crowded);
     }
     put_sizes(words, tracks, sizes);
     let mut after = axis;
     after.state.room.template.tracks = tracks + 1;
-    after.reading.unended = Some(ComponentPlace {
+    after.reading.unended = Some(GridTemplateComponent {
         length: repeat.length + 1,
         ..repeat
     });
@@ -121,9 +118,9 @@ pub fn open_repeat(axis: AxisAfter, repetition: Repetition) -> Result<AxisAfter,
         return Err(Fault::Crowded);
     }
     let mut after = axis;
-    after.reading.unended = Some(ComponentPlace {
+    after.reading.unended = Some(GridTemplateComponent {
         count: count_of(repetition),
-        first: template.tracks,
+        first: u64::from(template.tracks),
         length: 0,
     });
     Ok(after)

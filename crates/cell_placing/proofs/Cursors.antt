@@ -3,14 +3,20 @@ use mathlib.Core.Path.{◌≡◌, refl}
 use mathlib.Core.Bool.{Bool, true, false, cond}
 use mathlib.Core.List.{List}
 use mathlib.Core.Logic.{◌⊎◌, inl, inr, ⊎_elim}
-use Prim.Native.Nat.{ℕ, ◌+◌, ◌≤◌, ◌<◌}
+use Prim.Native.Nat.{ℕ, ◌+◌, ◌-◌, ◌≤◌, ◌<◌}
 use native.Mathlib.Omega.{arith}
 use lib.Dec.{eqb, ltb}
-use lib.ListN.{get_or}
+use lib.ListN.{length, get_or, take, length-take}
+use lib.Seq.{get_or-take}
+use denote.Ref.{Bor}
+use Rattle.std.specs.Prelude.{Option, Some, None, IfSome, IsSomeAnd}
+use Rattle.std.specs.List.{HoldsAt}
+use Rattle.std.specs.Option.{option_map}
+use Rattle.std.proofs.lemmas.Option.{none-some}
 use borrow.Author.Tests.{eqb-true, eqb-false, ltb-true, ltb-false}
 use Rattle.free_cells.specs.declared.Place.{Place}
 use Rattle.free_cells.specs.Words.{rectangle_in}
-use Rattle.free_cells.specs.Free.{AtOrAfter}
+use Rattle.free_cells.specs.Free.{AtOrAfter, no_place_of}
 use Rattle.free_cells.proofs.Places.{order, same_row, row_from, rows_on, row_past}
 use Rattle.free_cells.proofs.Words.{rectangle_small}
 use Rattle.cell_placing.specs.declared.Packing.{Packing}
@@ -22,6 +28,9 @@ use Rattle.cell_placing.specs.Steps.{later_column, RowCursor, RestCursor, after,
 -- ---- in a row
 
 module _ (items placed : List ℕ) (row : ℕ) where
+  pub row_none : RowCursor items placed 0 row 0
+  row_none = record { most = λ k w. absurd (omega arith); reached = inl refl }
+
   -- one more, which does not count
   row_kept : (j column : ℕ) → RowCursor items placed j row column → (group_of (item_in items j) ≡ 1 → (rectangle_in placed j).rows.start ≡ row → (rectangle_in placed j).columns.start ≤ column)
       → RowCursor items placed (j + 1) row column
@@ -55,10 +64,38 @@ module _ (items placed : List ℕ) (row : ℕ) where
 
 -- ---- of the rest
 
+-- what is said of an item if there is one, where there is one
+pub said_of : (o : Option (Bor ℕ)) (n : ℕ) (Says : Bor ℕ → Type 0) → option_map (λ x. x.now) o ≡ Some n → IfSome o Says → IsSomeAnd o Says
+said_of None n Says e s = absurd (none-some n e)
+said_of (Some x) n Says e s = s
+
+-- the first so many words, read from the back
+module _ (items : List ℕ) (count : ℕ) (held : count < length items) (at : ℕ → Option (Bor ℕ))
+    (of : (k : ℕ) → IfSome (at k) (λ x. HoldsAt (λ y. x.now ≡ y) (take count items) (length (take count items) - 1 - k))) where
+  abbrev pub back : ℕ → ℕ
+  back j = length (take count items) - 1 - j
+
+  pub back-before : (j k : ℕ) → j < k → k < count → back k < back j
+  back-before j k h w = omega (arith, length-take count items)
+
+  -- what is said of an item is so of the word at its place
+  pub said_at : (Says : Bor ℕ → Type 0) (Is : ℕ → Type 0) → ((x : Bor ℕ) → Says x → Is x.now) → (j : ℕ) → j < count → IsSomeAnd (at (back j)) Says → Is (get_or items j 0)
+  said_at Says Is to j h s = go (at (back j)) (of (back j)) s
+    where
+      go : (o : Option (Bor ℕ)) → IfSome o (λ x. HoldsAt (λ y. x.now ≡ y) (take count items) (back (back j))) → IsSomeAnd o Says → Is (get_or items j 0)
+      go None a b = absurd b
+      go (Some x) a b =
+          let z : back (back j) ≡ j = omega (arith, length-take count items) in
+          rw (← get_or-take count items j 0 h, ← z, ← a 0) (to x b)
+
 module _ (items placed : List ℕ) (count : ℕ) where
   -- none of the rest among those from j on
   abbrev pub NoneFrom : ℕ → Type 0
   NoneFrom j = (k : ℕ) → j ≤ k → k < count → group_of (item_in items k) ≡ 2 → ⊥
+
+  -- none of the rest at all
+  pub rest-none : (place : Place) → NoneFrom 0 → place ≡ no_place_of → RestCursor items placed count place
+  rest-none place out e = begins (λ k w. out k (omega arith) w) e
 
   pub rest-found : (j : ℕ) (place : Place) → j < count → NoneFrom (j + 1) → group_of (item_in items j) ≡ 2 → place ≡ start_of (rectangle_in placed j) → RestCursor items placed count place
   rest-found j place h out g e = after j h g (λ k w f. ⊎_elim (λ (l : j < k). absurd (out k (omega arith) w f)) (λ l. l) (order j k)) e

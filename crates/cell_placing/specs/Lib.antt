@@ -2,6 +2,7 @@
 pub mod Items
 pub mod Css
 pub mod Steps
+pub mod Once
 pub mod Turns
 pub mod Plain
 pub mod Cases

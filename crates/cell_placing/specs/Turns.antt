@@ -4,11 +4,7 @@ use Rattle.free_cells.specs.declared.Rectangle.{Rectangle}
 use Rattle.cell_placing.specs.declared.Item.{Item}
 use Rattle.cell_placing.specs.declared.Turn.{Turn}
 use Rattle.cell_placing.specs.Items.{item_in}
-use Rattle.cell_placing.specs.Steps.{Ready, Landing}
-
--- all before it have landed, and no other
-abbrev pub IsReady : Turn → Type 0
-IsReady t = Ready t.cells.packing t.cells.last (length t.cells.items.now) t.cells.items.now t.placed.now t.index
+use Rattle.cell_placing.specs.Steps.{Landing}
 
 -- the cell by its sides
 abbrev pub item_at : Turn → Item

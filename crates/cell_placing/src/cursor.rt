@@ -3,7 +3,6 @@ ghost use Rattle.std.specs.Prelude.{◌≡◌, ◌≤◌, ◌<◌};
 ghost use Rattle.free_cells.specs.Words.{rectangle_of};
 ghost use Rattle.cell_placing.specs.Css.{start_of};
 ghost use Rattle.cell_placing.specs.Steps.{later_column, RowCursor, RestCursor, start_row};
-ghost use Rattle.cell_placing.specs.Turns.{IsReady};
 
 use crate::words::group_of;
 use crate::{Group, Turn};
@@ -20,19 +19,6 @@ fn later_column(item: u64, land: u64, row: u32, column: u32) -> u32
     placed.columns.start.max(column)
 }
 
-// The greatest column at which one of the cells before this one that are fixed in their row starts, of those that start in this row; 0 where
-// there is none.
-pub(crate) fn row_cursor(turn: Turn, row: u32) -> u32
-    requires { IsReady turn }
-    ensures { RowCursor turn.entry.cells.items.now turn.entry.placed.now turn.entry.index row result }
-{
-    let mut column: u32 = 0;
-    for j in 0..turn.index as usize {
-        column = later_column(turn.cells.items[j], turn.placed[j], row, column);
-    }
-    column
-}
-
 // The start of a rectangle.
 fn start_of(land: u64) -> Place
     ensures { result ≡ start_of (rectangle_of land) }
@@ -44,19 +30,6 @@ fn start_of(land: u64) -> Place
     }
 }
 
-// Where the last of the rest, of the cells before this one, starts; zeros where there is none.
-pub(crate) fn rest_cursor(turn: Turn) -> Place
-    requires { IsReady turn }
-    ensures { RestCursor turn.entry.cells.items.now turn.entry.placed.now turn.entry.index result }
-{
-    for j in (0..turn.index as usize).rev() {
-        if group_of(turn.cells.items[j]) == Group::Rest {
-            return start_of(turn.placed[j]);
-        }
-    }
-    Place::default()
-}
-
 // The first row for a cell with a fixed column: where that is before the cursor's column, the row past the cursor's.
 pub(crate) fn start_row(cursor: Place, column: u32) -> u32
     requires { cursor.row < 65536 }
@@ -66,4 +39,33 @@ pub(crate) fn start_row(cursor: Place, column: u32) -> u32
         return cursor.row + 1;
     }
     cursor.row
+}
+
+impl Turn<'_> {
+    // The greatest column at which one of the cells before this one that are fixed in their row starts, of those that start in this row; 0 where
+    // there is none.
+    pub(crate) fn row_cursor(self, row: u32) -> u32
+        ensures { RowCursor self.entry.cells.items.now self.entry.placed.now self.entry.index row result }
+    {
+        let before = self.index as usize;
+        let mut column: u32 = 0;
+        for (item, land) in self.cells.items[..before].iter().zip(self.placed) {
+            column = later_column(*item, *land, row, column);
+        }
+        column
+    }
+
+    // Where the last of the rest, of the cells before this one, starts; zeros where there is none.
+    pub(crate) fn rest_cursor(self) -> Place
+        ensures { RestCursor self.entry.cells.items.now self.entry.placed.now self.entry.index result }
+    {
+        let before = &self.cells.items[..self.index as usize];
+        match before
+            .iter()
+            .rposition(|item| group_of(*item) == Group::Rest)
+        {
+            Some(last) => start_of(self.placed[last]),
+            None => Place::default(),
+        }
+    }
 }

@@ -2,13 +2,17 @@
 
 #![tactic(auto)]
 
+ghost use Rattle.std.specs.Prelude.{length};
+ghost use Rattle.cell_placing.specs.Steps.{Ready};
+ghost use Rattle.cell_placing.specs.Once.{Ready-prop};
+
 pub mod cursor;
 pub mod land;
 pub mod pass;
 pub mod words;
 
 use cell_sides::Side;
-use coordinates::line::MOST_PLACEMENTS;
+use coordinates::limit::MOST_PLACEMENTS;
 
 // The most cells of a call.
 pub const MOST_PLACED: usize = MOST_PLACEMENTS;
@@ -44,9 +48,11 @@ pub(crate) struct Cells<'a> {
 }
 
 // The turn of a cell: the cells of its call, its index, and the words of the rectangles that are placed, 0 for a cell whose turn comes later.
+// All before it have landed, and no other.
 #[derive(Clone, Copy)]
 pub(crate) struct Turn<'a> {
     pub cells: Cells<'a>,
     pub index: u32,
     pub placed: &'a [u64],
+    ghost ready: { Ready cells.packing cells.last (length cells.items.now) cells.items.now placed.now index } by { Ready-prop cells.packing cells.last (length cells.items.now) cells.items.now placed.now index },
 }

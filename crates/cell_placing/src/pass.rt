@@ -5,7 +5,6 @@ ghost use Rattle.cell_placing.specs.Items.{item_in, group_number};
 ghost use Rattle.cell_placing.specs.Css.{Answers};
 ghost use Rattle.cell_placing.specs.Steps.{Going, Passed};
 
-use crate::land::land_of;
 use crate::words::group_of;
 use crate::{Cells, Group, MOST_PLACED, Packing, Turn};
 
@@ -22,7 +21,7 @@ fn place_one(cells: Cells, group: Group, i: u32, placed: &mut [u64]) -> Result<(
         index: i,
         placed,
     };
-    let Some(land) = land_of(turn) else {
+    let Some(land) = turn.land_of() else {
         return Err(i);
     };
     placed[i as usize] = u64::from(land);

@@ -37,11 +37,8 @@ fn fixed(start: u32, end: u32) -> Side
 fn side_back(tracks: u32, end: u32) -> Option<Side>
     ensures { result ≡ side_back tracks end }
 {
-    if tracks < end {
-        Some(fixed(end - tracks, end))
-    } else {
-        None
-    }
+    let start = end.checked_sub(tracks)?;
+    (start != 0).then_some(fixed(start, end))
 }
 
 // Where the start is a span: of two spans the end's is dropped.

@@ -3,6 +3,7 @@ pub mod Axes
 pub mod Refusals
 pub mod Types
 pub mod Lines
+pub mod Ends
 pub mod Held
 pub mod Answers
 pub mod Cases

@@ -1,6 +1,7 @@
 -- Document 01, the table of refusals: a fault is answered by its number and place.
-use Rattle.std.specs.Prelude.{ℕ, Option, Some, None, Result, Ok, Err}
+use Rattle.std.specs.Prelude.{ℕ, ◌<◌, ◌≡◌, ◌⊎◌, Option, Some, None, Result, Ok, Err, MatchResult}
 use Rattle.coordinates.specs.declared.refusal.Fault.{Fault}
+use Rattle.coordinates.specs.declared.refusal.UnknownFault.{UnknownFault}
 use Rattle.coordinates.specs.declared.refusal.Fault.TheVariants.{Unread, Name, Value, Count, Area, Twice, Late, Crowded, ZeroLine, Short, Indefinite, Overlap, Unequal, Broken, Unplaced}
 
 -- a refusal: its number, 0 where nothing is refused, and its place, the sheet's line
@@ -85,6 +86,10 @@ number_of Overlap = overlap
 number_of Unequal = unequal
 number_of Broken = broken
 number_of Unplaced = unplaced
+
+-- the fault that has a number, or that number where none has it
+abbrev pub Decodes : ℕ → Result Fault UnknownFault → Type 0
+Decodes number r = MatchResult r (λ fault. number_of fault ≡ number) (λ unknown. (unknown.0 ≡ number) × ((number ≡ 0) ⊎ (15 < number)))
 
 -- the number of a fault that may be absent: 0 where there is none
 abbrev pub fault_number : Option Fault → ℕ

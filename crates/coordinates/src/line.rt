@@ -2,15 +2,16 @@
 ghost use Rattle.std.specs.Prelude.{◌≡◌, false, ltb};
 ghost use Rattle.coordinates.specs.Lines.{outside};
 ghost use Rattle.coordinates.specs.Held.{HeldAs};
+ghost use Rattle.coordinates.specs.Ends.{end_kind, end_number};
 ghost use Rattle.coordinates.specs.Answers.{count_check, clamped_of, answered_conversion, origin_zero_answer, answered_grid_line, grid_line_answer, answered_count, implied_negative_answer, implied_positive_answer};
 
-use crate::refusal::Fault;
+use crate::refusal::{Fault, check_count};
 
 // The most explicit tracks.
 pub const MOST_TRACKS: u16 = 10000;
 
-// The most placements of a panel.
-pub const MOST_PLACEMENTS: usize = 256;
+// The last line that can be explicit, after as many tracks.
+pub const LAST_EXPLICIT_LINE: u32 = MOST_TRACKS as u32 + 1;
 
 // The line that is farthest from the first explicit one, at either side.
 pub const FARTHEST_LINE: i64 = 10000;
@@ -61,6 +62,30 @@ impl<T> Marked<T> {
     }
 }
 
+impl GenericGridPlacement<GridLine, u16> {
+    // The number of its kind: 0 where it is auto, 1 for a line, 3 for a span; 2 and 4 are kinds with a name.
+    pub fn kind(self) -> u32
+        ensures { result ≡ end_kind self }
+    {
+        match self {
+            GenericGridPlacement::Auto => 0,
+            GenericGridPlacement::Line(_) => 1,
+            GenericGridPlacement::Span(_) => 3,
+        }
+    }
+
+    // Its number: the line or the span, 0 where it is auto.
+    pub fn number(self) -> i32
+        ensures { result ≡ end_number self }
+    {
+        match self {
+            GenericGridPlacement::Auto => 0,
+            GenericGridPlacement::Line(line) => i32::from(line.0),
+            GenericGridPlacement::Span(span) => i32::from(span),
+        }
+    }
+}
+
 // Whether a number lies outside -10,000..10,000.
 #[tactic(auto, using(crate::proofs::Integers::outside_by_size))]
 fn lies_outside(number: i64) -> bool
@@ -69,21 +94,11 @@ fn lies_outside(number: i64) -> bool
     FARTHEST_LINE.unsigned_abs() < number.unsigned_abs()
 }
 
-// Whether a line lies outside -10,000..10,000.
-pub fn is_outside(line: OriginZeroLine) -> bool
-    ensures { result ≡ outside line.0 }
-{
-    lies_outside(i64::from(line.0))
-}
-
 // Refused by 4: more than 10,000 explicit tracks.
-pub fn check_explicit(explicit: u16) -> Result<(), Fault>
+pub fn check_explicit(explicit: u32) -> Result<(), Fault>
     ensures { result ≡ count_check (ltb 10000 explicit) }
 {
-    match explicit {
-        0..=MOST_TRACKS => Ok(()),
-        _ => Err(Fault::Count),
-    }
+    check_count(LAST_EXPLICIT_LINE <= explicit)
 }
 
 impl GridLine {
@@ -92,7 +107,7 @@ impl GridLine {
     pub fn into_origin_zero_line(self, explicit: u16) -> Result<MarkedLine, Fault>
         ensures { answered_conversion result ≡ origin_zero_answer explicit self.0 }
     {
-        check_explicit(explicit)?;
+        check_explicit(u32::from(explicit))?;
         let number = i64::from(self.0);
         match number {
             0 => Err(Fault::ZeroLine),
@@ -120,14 +135,18 @@ impl OriginZeroLine {
         OriginZeroLine::hold(i64::from(line)).value
     }
 
+    // Whether a line lies outside -10,000..10,000.
+    pub fn is_outside(self) -> bool
+        ensures { result ≡ outside self.0 }
+    {
+        lies_outside(i64::from(self.0))
+    }
+
     // Refused by 4: a line outside -10,000..10,000.
     pub fn check_within(self) -> Result<(), Fault>
         ensures { result ≡ count_check (outside self.0) }
     {
-        if is_outside(self) {
-            return Err(Fault::Count);
-        }
-        Ok(())
+        check_count(self.is_outside())
     }
 
     // The grid line. Refused by 4: more than 10,000 explicit tracks, and a line outside -10,000..10,000.
@@ -135,7 +154,7 @@ impl OriginZeroLine {
     pub fn into_grid_line(self, explicit: u16) -> Result<GridLine, Fault>
         ensures { answered_grid_line result ≡ grid_line_answer explicit self.0 }
     {
-        check_explicit(explicit)?;
+        check_explicit(u32::from(explicit))?;
         self.check_within()?;
         let line = i32::from(self.0);
         let number = if line < 0 {
@@ -161,7 +180,7 @@ impl OriginZeroLine {
     pub fn implied_positive_implicit_tracks(self, explicit: u16) -> Result<u32, Fault>
         ensures { answered_count result ≡ implied_positive_answer explicit self.0 }
     {
-        check_explicit(explicit)?;
+        check_explicit(u32::from(explicit))?;
         self.check_within()?;
         let past = i32::from(self.0) - i32::from(explicit);
         Ok(past.max(0).unsigned_abs())

@@ -1,6 +1,7 @@
 // The refusals of document 01's table, and those that document 02 adds, by number.
 ghost use Rattle.std.specs.Prelude.{◌≡◌};
-ghost use Rattle.coordinates.specs.Refusals.{number_of};
+ghost use Rattle.coordinates.specs.Refusals.{number_of, Decodes};
+ghost use Rattle.coordinates.specs.Answers.{count_check};
 
 // A fault of the table: why a call is refused.
 #[derive(Clone, Copy, Debug, PartialEq, Eq)]
@@ -37,11 +38,53 @@ pub enum Fault {
     Unplaced = 15,
 }
 
+// A number that no fault has.
+#[derive(Clone, Copy, Debug, PartialEq, Eq)]
+pub struct UnknownFault(pub u32);
+
+// Refused by 4: a number outside its range.
+pub fn check_count(outside: bool) -> Result<(), Fault>
+    ensures { result ≡ count_check outside }
+{
+    if outside {
+        return Err(Fault::Count);
+    }
+    Ok(())
+}
+
 impl From<Fault> for u32 {
     ghost from_gives = { λ fault number. number ≡ number_of fault };
 
     // The number of a fault in the table.
     fn from(fault: Fault) -> u32 {
         fault as u32
+    }
+}
+
+impl TryFrom<u32> for Fault {
+    type Error = UnknownFault;
+
+    ghost try_from_gives = { Decodes };
+
+    // The fault of a number of the table.
+    fn try_from(number: u32) -> Result<Fault, UnknownFault> {
+        match number {
+            1 => Ok(Fault::Unread),
+            2 => Ok(Fault::Name),
+            3 => Ok(Fault::Value),
+            4 => Ok(Fault::Count),
+            5 => Ok(Fault::Area),
+            6 => Ok(Fault::Twice),
+            7 => Ok(Fault::Late),
+            8 => Ok(Fault::Crowded),
+            9 => Ok(Fault::ZeroLine),
+            10 => Ok(Fault::Short),
+            11 => Ok(Fault::Indefinite),
+            12 => Ok(Fault::Overlap),
+            13 => Ok(Fault::Unequal),
+            14 => Ok(Fault::Broken),
+            15 => Ok(Fault::Unplaced),
+            _ => Err(UnknownFault(number)),
+        }
     }
 }

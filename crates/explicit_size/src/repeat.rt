@@ -6,11 +6,11 @@ ghost use Rattle.template_rules.specs.Explicit.{template_size_of};
 ghost use Rattle.explicit_size.specs.Repeat.{gathered_of, repeats_automatically, repetitions_in};
 ghost use Rattle.explicit_size.specs.Steps.{spaces_by, most_of, count_by};
 
-use crate::repetitions::{automatic_repeat, fit_in};
+use crate::repetitions::automatic_repeat;
 use sizing::definite::gap_value;
 use template_rules::component::MOST_COMPONENTS;
 use template_rules::gathered::GatheredTemplate;
-use template_rules::{AutoRepeatStrategy, RepeatSpace, Template};
+use template_rules::{AutoRepeatStrategy, RepeatSpace, SizeTables, Template};
 use template_summary::summary::template_summary;
 
 // As many steps as a template of any words can have: 64 components, each of at most 65,535 tracks.
@@ -26,19 +26,10 @@ pub struct RepeatSpaces {
 }
 
 // What is gathered of a whole template, from its tables: their words hold no more steps than it is given.
-fn gathered_of_tables(
-    components: &[u64],
-    minimums: &[u64],
-    maximums: &[u64],
-    inner: f32,
-) -> GatheredTemplate
-    ensures { result.summary ≡ gathered_of inner (template_of components.now minimums.now maximums.now) }
+fn gathered_of_tables(components: &[u64], sizes: SizeTables<'_>, inner: f32) -> GatheredTemplate
+    ensures { result.summary ≡ gathered_of inner (template_of components.now sizes.entry.minimums.now sizes.entry.maximums.now) }
 {
-    let template = Template {
-        components,
-        minimums,
-        maximums,
-    };
+    let template = Template { components, sizes };
     template_summary(template, inner, EVERY_STEP)
 }
 
@@ -46,12 +37,7 @@ fn gathered_of_tables(
 pub(crate) fn gathered(template: Template<'_>, inner: f32) -> GatheredTemplate
     ensures { result.summary ≡ gathered_of inner (components_of template.entry) }
 {
-    gathered_of_tables(
-        template.components,
-        template.minimums,
-        template.maximums,
-        inner,
-    )
+    gathered_of_tables(template.components, template.sizes, inner)
 }
 
 // Whether a template by its words counts and has an automatic repeat.
@@ -87,20 +73,14 @@ pub fn repeat_spaces(template: Template<'_>, inner: f32, gap: f32) -> Option<Rep
 pub fn repetitions_in(spaces: Option<RepeatSpaces>, strategy: AutoRepeatStrategy, inner: f32) -> u32
     ensures { result ≡ count_by strategy inner spaces }
 {
-    match spaces {
-        Some(spaces) => fit_in(strategy, inner, spaces.first, spaces.further).min(spaces.most),
-        None => 0,
-    }
+    spaces.map_or(0, |spaces| spaces.count_in(strategy, inner))
 }
 
 // The most repetitions.
 fn most_repetitions(spaces: Option<RepeatSpaces>) -> u32
     ensures { result ≡ most_of spaces }
 {
-    match spaces {
-        Some(spaces) => spaces.most,
-        None => 0,
-    }
+    spaces.map_or(0, |spaces| spaces.most)
 }
 
 // How often the automatic repeat of what is gathered is written out: 0 where no automatic repeat counts, and at most once without an inner size.

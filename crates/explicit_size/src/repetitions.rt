@@ -1,10 +1,11 @@
 // How often the automatic repeat of a template is written out.
-ghost use Rattle.std.specs.Prelude.{◌≡◌, ◌+◌, ◌-◌, ◌*◌, ◌≤◌, ◌<◌, min, is_some, IfSome};
+ghost use Rattle.std.specs.Prelude.{◌≡◌, ◌+◌, ◌-◌, ◌*◌, ◌≤◌, ◌<◌, min, is_some, Some, IfSome};
 ghost use Rattle.template_rules.specs.Space.{whole32};
 ghost use Rattle.template_rules.specs.Repetitions.{first_space, further_space, whole_of, held_of};
-ghost use Rattle.explicit_size.specs.Steps.{fit_by};
+ghost use Rattle.explicit_size.specs.Steps.{fit_by, count_by};
 ghost use Rattle.explicit_size.specs.Repeat.{asks_of};
 
+use crate::repeat::RepeatSpaces;
 use crate::size::is_valid;
 use template_rules::gathered::GatheredTemplate;
 use template_rules::whole::{ceiling_to_u32, floor_to_u32};
@@ -14,7 +15,7 @@ use template_rules::{AutoRepeatStrategy, TemplateSummary};
 pub(crate) const MOST_TRACKS: u64 = coordinates::line::MOST_TRACKS as u64;
 
 // What is gathered of a template whose automatic repeat has tracks.
-#[derive(Clone, Copy)]
+#[derive(Clone, Copy, Debug, PartialEq)]
 pub(crate) struct AutomaticRepeat {
     pub summary: TemplateSummary,
     // As many as a word can write.
@@ -43,14 +44,24 @@ fn whole_by(strategy: AutoRepeatStrategy, x: f32) -> u32
     }
 }
 
-// The repetitions that fit an inner size, from the space of the first and of each further one: 1 where the first overflows.
-pub(crate) fn fit_in(strategy: AutoRepeatStrategy, inner: f32, first: f32, further: f32) -> u32
-    ensures { result ≡ fit_by strategy inner first further }
-{
-    if first > inner {
-        return 1;
+impl RepeatSpaces {
+    // The repetitions that fit an inner size: 1 where the first overflows.
+    fn fit_in(self, strategy: AutoRepeatStrategy, inner: f32) -> u32
+        ensures { result ≡ fit_by strategy inner self.first self.further }
+    {
+        if self.first > inner {
+            return 1;
+        }
+        whole_by(strategy, (inner - self.first) / self.further).saturating_add(1)
     }
-    whole_by(strategy, (inner - first) / further).saturating_add(1)
+
+    // The count at an inner size.
+    #[tactic(auto, unfolding(crate::specs::Steps::count_by))]
+    pub fn count_in(self, strategy: AutoRepeatStrategy, inner: f32) -> u32
+        ensures { result ≡ count_by strategy inner (Some self) }
+    {
+        self.fit_in(strategy, inner).min(self.most)
+    }
 }
 
 impl AutomaticRepeat {
@@ -78,7 +89,7 @@ impl AutomaticRepeat {
     }
 
     // The most repetitions: those that begin within 10,000 tracks, and at least 1; 0 where the tracks before the repeat fill the grid.
-    #[tactic(auto, unfolding(template_rules::specs::Repetitions::held_of))]
+    #[tactic(auto, unfolding(template_rules::specs::Repetitions::held_of), using(crate::proofs::Rounded::rounded))]
     pub(crate) fn held_repetitions(self) -> u32
         ensures { result ≡ held_of self.summary.before self.summary.repeated 10000 }
     {
@@ -87,7 +98,7 @@ impl AutomaticRepeat {
         if MOST_TRACKS <= before {
             return 0;
         }
-        let room = (MOST_TRACKS - before + repeated - 1) / repeated;
+        let room = (MOST_TRACKS - before).div_ceil(repeated);
         MOST_TRACKS.min(room).max(1) as u32
     }
 }

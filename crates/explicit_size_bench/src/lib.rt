@@ -13,7 +13,7 @@ use coordinates::Fault;
 use explicit_size::compute_explicit_grid_size_in_axis;
 use sizing::Sizing;
 use sizing::word::length_of;
-use template_rules::{AutoRepeatStrategy, ExplicitSize, RepeatSpace, Template};
+use template_rules::{AutoRepeatStrategy, ExplicitSize, RepeatSpace, SizeTables, Template};
 
 // The answer as numbers: the refusal, 0 where there is none, the repetitions and the explicit count.
 #[repr(C)]
@@ -54,11 +54,8 @@ pub extern "C" fn explicit_size_in_axis(
 ) -> SizeNumbers
     ensures { result ≡ numbers_of (explicit_size_of (Some (float_up_to largest_bits inner)) MaxRepetitionsThatDoNotOverflow (sizing_of gap) 0 (template_of components.now minimums.now maximums.now)) }
 {
-    let template = Template {
-        components,
-        minimums,
-        maximums,
-    };
+    let sizes = SizeTables { minimums, maximums };
+    let template = Template { components, sizes };
     let space = RepeatSpace {
         inner: Some(length_of(inner)),
         strategy: AutoRepeatStrategy::MaxRepetitionsThatDoNotOverflow,

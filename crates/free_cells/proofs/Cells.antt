@@ -1,24 +1,24 @@
 -- Rectangles that share a cell, and what a search may jump over. Assumes nothing.
 use mathlib.Core.Path.{◌≡◌, refl, sym, ◌∙◌}
 use mathlib.Core.Bool.{Bool, true, false, cond, ◌&&◌, false≢true}
-use mathlib.Core.List.{List}
-use Prim.Native.Nat.{ℕ, ◌+◌, ◌≤◌, ◌<◌}
+use mathlib.Core.List.{List, [], ◌∷◌, map}
+use Prim.Native.Nat.{ℕ, zero, suc, ◌+◌, ◌≤◌, ◌<◌, min}
 use native.Mathlib.Omega.{arith}
 use native.Mathlib.Nat.{mod-lt}
 use Rattle.std.specs.Prelude.{Option, Some, None, length}
-use Rattle.std.specs.List.{position, position_or_len}
+use Rattle.std.specs.List.{filter, fold, reduce, position, position_or_len}
 use Rattle.std.proofs.lemmas.List.Quantifiers.{position-Some}
 use Rattle.std.proofs.lemmas.List.Sums.{fails_before_first}
 use Rattle.std.proofs.lemmas.Option.{none-some}
-use lib.Dec.{leb, ltb}
-use borrow.Author.Tests.{leb-true, leb-false, ltb-true, ltb-false, lt-ltb}
+use lib.Dec.{ltb}
+use borrow.Author.Tests.{ltb-true, ltb-false, lt-ltb}
 use Rattle.coordinates.specs.declared.axis.Axis.{Axis}
 use Rattle.coordinates.specs.declared.axis.Axis.TheVariants.{Column, Row}
 use Rattle.coordinates.specs.Types.{LinePair}
 use Rattle.free_cells.specs.declared.Rectangle.{Rectangle}
 use Rattle.free_cells.specs.Words.{lines_of, lines_word, rectangle_of, rectangle_in}
 use Rattle.free_cells.specs.Free.{Overlap, tracks_from, along, Clear, FirstInWay, InWay, FreeLine, FirstOr0, nowhere}
-use Rattle.free_cells.specs.Steps.{overlaps, end_along, nearer, nearer_end, NextEnd, NextEnds}
+use Rattle.free_cells.specs.Steps.{overlaps, end_along, NextEnds}
 
 -- ---- the test
 
@@ -76,65 +76,75 @@ way_by words r None e = none-hits words r e
 
 -- ---- the next end of a row
 
-module _ (words : List ℕ) (row i : ℕ) where
-  abbrev here_end : ℕ
-  here_end = (rectangle_in words i).rows.end
+abbrev end_of : ℕ → ℕ
+end_of w = (rectangle_of w).rows.end
 
-  -- a rectangle that ends at a row, or above it
-  none-past : here_end ≤ row → NextEnds words i row None → (j : ℕ) → j < i + 1 → (rectangle_in words j).rows.end ≤ row
-  none-past h f j w = go (ltb j i) refl
-    where
-      go : (t : Bool) → ltb j i ≡ t → (rectangle_in words j).rows.end ≤ row
-      go true e = f j (ltb-true j i e)
-      go false e = let z : j ≡ i = omega (arith, ltb-false j i e) in rw z h
+abbrev past_ends : ℕ → List ℕ → List ℕ
+past_ends row words = filter (λ end. ltb row end) (map end_of words)
 
-  end-above : (nearest : Option ℕ) → here_end ≤ row → NextEnds words i row nearest → NextEnds words (i + 1) row nearest
-  end-above None h f = none-past h f
-  end-above (Some n) h f = record { past = f.past; least = least }
-    where
-      least : (j : ℕ) → j < i + 1 → row < (rectangle_in words j).rows.end → n ≤ (rectangle_in words j).rows.end
-      least j w p = go (ltb j i) refl
-        where
-          go : (t : Bool) → ltb j i ≡ t → n ≤ (rectangle_in words j).rows.end
-          go true e = f.least j (ltb-true j i e) p
-          go false e = let z : j ≡ i = omega (arith, ltb-false j i e) in absurd (let q : row < here_end = rw z at p in omega arith)
+module _ (row : ℕ) where
+  -- the least of an end and of those of words that lie past the row
+  record Least (a : ℕ) (words : List ℕ) (least : ℕ) : Type 0 where
+    past : row < least
+    upto : least ≤ a
+    each : (j : ℕ) → j < length words → row < (rectangle_in words j).rows.end → least ≤ (rectangle_in words j).rows.end
 
-  -- one that ends past it, no nearer than those before
-  end-past : (nearest : Option ℕ) → row < here_end → NextEnds words i row nearest → NextEnds words (i + 1) row (nearer here_end nearest)
-  end-past None h f = record { past = h; least = least }
-    where
-      least : (j : ℕ) → j < i + 1 → row < (rectangle_in words j).rows.end → here_end ≤ (rectangle_in words j).rows.end
-      least j w p = go (ltb j i) refl
-        where
-          go : (t : Bool) → ltb j i ≡ t → here_end ≤ (rectangle_in words j).rows.end
-          go true e = absurd (let q = f j (ltb-true j i e) in omega arith)
-          go false e = let z : j ≡ i = omega (arith, ltb-false j i e) in rw z (omega arith)
-  end-past (Some n) h f = go (ltb here_end n) refl
-    where
-      go : (t : Bool) → ltb here_end n ≡ t → NextEnd words (i + 1) row (cond t here_end n)
-      go true e = record { past = h; least = least }
-        where
-          least : (j : ℕ) → j < i + 1 → row < (rectangle_in words j).rows.end → here_end ≤ (rectangle_in words j).rows.end
-          least j w p = on (ltb j i) refl
-            where
-              on : (t : Bool) → ltb j i ≡ t → here_end ≤ (rectangle_in words j).rows.end
-              on true d = let q = f.least j (ltb-true j i d) p in omega (arith, q, ltb-true here_end n e)
-              on false d = let z : j ≡ i = omega (arith, ltb-false j i d) in rw z (omega arith)
-      go false e = record { past = f.past; least = least }
-        where
-          least : (j : ℕ) → j < i + 1 → row < (rectangle_in words j).rows.end → n ≤ (rectangle_in words j).rows.end
-          least j w p = on (ltb j i) refl
-            where
-              on : (t : Bool) → ltb j i ≡ t → n ≤ (rectangle_in words j).rows.end
-              on true d = f.least j (ltb-true j i d) p
-              on false d = let z : j ≡ i = omega (arith, ltb-false j i d) in rw z (omega (arith, ltb-false here_end n e))
+  module _ (a w : ℕ) (words : List ℕ) (n : ℕ) where
+    -- one more in front, which lies past the row, or does not
+    least-more : row < end_of w → Least (min a (end_of w)) words n → Least a (w ∷ words) n
+    least-more h f = record { past = f.past; upto = omega (arith, f.upto); each = each }
+      where
+        each : (j : ℕ) → j < length (w ∷ words) → row < (rectangle_in (w ∷ words) j).rows.end → n ≤ (rectangle_in (w ∷ words) j).rows.end
+        each zero v p = omega (arith, f.upto)
+        each (suc j) v p = f.each j (omega arith) p
 
-  pub next-turn : (nearest : Option ℕ) → NextEnds words i row nearest → NextEnds words (i + 1) row (nearer_end row here_end nearest)
-  next-turn nearest f = go (leb here_end row) refl
+    least-other : end_of w ≤ row → Least a words n → Least a (w ∷ words) n
+    least-other h f = record { past = f.past; upto = f.upto; each = each }
+      where
+        each : (j : ℕ) → j < length (w ∷ words) → row < (rectangle_in (w ∷ words) j).rows.end → n ≤ (rectangle_in (w ∷ words) j).rows.end
+        each zero v p = absurd (omega (arith, h, p))
+        each (suc j) v p = f.each j (omega arith) p
+
+  least_past : (a : ℕ) (words : List ℕ) → row < a → Least a words (fold min a (past_ends row words))
+  least_past a [] h = record { past = h; upto = omega arith; each = λ j v. absurd (omega arith) }
+  least_past a (w ∷ words) h = go (ltb row (end_of w)) refl (λ k. least_past (min a (end_of w)) words (omega (arith, h, k))) (least_past a words h)
     where
-      go : (t : Bool) → leb here_end row ≡ t → NextEnds words (i + 1) row (cond t nearest (nearer here_end nearest))
-      go true e = end-above nearest (leb-true here_end row e) f
-      go false e = end-past nearest (leb-false here_end row e) f
+      go : (t : Bool) → ltb row (end_of w) ≡ t → (row < end_of w → Least (min a (end_of w)) words (fold min (min a (end_of w)) (past_ends row words)))
+          → Least a words (fold min a (past_ends row words)) → Least a (w ∷ words) (fold min a (cond t (end_of w ∷ past_ends row words) (past_ends row words)))
+      go true e more other = let k = ltb-true row (end_of w) e in least-more a w words _ k (more k)
+      go false e more other = least-other a w words _ (ltb-false row (end_of w) e) other
+
+  next-first : (w : ℕ) (words : List ℕ) (n : ℕ) → Least (end_of w) words n → NextEnds (w ∷ words) (length (w ∷ words)) row (Some n)
+  next-first w words n f = record { past = f.past; least = least }
+    where
+      least : (j : ℕ) → j < length (w ∷ words) → row < (rectangle_in (w ∷ words) j).rows.end → n ≤ (rectangle_in (w ∷ words) j).rows.end
+      least zero v p = f.upto
+      least (suc j) v p = f.each j (omega arith) p
+
+  next-later : (w : ℕ) (words : List ℕ) (met : Option ℕ) → end_of w ≤ row → NextEnds words (length words) row met → NextEnds (w ∷ words) (length (w ∷ words)) row met
+  next-later w words None h f = none
+    where
+      none : (j : ℕ) → j < length (w ∷ words) → (rectangle_in (w ∷ words) j).rows.end ≤ row
+      none zero v = h
+      none (suc j) v = f j (omega arith)
+  next-later w words (Some n) h f = record { past = f.past; least = least }
+    where
+      least : (j : ℕ) → j < length (w ∷ words) → row < (rectangle_in (w ∷ words) j).rows.end → n ≤ (rectangle_in (w ∷ words) j).rows.end
+      least zero v p = absurd (omega (arith, h, p))
+      least (suc j) v p = f.least j (omega arith) p
+
+  next_least : (words : List ℕ) → NextEnds words (length words) row (reduce min (past_ends row words))
+  next_least [] = λ j v. absurd (omega arith)
+  next_least (w ∷ words) = go (ltb row (end_of w)) refl (next_least words)
+    where
+      go : (t : Bool) → ltb row (end_of w) ≡ t → NextEnds words (length words) row (reduce min (past_ends row words))
+          → NextEnds (w ∷ words) (length (w ∷ words)) row (reduce min (cond t (end_of w ∷ past_ends row words) (past_ends row words)))
+      go true e later = next-first w words _ (least_past (end_of w) words (ltb-true row (end_of w) e))
+      go false e later = next-later w words _ (ltb-false row (end_of w) e) later
+
+pub next_by : (words : List ℕ) (row : ℕ) (met : Option ℕ) → met ≡ reduce min (filter (λ end. ltb row end) (map (λ w. (rectangle_of w).rows.end) words))
+    → NextEnds words (length words) row met
+next_by words row met e = rw e (next_least row words)
 
 -- two lines take 32 bits
 pub lines-small : (l : LinePair) (w : ℕ) → w ≡ lines_word l → w < 4294967296

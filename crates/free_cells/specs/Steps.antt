@@ -1,5 +1,5 @@
 -- What the code computes.
-use Rattle.std.specs.Prelude.{ℕ, ◌+◌, ◌≤◌, ◌<◌, Bool, cond, ◌&&◌, List, leb, ltb, Option, Some, None}
+use Rattle.std.specs.Prelude.{ℕ, ◌+◌, ◌≤◌, ◌<◌, Bool, ◌&&◌, List, ltb, Option, Some, None}
 use Rattle.coordinates.specs.declared.axis.Axis.{Axis}
 use Rattle.coordinates.specs.declared.axis.Axis.TheVariants.{Column, Row}
 use Rattle.free_cells.specs.declared.Rectangle.{Rectangle}
@@ -17,15 +17,6 @@ overlaps a b =
 abbrev pub end_along : Axis → Rectangle → ℕ
 end_along Column r = r.columns.end
 end_along Row r = r.rows.end
-
--- the nearer of an end and one found before it, where there is one
-abbrev pub nearer : ℕ → Option ℕ → Option ℕ
-nearer end None = Some end
-nearer end (Some found) = Some (cond (ltb end found) end found)
-
--- the same, where the end counts where it lies past a row
-abbrev pub nearer_end : ℕ → ℕ → Option ℕ → Option ℕ
-nearer_end row end nearest = cond (leb end row) nearest (nearer end nearest)
 
 -- a row line past a row, and past no row line, past that row, at which one of these rectangles ends: between the two the same rectangles
 -- are in the way

@@ -5,11 +5,11 @@ ghost use Rattle.free_cells.specs.Steps.{end_along, InRow, Below};
 
 use crate::way::{in_way, next_end};
 use crate::{Place, Rectangle, Size};
-use coordinates::line::MOST_TRACKS;
+use coordinates::line::LAST_EXPLICIT_LINE;
 use coordinates::{Axis, LinePair};
 
 // Rows are lines 1 to this.
-pub const LAST_ROW_LINE: u32 = MOST_TRACKS as u32 + 1;
+pub const LAST_ROW_LINE: u32 = LAST_EXPLICIT_LINE;
 
 // The words of placed rectangles, and the last line of the axis that is searched; for a place, that of the columns.
 #[derive(Clone, Copy)]

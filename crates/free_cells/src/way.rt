@@ -1,8 +1,9 @@
 // What is in the way.
-ghost use Rattle.std.specs.Prelude.{◌≡◌, ◌&&◌, ltb, length, position};
+ghost use Rattle.std.specs.Prelude.{◌≡◌, ◌&&◌, ltb, length, map, min, position};
+ghost use Rattle.std.specs.List.{filter, reduce};
 ghost use Rattle.free_cells.specs.Words.{rectangle_of};
 ghost use Rattle.free_cells.specs.Free.{InWay};
-ghost use Rattle.free_cells.specs.Steps.{overlaps, nearer_end, NextEnds};
+ghost use Rattle.free_cells.specs.Steps.{overlaps, NextEnds};
 
 use crate::Rectangle;
 use coordinates::LinePair;
@@ -39,26 +40,21 @@ pub fn in_way(words: &[u64], rectangle: Rectangle) -> Option<usize>
     first_overlap(words, rectangle)
 }
 
-// The smaller of an end and one found before it; the end counts where it lies past a row.
-fn nearer_end(row: u32, end: u32, nearest: Option<u32>) -> Option<u32>
-    ensures { result ≡ nearer_end row end nearest }
+// The least of the row ends of the words that lie past a row.
+fn least_end(words: &[u64], row: u32) -> Option<u32>
+    ensures { result ≡ reduce min (filter (λ end. ltb row end) (map (λ w. (rectangle_of w).rows.end) words.now)) }
 {
-    if end <= row {
-        return nearest;
-    }
-    match nearest {
-        Some(found) => Some(end.min(found)),
-        None => Some(end),
-    }
+    words
+        .iter()
+        .map(|word| Rectangle::from(*word).rows.end)
+        .filter(|end| row < *end)
+        .min()
 }
 
 // The least row line past a row at which a placed rectangle ends.
+#[tactic(auto, using(crate::proofs::Cells::next_by))]
 pub(crate) fn next_end(words: &[u64], row: u32) -> Option<u32>
     ensures { NextEnds words.now (length words.now) row result }
 {
-    let mut nearest: Option<u32> = None;
-    for word in words {
-        nearest = nearer_end(row, Rectangle::from(*word).rows.end, nearest);
-    }
-    nearest
+    least_end(words, row)
 }

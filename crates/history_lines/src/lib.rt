@@ -7,7 +7,7 @@ pub mod write;
 
 pub use find::{after_lines, find_line, one_line};
 use text::Place;
-pub use write::{line_length, write_line};
+pub use write::StepLine;
 
 // Where the text of a line lies, and where the line after it starts.
 #[derive(Clone, Copy, Debug, PartialEq, Eq)]

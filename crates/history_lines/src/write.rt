@@ -5,40 +5,48 @@ ghost use Rattle.history_lines.specs.Written.{place_after, bytes_after};
 
 use text::{Decimal, LINE_FEED, TAB};
 
-// How many bytes a line takes.
-#[tactic(auto, using(crate::proofs::Steps::length_line))]
-pub fn line_length(number: u64, text: &[u8]) -> usize
-    ensures { result ≡ length (history_line number text.now) }
-{
-    Decimal::new(number).as_bytes().len() + 2 + text.len()
+// A line that is written: a step's number and its text.
+#[derive(Clone, Copy)]
+pub struct StepLine<'a> {
+    pub number: u64,
+    pub text: &'a [u8],
 }
 
-// Bytes that a line fills.
-#[tactic(auto, using(crate::proofs::Steps::length_line, crate::proofs::Steps::line_filled))]
-fn put_line(line: &mut [u8], number: u64, text: &[u8])
-    requires { length line.old ≡ length (history_line number text.now) }
-    ensures { line.new ≡ history_line number text.now }
-{
-    let digits = Decimal::new(number);
-    let tab = digits.as_bytes().len();
-    let end = line.len() - 1;
-    line[..tab].copy_from_slice(digits.as_bytes());
-    line[tab] = TAB;
-    line[tab + 1..end].copy_from_slice(text);
-    line[end] = LINE_FEED;
-}
-
-// A line from a place on, and the place after it; where it does not fit, nothing is written.
-#[tactic(auto, using(crate::proofs::Steps::written_bytes))]
-pub fn write_line(bytes: &mut [u8], place: usize, number: u64, text: &[u8]) -> Option<usize>
-    ensures answer { result ≡ place_after bytes.old place (history_line number text.now) }
-    ensures bytes { bytes.new ≡ bytes_after bytes.old place (history_line number text.now) }
-{
-    let length = line_length(number, text);
-    if bytes.len() < place || bytes.len() - place < length {
-        return None;
+impl StepLine<'_> {
+    // How many bytes the line takes.
+    #[tactic(auto, using(crate::proofs::Steps::length_line))]
+    pub fn len(self) -> usize
+        ensures { result ≡ length (history_line self.entry.number self.entry.text.now) }
+    {
+        Decimal::new(self.number).as_bytes().len() + 2 + self.text.len()
     }
-    let end = place + length;
-    put_line(&mut bytes[place..end], number, text);
-    Some(end)
+
+    // Bytes that the line fills.
+    #[tactic(auto, using(crate::proofs::Steps::length_line, crate::proofs::Steps::line_filled))]
+    fn fill(self, line: &mut [u8])
+        requires { length line.old ≡ length (history_line self.number self.text.now) }
+        ensures { line.new ≡ history_line self.entry.number self.entry.text.now }
+    {
+        let digits = Decimal::new(self.number);
+        let tab = digits.as_bytes().len();
+        let end = line.len() - 1;
+        line[..tab].copy_from_slice(digits.as_bytes());
+        line[tab] = TAB;
+        line[tab + 1..end].copy_from_slice(self.text);
+        line[end] = LINE_FEED;
+    }
+
+    // The line from a place on, and the place after it; where it does not fit, nothing is written.
+    #[tactic(auto, using(crate::proofs::Steps::written_bytes))]
+    pub fn write(self, bytes: &mut [u8], place: usize) -> Option<usize>
+        ensures answer { result ≡ place_after bytes.old place (history_line self.entry.number self.entry.text.now) }
+        ensures bytes { bytes.new ≡ bytes_after bytes.old place (history_line self.entry.number self.entry.text.now) }
+    {
+        let end = place.checked_add(self.len())?;
+        if bytes.len() < end {
+            return None;
+        }
+        self.fill(&mut bytes[place..end]);
+        Some(end)
+    }
 }

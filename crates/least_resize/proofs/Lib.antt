@@ -1,4 +1,5 @@
 pub mod Least
+mod Found
 pub mod Pixels
 pub mod Constant
 pub mod Counts

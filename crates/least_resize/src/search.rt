@@ -1,5 +1,5 @@
 // The search: sizes in the order of their distance from the size now, the wider one first.
-ghost use Rattle.std.specs.Prelude.{◌≡◌, ◌≤◌};
+ghost use Rattle.std.specs.Prelude.{◌≡◌};
 ghost use Rattle.template_rules.specs.Template.{components_of};
 ghost use Rattle.template_rules.specs.Bounds.{Gathered};
 ghost use Rattle.sizing.specs.Words.{zero32};
@@ -8,12 +8,9 @@ ghost use Rattle.least_resize.specs.Search.{repetitions_at, at_distance, least_r
 ghost use Rattle.least_resize.specs.Steps.{repeat_of, count_in, differs_in};
 
 use crate::percentage::has_percentage;
-use explicit_size::repeat::{RepeatSpaces, repeat_spaces, repetitions_in, template_repetitions};
+use explicit_size::repeat::{RepeatSpaces, repeat_spaces, template_repetitions};
 use sizing::Sizing;
-use template_rules::{AutoRepeatStrategy, RepeatSpace, Template};
-
-// The largest inner size.
-const LARGEST_SIZE: u32 = u16::MAX as u32;
+use template_rules::{AutoRepeatStrategy, RepeatSpace, SizeTables, Template};
 
 // An automatic repeat whose count is asked for at many sizes: which repetitions, the gap, and what decides the count, the same at every size;
 // none where its template has percentages, or where no automatic repeat counts.
@@ -26,10 +23,11 @@ pub struct SizedRepeat {
 
 // The repeat of a template.
 fn repeat_of(template: Template<'_>, strategy: AutoRepeatStrategy, gap: f32) -> SizedRepeat
-    ensures { (result ≡ repeat_of template.entry.components.now template.entry.minimums.now template.entry.maximums.now strategy gap) × Gathered 64 (gathered_of zero32 (components_of template.entry)) }
+    ensures { (result ≡ repeat_of template.entry.components.now template.entry.sizes.minimums.now template.entry.sizes.maximums.now strategy gap) × Gathered 64 (gathered_of zero32 (components_of template.entry)) }
 {
     let spaces = repeat_spaces(template, 0.0, gap);
-    let percentages = has_percentage(template.minimums) || has_percentage(template.maximums);
+    let SizeTables { minimums, maximums } = template.sizes;
+    let percentages = has_percentage(minimums) || has_percentage(maximums);
     SizedRepeat {
         strategy,
         gap,
@@ -47,8 +45,7 @@ struct Search<'a> {
 impl Search<'_> {
     // The count at a size: the template is walked anew only where nothing decides it at every size.
     #[tactic(auto, unfolding(crate::specs::Steps::count_in))]
-    fn count_at(self, size: u32) -> u32
-        requires { size ≤ 65535 }
+    fn count_at(self, size: u16) -> u32
         ensures { result ≡ count_in self.entry.repeat (components_of self.entry.template) size }
     {
         let SizedRepeat {
@@ -57,8 +54,8 @@ impl Search<'_> {
             spaces,
         } = self.repeat;
         let inner = size as f32;
-        if spaces.is_some() {
-            return repetitions_in(spaces, strategy, inner);
+        if let Some(spaces) = spaces {
+            return spaces.count_in(strategy, inner);
         }
         let space = RepeatSpace {
             inner: Some(inner),
@@ -68,28 +65,26 @@ impl Search<'_> {
         template_repetitions(self.template, space)
     }
 
-    // Whether the count at a size is another than the one now; past the largest size none is.
+    // Whether the count at a size is another than the one now.
     #[tactic(auto, unfolding(crate::specs::Steps::differs_in))]
-    fn differs_at(self, count: u32, size: u32) -> bool
+    fn differs_at(self, count: u32, size: u16) -> bool
         ensures { result ≡ differs_in self.entry.repeat (components_of self.entry.template) count size }
     {
-        size <= LARGEST_SIZE && self.count_at(size) != count
+        self.count_at(size) != count
     }
 
     // At a distance: the wider size where the count differs there, else the narrower one.
     #[tactic(auto, unfolding(crate::specs::Search::at_distance, crate::specs::Steps::differs_in))]
-    fn nearest_at(self, count: u32, size: u32, distance: u32) -> Option<u32>
-        requires { (size ≤ 65535) × (distance ≤ 65535) }
+    fn nearest_at(self, count: u32, size: u16, distance: u16) -> Option<u16>
         ensures { result ≡ at_distance (differs_in self.entry.repeat (components_of self.entry.template) count) size distance }
     {
-        let wider = size + distance;
-        if self.differs_at(count, wider) {
-            return Some(wider);
+        if let Some(wider) = size.checked_add(distance) {
+            if self.differs_at(count, wider) {
+                return Some(wider);
+            }
         }
-        if distance <= size && self.differs_at(count, size - distance) {
-            return Some(size - distance);
-        }
-        None
+        let narrower = size.checked_sub(distance)?;
+        self.differs_at(count, narrower).then_some(narrower)
     }
 }
 
@@ -104,13 +99,8 @@ pub fn least_resize(
 {
     let repeat = repeat_of(template, strategy, gap);
     let search = Search { template, repeat };
-    let current = u32::from(size);
-    let count = search.count_at(current);
-    for distance in 1..LARGEST_SIZE + 1 {
-        let found = search.nearest_at(count, current, distance);
-        if found.is_some() {
-            return found;
-        }
-    }
-    None
+    let count = search.count_at(size);
+    (1..=u16::MAX)
+        .find_map(|distance| search.nearest_at(count, size, distance))
+        .map(u32::from)
 }

@@ -76,11 +76,11 @@ module _ (s : AxisGrid) (words store : List ℕ) (bytes : ℕ) (lent entries : L
 
   -- else the answer is how many names are written
   pub lists-written : (r : Result ℕ Fault) (after : List ℕ) → lists_refusal s.size.explicit bytes ≡ 0
-      → ((n : ℕ) × (r ≡ Ok n) × Written lent 0 (lists s.size.explicit entries store) after n)
+      → ((n : ℕ) × (r ≡ Ok n) × Written lent (lists s.size.explicit entries store) after n)
       → record { answer = answered_count_numbers r; words = after } ≡ written_lists s words store bytes lent
   unfolding written_lists
   lists-written r after z (n, e, w) =
-      let v : Written lent 0 (lists s.size.explicit (entry_words_in s words) store) after n =
-      subst (λ (l : List ℕ). Written lent 0 (lists s.size.explicit l store) after n) known w in
+      let v : Written lent (lists s.size.explicit (entry_words_in s words) store) after n =
+      subst (λ (l : List ℕ). Written lent (lists s.size.explicit l store) after n) known w in
       let k : n ≡ length (lists s.size.explicit (entry_words_in s words) store) = omega (arith, v.counted) in
       rw (eq-eqb (lists_refusal s.size.explicit bytes) 0 z, e, v.words, k)

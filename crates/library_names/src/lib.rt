@@ -11,6 +11,7 @@ ghost use Rattle.library_numbers.specs.Answers.{answered_count_numbers};
 ghost use Rattle.library_numbers.specs.Records.{WrittenRun};
 ghost use Rattle.library_names.specs.Lists.{lists_refusal, written_lists};
 
+use coordinates::line::check_explicit;
 use coordinates::{Axis, Fault};
 use name_entries::MOST_ENTRIES;
 use panel_names::LentNames;
@@ -20,17 +21,12 @@ use panel_tables::axis::grid_in;
 // The words of a run of line names: one for each entry that an axis can have.
 pub const LINE_NAME_RUN: usize = MOST_ENTRIES;
 
-// The most explicit tracks.
-const MOST_TRACKS: u32 = coordinates::line::MOST_TRACKS as u32;
-
 // Whether the lists can be given.
 #[tactic(auto, unfolding(crate::specs::Lists::lists_refusal))]
 fn check_lists(explicit: u32, lent: LentNames) -> Result<(), Fault>
     ensures { refused_by result ≡ lists_refusal explicit (shorter_store (lent_tables lent.entry)) }
 {
-    if MOST_TRACKS < explicit {
-        return Err(Fault::Count);
-    }
+    check_explicit(explicit)?;
     lent.check_stores()
 }
 

@@ -11,11 +11,10 @@ use name_entries::NameEntry;
 pub fn name_part(bytes: usize, entry: Option<NameEntry>) -> NameAnswer
     ensures { result ≡ name_part bytes (unwrap_or entry no_entry) }
 {
-    let shown = entry.unwrap_or_default();
-    let left = bytes.saturating_sub(shown.offset as usize);
+    let part = entry.unwrap_or_default().cut(bytes);
     NameAnswer {
         number: 0,
-        offset: (shown.offset as usize).min(bytes) as u32,
-        length: (shown.length as usize).min(left) as u32,
+        offset: part.offset,
+        length: part.length,
     }
 }

@@ -4,32 +4,27 @@ ghost use Rattle.sheet_rules.specs.Answers.{answered_display, answered_sheet, re
 ghost use Rattle.library_numbers.specs.Answers.{display_answer, sheet_answer};
 
 use crate::{DisplayAnswer, SheetAnswer};
-use coordinates::Fault;
 use panel_tables::Panel;
-use sheet_rules::{Display, SheetFault};
+use sheet_rules::{Display, LineFault, SheetFault};
 
 impl From<SheetFault> for SheetAnswer {
     ghost from_gives = { λ fault answer. answer ≡ sheet_answer (refused_with fault) };
 
     // A refusal: its number and its line, and zeros but for the pair of an overlap.
     fn from(fault: SheetFault) -> SheetAnswer {
+        let told = LineFault::from(fault);
+        let refused = SheetAnswer {
+            number: u32::from(told.fault),
+            line: told.line,
+            ..SheetAnswer::default()
+        };
         match fault {
             SheetFault::Overlap(pair) => SheetAnswer {
-                number: u32::from(Fault::Overlap),
-                line: pair.line,
                 earlier: pair.earlier,
                 later: pair.later,
-                ..SheetAnswer::default()
+                ..refused
             },
-            SheetFault::Line(at) => SheetAnswer {
-                number: u32::from(at.fault),
-                line: at.line,
-                ..SheetAnswer::default()
-            },
-            SheetFault::Whole(fault) => SheetAnswer {
-                number: u32::from(fault),
-                ..SheetAnswer::default()
-            },
+            SheetFault::Line(_) | SheetFault::Whole(_) => refused,
         }
     }
 }

@@ -2,12 +2,12 @@
 use Prim.Native.Nat.{ℕ, ◌+◌, ◌*◌, ◌-◌, ◌%◌, ◌≤◌, ◌<◌, min}
 use native.Mathlib.Omega.{arith}
 use mathlib.Core.Path.{◌≡◌, refl, sym, ap, ap₂, ◌∙◌}
-use mathlib.Core.List.{List}
-use mathlib.Core.Bool.{Bool, false, cond}
-use lib.Dec.{ltb}
+use mathlib.Core.List.{List, [], ◌∷◌}
+use mathlib.Core.Bool.{Bool, true, false, cond}
+use lib.Dec.{eqb, ltb}
 use lib.ListN.{length, get_or}
 use lib.Seq.{sets}
-use borrow.Author.Tests.{lt-ltb, le-ltb}
+use borrow.Author.Tests.{lt-ltb, le-ltb, eqb-true, eqb-false}
 use Rattle.sizing.specs.declared.MinMax.{MinMax}
 use Rattle.sizing.specs.Words.{sizing_of_kind, sizing_of, min_max_of}
 use Rattle.template_rules.specs.Template.{template_of}
@@ -142,6 +142,28 @@ pairs_written s p words items a smi sma g before written middle last track count
     (z ∙ ap₂ (λ (l m : List ℕ). sets twice (place + 6 * (before + written)) (joined (positive_pair (spares_of l m) items (negative_of a + explicit_of a) last (track + before + written) g) (track + before + written) (count - before - written))) ei em
     ∙ ap (λ (n : AxisTracks). sets twice (place + 6 * (before + written)) (joined (positive_pair (spares_of low high) items (negative_of n + explicit_of n) last (track + before + written) g) (track + before + written) (count - before - written))) ea)
 
+-- the same of a stretch that is cut twice
+pub pairs_cut : (s : AxisGrid) (p : Plan) (words items : List ℕ) (a : AxisTracks) (smi sma : List ℕ) (g : Gutters) (before written middle last track count place : ℕ) (lent once twice thrice : List ℕ) (ef ec ep rf rc rp mf mc mp lf lc lp : ℕ) →
+    (ef ≡ track) × (ec ≡ before) × (ep ≡ place) → (rf ≡ track + before) × (rc ≡ count - before) × (rp ≡ place + 6 * before) →
+    (mf ≡ rf) × (mc ≡ written) × (mp ≡ rp) → (lf ≡ rf + written) × (lc ≡ rc - written) × (lp ≡ rp + 6 * written) →
+    a ≡ axis_tracks s → smi ≡ part_of words 4160 s.implicit.spares → sma ≡ part_of words 4224 s.implicit.spares → g ≡ gutters_of (axis_tracks s) p →
+    p.written ≡ written_count (axis_tracks s) (word_totals s.size.repetitions (part_of words 0 s.template.components)) →
+    before ≡ min (negative_of a - track) count → written ≡ min (negative_of a + p.written - rf) rc →
+    middle ≡ mf - negative_of a → last ≡ lf - (negative_of a + p.written) →
+    once ≡ sets lent ep (joined (spare_pair Negative (spares_of smi sma) items (length smi - negative_of a % length smi + ef) ef g) ef ec) →
+    twice ≡ sets once mp (joined (template_pair (word_totals s.size.repetitions (part_of words 0 s.template.components)) (template_in s words) items middle mf g) mf mc) →
+    thrice ≡ sets twice lp (joined (positive_pair (spares_of smi sma) items (negative_of a + explicit_of a) last lf g) lf lc) →
+    thrice ≡ sets lent place (joined (axis_pair (axis_tracks s) p (template_in s words) (spares_in s words) items) track count)
+pairs_cut s p words items a smi sma g before written middle last track count place lent once twice thrice ef ec ep rf rc rp mf mc mp lf lc lp e r m l ea ei em eg ew eb et ef' el x y z =
+    let far : lp ≡ place + 6 * (before + written) = omega (arith, r.2, l.2) in
+    pairs_written s p words items a smi sma g before written middle last track count place lent once twice thrice ea ei em eg ew eb
+    (rw (r.0, r.1) at et)
+    (rw (m.0, r.0) at ef')
+    (rw (l.0, r.0) at el)
+    (rw (e.0, e.1, e.2) at x)
+    (rw (m.0, m.1, m.2, r.0, r.2) at y)
+    (rw (l.0, l.1, far, r.0, r.1) at z)
+
 -- the word of an auto size
 auto-word : min_max_of 12884901888 12884901888 ≡ auto_size
 unfolding sizing_of sizing_of_kind
@@ -149,21 +171,33 @@ auto-word = refl
 
 module _ (mi ma items : List ℕ) (source : TrackSource) (offset t : ℕ) (g : Gutters) where
   -- where there are no spare sizes, a table of one auto size
-  pub pair-auto : (auto : List ℕ) → get_or auto 0 0 ≡ 12884901888 → length mi ≡ 0 → (j : ℕ) →
-      part_pair auto auto items (record { first = 0; length = 1; source = source; fit = false }) 0 t g (t + j) ≡ spare_pair source (spares_of mi ma) items offset t g (t + j)
+  pair-auto : (auto : List ℕ) → get_or auto 0 0 ≡ 12884901888 → length mi ≡ 0 → (j : ℕ) →
+      part_pair auto auto items (record { first = 0; length = 1; source = source; fit = false }) offset t g (t + j) ≡ spare_pair source (spares_of mi ma) items offset t g (t + j)
   pair-auto auto e h j =
-      let z : 0 + (0 + (t + j - t)) % 1 ≡ 0 = omega arith in
+      let z : 0 + (offset + (t + j - t)) % 1 ≡ 0 = omega arith in
       ap (λ (n : ℕ). pair_words g (item_at items) (t + j) (implicit source (min_max_of (get_or auto n 0) (get_or auto n 0)))) z
       ∙ ap (λ (w : ℕ). pair_words g (item_at items) (t + j) (implicit source (min_max_of w w))) e
       ∙ ap (λ (s : MinMax). pair_words g (item_at items) (t + j) (implicit source s)) (auto-word ∙ sym (spares_none mi ma (offset + (t + j - t)) h))
 
-  pub pair-spare : (length mi ≡ 0 → ⊥) → (j : ℕ) →
+  pair-spare : (length mi ≡ 0 → ⊥) → (j : ℕ) →
       part_pair mi ma items (record { first = 0; length = length mi; source = source; fit = false }) offset t g (t + j) ≡ spare_pair source (spares_of mi ma) items offset t g (t + j)
   pair-spare h j =
       let n = (offset + (t + j - t)) % length mi in
       let z : 0 + n ≡ n = omega arith in
       ap (λ (k : ℕ). pair_words g (item_at items) (t + j) (implicit source (min_max_of (get_or mi k 0) (get_or ma k 0)))) z
       ∙ sym (ap (λ (s : MinMax). pair_words g (item_at items) (t + j) (implicit source s)) (spares_get mi ma (offset + (t + j - t)) h))
+
+  -- in tables that hold one auto size where there are none
+  pub pair-or : (low high : List ℕ) (auto : ℕ) → auto ≡ 12884901888 → low ≡ cond (eqb (length mi) 0) (auto ∷ []) mi → high ≡ cond (eqb (length mi) 0) (auto ∷ []) ma → (j : ℕ) →
+      part_pair low high items (record { first = 0; length = length low; source = source; fit = false }) offset t g (t + j) ≡ spare_pair source (spares_of mi ma) items offset t g (t + j)
+  pair-or low high auto e l h j = go (eqb (length mi) 0) refl
+    where
+      pair : List ℕ → List ℕ → List ℕ
+      pair x y = part_pair x y items (record { first = 0; length = length x; source = source; fit = false }) offset t g (t + j)
+
+      go : (b : Bool) → eqb (length mi) 0 ≡ b → pair low high ≡ spare_pair source (spares_of mi ma) items offset t g (t + j)
+      go true k = ap₂ pair (l ∙ ap (λ (c : Bool). cond c (auto ∷ []) mi) k) (h ∙ ap (λ (c : Bool). cond c (auto ∷ []) ma) k) ∙ pair-auto (auto ∷ []) e (eqb-true (length mi) 0 k) j
+      go false k = ap₂ pair (l ∙ ap (λ (c : Bool). cond c (auto ∷ []) mi) k) (h ∙ ap (λ (c : Bool). cond c (auto ∷ []) ma) k) ∙ pair-spare (eqb-false (length mi) 0 k) j
 
 -- the tracks after those of the template in two runs: those that only an area makes, and those after the grid
 module _ (sp : List MinMax) (items : List ℕ) (end offset first : ℕ) (g : Gutters) where
@@ -176,7 +210,7 @@ module _ (sp : List MinMax) (items : List ℕ) (end offset first : ℕ) (g : Gut
       ap (λ (n : ℕ). pair_words g (item_at items) (first + areas + j) (implicit Positive (spare_at sp n))) z
       ∙ ap (λ (b : Bool). spare_pair (cond b Area Positive) sp items offset first g (first + areas + j)) (sym (le-ltb (first + areas + j) end (omega arith)))
 
-  pub positive-runs : (areas count place : ℕ) (lent once twice : List ℕ) → areas ≡ min (end - first) count →
+  positive-runs : (areas count place : ℕ) (lent once twice : List ℕ) → areas ≡ min (end - first) count →
       once ≡ sets lent place (joined (spare_pair Area sp items offset first g) first areas) →
       twice ≡ sets once (place + 6 * areas) (joined (spare_pair Positive sp items (offset + areas) (first + areas) g) (first + areas) (count - areas)) →
       twice ≡ sets lent place (joined (positive_pair sp items end offset first g) first count)
@@ -185,3 +219,12 @@ module _ (sp : List MinMax) (items : List ℕ) (end offset first : ℕ) (g : Gut
       (x ∙ ap (sets lent place) (joined_same (spare_pair Area sp items offset first g) (positive_pair sp items end offset first g) first areas (λ j k. area-pair j (taken-within areas end first count j e k))))
       (y ∙ ap (sets once (place + 6 * areas))
       (joined_same (spare_pair Positive sp items (offset + areas) (first + areas) g) (positive_pair sp items end offset first g) (first + areas) (count - areas) (λ j k. late-pair areas j (taken-past areas end first count j e k))))
+
+  -- the same of a stretch that is cut
+  pub positive-cut : (areas count place : ℕ) (lent once twice : List ℕ) (ef ec ep lf lc lp : ℕ) → (ef ≡ first) × (ec ≡ areas) × (ep ≡ place) → (lf ≡ first + areas) × (lc ≡ count - areas) × (lp ≡ place + 6 * areas) →
+      areas ≡ min (end - first) count →
+      once ≡ sets lent ep (joined (spare_pair Area sp items offset ef g) ef ec) →
+      twice ≡ sets once lp (joined (spare_pair Positive sp items (offset + areas) lf g) lf lc) →
+      twice ≡ sets lent place (joined (positive_pair sp items end offset first g) first count)
+  positive-cut areas count place lent once twice ef ec ep lf lc lp u v e x y =
+      positive-runs areas count place lent once twice e (rw (u.0, u.1, u.2) at x) (rw (v.0, v.1, v.2) at y)

@@ -147,6 +147,12 @@ module _ (a : AxisTracks) (cs : List Component) (sp : List MinMax) (items : List
 pub planned_count : (a : AxisTracks) (ws mi ma : List ℕ) (item : ℕ → Bool) (p : Plan) → p ≡ plan_of a (template_of ws mi ma) item → p.written ≡ written_count a (word_totals a.repetitions ws)
 planned_count a ws mi ma item p e = ap (λ (q : Plan). q.written) e ∙ (plan-written a (template_of ws mi ma) [] item ∙ ap (written_count a) (totals_words a.repetitions ws mi ma))
 
+-- how many tracks the template of an axis writes
+pub axis_written : (s : AxisGrid) (words items : List ℕ) (p : Plan) → p ≡ plan_of (axis_tracks s) (template_in s words) (item_at items) →
+    p.written ≡ written_count (axis_tracks s) (word_totals s.size.repetitions (part_of words 0 s.template.components))
+axis_written s words items p e =
+    planned_count (axis_tracks s) (part_of words 0 s.template.components) (part_of words 64 s.template.tracks) (part_of words 2112 s.template.tracks) (item_at items) p e
+
 -- one record, by its cursor
 pub edge_record : (a : AxisTracks) (ws mi ma : List ℕ) (sp : List MinMax) (items : List ℕ) (p : Plan) (u : Cursor) (r : GridTrack) (index : ℕ) →
     p ≡ plan_of a (template_of ws mi ma) (item_at items) → u ≡ cursor_at a (word_totals a.repetitions ws) ((index - 1) / 2) →

@@ -2,13 +2,14 @@
 
 #![tactic(auto)]
 
-ghost use Rattle.std.specs.Prelude.{◌≡◌, ◌+◌, ◌*◌, ◌≤◌, ◌<◌, length};
+ghost use Rattle.std.specs.Prelude.{◌≡◌, ◌+◌, ◌*◌, ◌-◌, ◌≤◌, ◌<◌, length};
 ghost use Rattle.std.proofs.lemmas.List.Edits.{sets};
-ghost use Rattle.track_rules.specs.Records.{tracks_in, records_in};
+ghost use Rattle.track_rules.specs.Records.{tracks_in, records_in, item_at};
+ghost use Rattle.track_rules.specs.Steps.{plan_of};
 ghost use Rattle.panel_tables.specs.Axes.{grid_in};
 ghost use Rattle.panel_tables.specs.Regions.{axis_words_in};
 ghost use Rattle.coordinates.specs.Refusals.{refused_by};
-ghost use Rattle.panel_rules.specs.Calls.{axis_tracks};
+ghost use Rattle.panel_rules.specs.Calls.{axis_tracks, template_in};
 ghost use Rattle.library_numbers.specs.Answers.{answered_count_numbers};
 ghost use Rattle.library_numbers.specs.Records.{run_words, run_refusal, run_count, WrittenRun, written_run};
 
@@ -17,9 +18,10 @@ use coordinates::{Axis, Fault};
 use panel_calls::axis_track::{LentAxis, axis_tracks, record_count};
 use panel_tables::Grid;
 use panel_tables::region::PANEL_WORDS;
+use template_rules::SizeTables;
 use track_record::Repeated;
 use track_record::plan::track_count;
-use track_rules::{Cursor, TrackSource};
+use track_rules::{Cursor, Plan, TrackSource};
 
 mod axis;
 mod edge;
@@ -45,10 +47,17 @@ pub(crate) struct Gutters {
 // What the tracks of a run are written from: the tables of their sizes, the item bytes, and what their gutters share.
 #[derive(Clone, Copy)]
 pub(crate) struct SizedTracks<'a> {
-    pub minimums: &'a [u64],
-    pub maximums: &'a [u64],
+    pub sizes: SizeTables<'a>,
     pub items: &'a [u8],
     pub gutters: Gutters,
+}
+
+// An axis that is lent, with what is worked out once for all its records.
+#[derive(Clone, Copy)]
+pub(crate) struct PlannedAxis<'a> {
+    pub lent: LentAxis<'a>,
+    pub plan: Plan,
+    ghost worked_out: { plan ≡ plan_of (axis_tracks lent.grid) (template_in lent.grid lent.tables.now) (item_at lent.items.now) },
 }
 
 // A stretch of tracks or records to write: the first, how many, and the place of their words.
@@ -59,6 +68,28 @@ pub(crate) struct Stretch {
     pub place: usize,
     // Numbers of tracks and records have 32 bits.
     ghost numbered: { first + count < 4294967296 },
+}
+
+impl Stretch {
+    // The first so many tracks of a stretch, and those after them.
+    fn cut(self, count: usize) -> (Stretch, Stretch)
+        requires count_bound { count ≤ self.count }
+        requires place_bound { self.place + 6 * self.count < 18446744073709551616 }
+        ensures early { (result.0.first ≡ self.first) × (result.0.count ≡ count) × (result.0.place ≡ self.place) }
+        ensures late { (result.1.first ≡ self.first + count) × (result.1.count ≡ self.count - count) × (result.1.place ≡ self.place + 6 * count) }
+    {
+        let early = Stretch {
+            first: self.first,
+            count,
+            place: self.place,
+        };
+        let late = Stretch {
+            first: self.first + count,
+            count: self.count - count,
+            place: self.place + 6 * count,
+        };
+        (early, late)
+    }
 }
 
 // A track to write: its number, the place of its size in the tables, where it comes from, and whether `fit` writes it.

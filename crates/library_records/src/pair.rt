@@ -50,7 +50,7 @@ impl SizedTracks<'_> {
     pub(crate) fn put_pair(self, track: PlacedTrack, words: &mut [u64], place: usize)
         requires number_bound { track.number < 4294967296 }
         requires place_in_bounds { place + 6 ≤ length words.old }
-        ensures { words.new ≡ sets words.old place (pair_words self.entry.gutters (item_at self.entry.items.now) track.number (record { size = min_max_of (get_or self.entry.minimums.now track.size 0) (get_or self.entry.maximums.now track.size 0); source = track.source; fit = track.fit })) }
+        ensures { words.new ≡ sets words.old place (pair_words self.entry.gutters (item_at self.entry.items.now) track.number (record { size = min_max_of (get_or self.entry.sizes.minimums.now track.size 0) (get_or self.entry.sizes.maximums.now track.size 0); source = track.source; fit = track.fit })) }
     {
         let collapsed = track_collapses(self.items, track.fit, track.number);
         put_record(
@@ -59,8 +59,8 @@ impl SizedTracks<'_> {
             GridTrackKind::Track,
             track.source,
             collapsed,
-            size_at(self.minimums, track.size),
-            size_at(self.maximums, track.size),
+            size_at(self.sizes.minimums, track.size),
+            size_at(self.sizes.maximums, track.size),
         );
         let gap = self.gutters.gap;
         let shut = gutter_collapses(collapsed, self.gutters.opened, track.number + 1);

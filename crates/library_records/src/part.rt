@@ -32,7 +32,7 @@ impl SizedTracks<'_> {
         requires length_nonzero { 0 < tracks.count → 0 < part.length }
         requires length_bound { part.first + part.length < 18446744073709551616 }
         requires count_in_bounds { tracks.place + 6 * tracks.count ≤ length words.old }
-        ensures { words.new ≡ sets words.old tracks.place (joined (part_pair self.entry.minimums.now self.entry.maximums.now self.entry.items.now part offset tracks.first self.entry.gutters) tracks.first tracks.count) }
+        ensures { words.new ≡ sets words.old tracks.place (joined (part_pair self.entry.sizes.minimums.now self.entry.sizes.maximums.now self.entry.items.now part offset tracks.first self.entry.gutters) tracks.first tracks.count) }
     {
         if tracks.count == 0 {
             return;

@@ -3,13 +3,10 @@ ghost use Rattle.std.specs.Prelude.{◌≡◌, get_or};
 ghost use Rattle.sizing.specs.Words.{sizing_of};
 ghost use Rattle.library_numbers.specs.Records.{size_word};
 
-use library_numbers::numbers::size_word;
+use coordinates::word_at;
 use sizing::Sizing;
+use sizing::definite::LARGEST_LENGTH;
 use sizing::range::word_in_range;
-use template_rules::component::word_at;
-
-// The word of the largest length.
-const LARGEST_LENGTH: u64 = 0x477f_ff00;
 
 // The word of the size that a word gives: one in range is its own.
 fn kept_word(word: u64) -> u64
@@ -21,7 +18,7 @@ fn kept_word(word: u64) -> u64
     if word_in_range(word) {
         return word;
     }
-    size_word(Sizing::from(word))
+    u64::from(Sizing::from(word))
 }
 
 // The word of the size at a place of a table.

@@ -9,7 +9,6 @@ ghost use Rattle.library_records.specs.Pairs.{joined, template_pair};
 use crate::taken::part_at;
 use crate::{Gutters, SizedTracks, Stretch};
 use panel_calls::axis_track::LentAxis;
-use panel_calls::part::template_on;
 use track_rules::Cursor;
 
 // Writes a stretch of tracks with the gutters after them: those of the template from its track `offset` on.
@@ -24,10 +23,9 @@ pub(crate) fn write_template(
     requires count_in_bounds { tracks.place + 6 * tracks.count ≤ length words.old }
     ensures { words.new ≡ sets words.old tracks.place (joined (template_pair (word_totals lent.entry.grid.size.repetitions (part_of lent.entry.tables.now 0 lent.entry.grid.template.components)) (template_in lent.entry.grid lent.entry.tables.now) lent.entry.items.now offset tracks.first gutters) tracks.first tracks.count) }
 {
-    let template = template_on(lent.grid, lent.tables);
+    let template = lent.template();
     let sized = SizedTracks {
-        minimums: template.minimums,
-        maximums: template.maximums,
+        sizes: template.sizes,
         items: lent.items,
         gutters,
     };
@@ -37,7 +35,7 @@ pub(crate) fn write_template(
     };
     let mut done: usize = 0;
     while done < tracks.count {
-        let left = tracks.count - done;
+        let left = (tracks.count - done) as u32;
         let part = part_at(template.components, lent.grid.size.repetitions, at, left);
         let stretch = Stretch {
             first: tracks.first + done,

@@ -1,40 +1,15 @@
--- Steps of `eq_bytes`, as a loop takes them.
-use mathlib.Core.Path.{◌≡◌, refl, ◌∙◌, ap}
-use mathlib.Core.Bool.{Bool, true, false, ◌&&◌}
+-- When names are the same bytes. Assumes nothing.
+use mathlib.Core.Path.{◌≡◌, refl, ap}
+use mathlib.Core.Bool.{Bool, true, ◌&&◌}
 use mathlib.Core.List.{List, [], ◌∷◌}
-use Prim.Native.Nat.{ℕ, suc, ◌+◌, ◌≤◌, ◌<◌}
-use native.Mathlib.Numerals.{add-one}
+use Prim.Native.Nat.{ℕ}
 use native.Mathlib.Omega.{arith}
-use borrow.Author.Tests.{ne_eqb, eq-eqb, eqb-true}
+use borrow.Author.Tests.{eq-eqb, eqb-true}
 use lib.Dec.{eqb}
-use lib.ListN.{length, get_or, drop, drop_of_length-le}
-use lib.Seq.{drop-cons}
+use lib.ListN.{length}
+use Rattle.std.specs.List.{list_all, zip}
 use Rattle.name_rules.specs.Rule.{eq_bytes}
 use Rattle.std.proofs.lemmas.Bool.{and_parts}
-
-same_step : (a b : List ℕ) (i : ℕ) → i < length a → i < length b
-    → eq_bytes (drop i a) (drop i b) ≡ (eqb (get_or a i 0) (get_or b i 0) && eq_bytes (drop (i + 1) a) (drop (i + 1) b))
-same_step a b i h g = rw (drop-cons a i 0 h, drop-cons b i 0 g, add-one i)
-
-pub same-differ : (a b : List ℕ) (i : ℕ) → i < length a → i < length b → (get_or a i 0 ≡ get_or b i 0 → ⊥) → eq_bytes (drop i a) (drop i b) ≡ false
-same-differ a b i h g out = same_step a b i h g ∙ rw (ne_eqb (get_or a i 0) (get_or b i 0) out)
-
-pub same-agree : (a b : List ℕ) (i : ℕ) → i < length a → i < length b → get_or a i 0 ≡ get_or b i 0
-    → eq_bytes (drop i a) (drop i b) ≡ eq_bytes (drop (i + 1) a) (drop (i + 1) b)
-same-agree a b i h g e = same_step a b i h g ∙ rw (eq-eqb (get_or a i 0) (get_or b i 0) e)
-
-pub same_end : (a b : List ℕ) (i : ℕ) → length a ≤ i → length b ≤ i → eq_bytes (drop i a) (drop i b) ≡ true
-same_end a b i h g = rw (drop_of_length-le a h, drop_of_length-le b g)
-
-pub same_length : (a b : List ℕ) → (length a ≡ length b → ⊥) → eq_bytes a b ≡ false
-same_length [] [] out = absurd (out refl)
-same_length [] (y ∷ b) out = refl
-same_length (x ∷ a) [] out = refl
-same_length (x ∷ a) (y ∷ b) out = go (eqb x y) (same_length a b (λ e. out (ap suc e)))
-  where
-    go : (t : Bool) → eq_bytes a b ≡ false → (t && eq_bytes a b) ≡ false
-    go true e = e
-    go false e = refl
 
 -- the same bytes are the same name
 pub same_sound : (a b : List ℕ) → eq_bytes a b ≡ true → a ≡ b
@@ -50,3 +25,10 @@ same_sound (x ∷ a) (y ∷ b) e =
 pub same_refl : (a : List ℕ) → eq_bytes a a ≡ true
 same_refl [] = refl
 same_refl (x ∷ a) = rw (eq-eqb x x refl, same_refl a)
+
+-- names of one length are the same where all their bytes are, one beside the other
+pub same_pairs : (a b : List ℕ) → length a ≡ length b → list_all (λ p. eqb p.0 p.1) (zip a b) ≡ eq_bytes a b
+same_pairs [] [] h = refl
+same_pairs [] (y ∷ b) h = absurd (omega arith)
+same_pairs (x ∷ a) [] h = absurd (omega arith)
+same_pairs (x ∷ a) (y ∷ b) h = ap (λ (t : Bool). eqb x y && t) (same_pairs a b (omega arith))

@@ -1,5 +1,5 @@
 -- Name entries as words: the line, the offset of the name in the store times 2^16, and its length times 2^32.
-use Rattle.std.specs.Prelude.{ℕ, ◌+◌, ◌*◌, ◌/◌, ◌%◌, List, map, take, drop}
+use Rattle.std.specs.Prelude.{ℕ, ◌+◌, ◌-◌, ◌*◌, ◌/◌, ◌%◌, min, List, map, take, drop}
 use Rattle.name_rules.specs.Css.{Bytes, Entry}
 use Rattle.name_entries.specs.declared.NameEntry.{NameEntry}
 
@@ -9,6 +9,10 @@ entry_of w = record { line = w % 65536; offset = w / 65536 % 65536; length = w /
 -- the bytes of a name, as far as the store reaches
 abbrev pub name_in : List ℕ → NameEntry → Bytes
 name_in store e = take e.length (drop e.offset store)
+
+-- an entry whose name is cut where a store of so many bytes ends
+abbrev pub cut_at : ℕ → NameEntry → NameEntry
+cut_at bytes e = record { line = e.line; offset = min e.offset bytes; length = min e.length (bytes - e.offset) }
 
 -- an entry with its name
 abbrev pub named_entry : List ℕ → NameEntry → Entry

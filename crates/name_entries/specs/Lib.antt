@@ -4,3 +4,4 @@ pub mod Names
 pub mod Enter
 pub mod LineNames
 pub mod LineEntries
+pub mod Places

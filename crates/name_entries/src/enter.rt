@@ -4,8 +4,9 @@ ghost use Rattle.coordinates.specs.Refusals.{refused_by};
 ghost use Rattle.name_entries.specs.Enter.{entry_refusal};
 
 use crate::name::is_name;
-use crate::{LAST_LINE, MOST_ENTRIES, STORE_BYTES};
+use crate::{LAST_LINE, MOST_ENTRIES};
 use coordinates::Fault;
+use coordinates::limit::STORE_BYTES;
 
 // Whether an entry can be made. `bytes` is the length of the store, `used` how many of them hold names, `count` how many entries there are.
 #[tactic(auto, unfolding(crate::specs::Enter::entry_refusal))]

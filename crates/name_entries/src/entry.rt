@@ -1,8 +1,9 @@
 // Entries as words. Any word gives one.
 ghost use Rattle.std.specs.Prelude.{◌≡◌, ◌%◌, ◌^◌};
-ghost use Rattle.name_entries.specs.Entries.{entry_of, name_in, word_of};
+ghost use Rattle.name_entries.specs.Entries.{cut_at, entry_of, name_in, word_of};
 
 use crate::NameEntry;
+use coordinates::part_of;
 
 impl From<u64> for NameEntry {
     ghost from_gives = { λ word entry. entry ≡ entry_of word };
@@ -28,10 +29,23 @@ impl From<NameEntry> for u64 {
     }
 }
 
+impl NameEntry {
+    // The same entry with its name cut where a store of so many bytes ends.
+    pub fn cut(self, bytes: usize) -> NameEntry
+        ensures { result ≡ cut_at bytes self }
+    {
+        let left = bytes.saturating_sub(self.offset as usize);
+        NameEntry {
+            line: self.line,
+            offset: (self.offset as usize).min(bytes) as u32,
+            length: (self.length as usize).min(left) as u32,
+        }
+    }
+}
+
 // The part of the store that holds an entry's name, cut where the store ends.
 pub fn name_in(store: &[u8], entry: NameEntry) -> &[u8]
     ensures { result.now ≡ name_in store.now entry }
 {
-    let rest = &store[store.len().min(entry.offset as usize)..];
-    &rest[..rest.len().min(entry.length as usize)]
+    part_of(store, entry.offset as usize, entry.length as usize)
 }

@@ -6,7 +6,6 @@ ghost use Rattle.name_entries.specs.Entries.{entry_of, named_entry, entries_of};
 ghost use Rattle.name_entries.specs.LineNames.{shows, line_count};
 ghost use Rattle.name_entries.specs.LineEntries.{line_entries_of, explicit_line_entries};
 
-use crate::bytes::same_bytes;
 use crate::entry::name_in;
 use crate::{NameEntry, Names};
 
@@ -20,20 +19,22 @@ pub fn line_count(count: u32, explicit: u32) -> u64
     u64::from(explicit) + 1
 }
 
-// Whether an entry is on the line and has the name.
-pub fn is_written(store: &[u8], entry: NameEntry, line: u32, name: &[u8]) -> bool
-    ensures { result ≡ written? name.now line (named_entry store.now entry) }
-{
-    entry.line == line && same_bytes(name_in(store, entry), name)
-}
-
 impl Names<'_> {
+    // Whether an entry is on the line and has the name.
+    pub fn is_written(self, entry: NameEntry, line: u32, name: &[u8]) -> bool
+        ensures { result ≡ written? name.now line (named_entry self.entry.store.now entry) }
+    {
+        entry.line == line && name_in(self.store, entry) == name
+    }
+
     // Whether one of the entries is on the line and has the name.
     #[tactic(auto, using(crate::proofs::Showing::any_words))]
     fn has_written(self, line: u32, name: &[u8]) -> bool
         ensures { result ≡ any (written? name.now line) (entries_of self.entry.entries.now self.entry.store.now) }
     {
-        self.entries.iter().any(|word| is_written(self.store, NameEntry::from(*word), line, name))
+        self.entries
+            .iter()
+            .any(|word| self.is_written(NameEntry::from(*word), line, name))
     }
 
     // Whether the entry at a place shows its name on the line: it is there, and no entry before has the name there. Past the end all entries are before.

@@ -2,12 +2,14 @@
 ghost use Rattle.std.specs.Prelude.{◌≡◌};
 ghost use Rattle.name_entries.specs.Names.{is_name};
 
+use coordinates::limit::LONGEST_NAME;
+
 // Whether these bytes are a name.
 #[tactic(auto, unfolding(crate::specs::Names::is_name))]
 pub fn is_name(name: &[u8]) -> bool
     ensures { result ≡ is_name name.now }
 {
-    if name.len() < 1 || 32 < name.len() {
+    if !(1..=LONGEST_NAME).contains(&name.len()) {
         return false;
     }
     name.iter().all(|byte| byte.is_ascii_graphic())

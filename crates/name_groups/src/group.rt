@@ -4,13 +4,12 @@ ghost use Rattle.name_groups.specs.Groups.{group_at, group_part, key_group, told
 ghost use Rattle.name_groups.specs.Keys.{joined_key};
 
 use crate::key::{Grouping, joined_key};
-use name_lines::GridAreaEnd;
+use name_lines::JoinedName;
 
-// Where the entries of a group lie, and whether they list the lines of one name.
-#[derive(Clone, Copy, Debug, PartialEq, Eq, Default)]
-pub struct Group {
-    pub first: usize,
-    pub end: usize,
+// The entries of a group, and whether they list the lines of one name.
+#[derive(Clone, Copy)]
+pub struct Group<'a> {
+    pub entries: &'a [u64],
     pub listed: bool,
 }
 
@@ -35,45 +34,39 @@ impl From<u64> for GroupWord {
     }
 }
 
-// The group of a key, by its word.
-fn group_at(index: &[u64], keys: usize, key: usize) -> Group
+// The group of a key, by its word. Its entries are cut where the index ends.
+#[tactic(auto, unfolding(crate::specs::Groups::group_part))]
+fn group_at(index: &[u64], keys: usize, key: usize) -> Group<'_>
     requires { keys ≤ 1024 }
-    ensures { result ≡ key_group keys index.now key }
+    ensures entries { result.entries.now ≡ group_part index.now (key_group keys index.now key) }
+    ensures listed { result.listed ≡ (key_group keys index.now key).listed }
 {
     let Some(word) = index.get(key) else {
-        return Group::default();
+        return Group {
+            entries: &[],
+            listed: false,
+        };
     };
     let told = GroupWord::from(*word);
     Group {
-        first: keys + told.first,
-        end: keys + told.end,
+        entries: index.get(keys + told.first..keys + told.end).unwrap_or(&[]),
         listed: told.unlisted == 0,
     }
 }
 
 // The group in which the entries of a name in two parts are kept: all entries where they are kept together.
-#[tactic(auto, unfolding(crate::specs::Groups::group_at))]
-pub fn group_of(index: &[u64], grouping: Grouping, stem: &[u8], edge: Option<GridAreaEnd>) -> Group
-    ensures { result ≡ group_at grouping index.now (joined_key grouping stem.now edge) }
+#[tactic(auto, unfolding(crate::specs::Groups::group_at, crate::specs::Groups::group_part), using(crate::proofs::Ungrouped::whole_part))]
+pub fn group_of<'a>(index: &'a [u64], grouping: Grouping, name: JoinedName) -> Group<'a>
+    ensures entries { result.entries.now ≡ group_part index.now (group_at grouping index.now (joined_key grouping name.entry.stem.now name.entry.edge)) }
+    ensures listed { result.listed ≡ (group_at grouping index.now (joined_key grouping name.entry.stem.now name.entry.edge)).listed }
 {
     match grouping {
         Grouping::Whole => Group {
-            first: 0,
-            end: index.len(),
+            entries: index,
             listed: false,
         },
-        Grouping::Few | Grouping::Many => group_at(
-            index,
-            grouping.key_count(),
-            joined_key(grouping, stem, edge),
-        ),
+        Grouping::Few | Grouping::Many => {
+            group_at(index, grouping.key_count(), joined_key(grouping, name))
+        }
     }
-}
-
-// The entries of a group, cut where they end.
-#[tactic(auto, unfolding(crate::specs::Groups::group_part))]
-pub fn group_part(index: &[u64], group: Group) -> &[u64]
-    ensures { result.now ≡ group_part index.now group }
-{
-    index.get(group.first..group.end).unwrap_or(&[])
 }

@@ -12,6 +12,30 @@ pub enum Way {
     Down,
 }
 
+// The n-th line of a name: on from a line or back from one, after so many lines of it.
+#[derive(Clone, Copy, Debug, PartialEq, Eq)]
+pub struct NthLine {
+    pub way: Way,
+    pub from: u32,
+    pub over: u32,
+}
+
+impl NthLine {
+    // The first line.
+    pub const FIRST: NthLine = NthLine {
+        way: Way::Up,
+        from: 0,
+        over: 0,
+    };
+}
+
+// A name in two parts: a stem, and the suffix of an edge or nothing after it.
+#[derive(Clone, Copy)]
+pub struct JoinedName<'a> {
+    pub stem: &'a [u8],
+    pub edge: Option<GridAreaEnd>,
+}
+
 // An edge of an area, and the end of a placement that is placed.
 #[derive(Clone, Copy, Debug, PartialEq, Eq)]
 pub enum GridAreaEnd {

@@ -4,7 +4,7 @@ ghost use Rattle.name_lines.specs.Suffixes.{edge_of, stem_of, tail_of};
 ghost use Rattle.name_entries.specs.Entries.{entry_of, name_in};
 ghost use Rattle.std.specs.Prelude.{◌++◌, ◌≡◌};
 
-use crate::GridAreaEnd;
+use crate::{GridAreaEnd, JoinedName};
 use name_entries::{NameEntry, bytes, entry};
 
 // `split_area_edge_name`: the edge of an area that a name stands for, where it ends in `-start` or `-end`.
@@ -48,13 +48,26 @@ pub fn is_joined(name: &[u8], stem: &[u8], tail: &[u8]) -> bool
         .is_some_and(|front| bytes::same_bytes(front, stem))
 }
 
-// Whether an entry has the name that is the stem followed by the suffix of the edge.
-pub fn has_name(store: &[u8], word: u64, stem: &[u8], edge: Option<GridAreaEnd>) -> bool
-    ensures { result ≡ eq_bytes (name_in store.now (entry_of word)) (stem.now ++ tail_of edge) }
+impl<'a> From<&'a [u8]> for JoinedName<'a> {
+    ghost from_gives = { λ name joined. (joined.edge ≡ edge_of name.now) × (joined.stem.now ≡ stem_of name.now (edge_of name.now)) };
+
+    // The parts of a name, by the edge that it stands for.
+    fn from(name: &'a [u8]) -> JoinedName<'a> {
+        let edge = edge_of(name);
+        JoinedName {
+            stem: stem_of(name, edge),
+            edge,
+        }
+    }
+}
+
+// Whether an entry has the name.
+pub fn has_name(store: &[u8], word: u64, name: JoinedName) -> bool
+    ensures { result ≡ eq_bytes (name_in store.now (entry_of word)) (name.entry.stem.now ++ tail_of name.entry.edge) }
 {
     is_joined(
         entry::name_in(store, NameEntry::from(word)),
-        stem,
-        tail_of(edge),
+        name.stem,
+        tail_of(name.edge),
     )
 }

@@ -41,7 +41,7 @@ module _ (explicit : ℕ) (words store lent after : List ℕ) where
   listed-refused fault e = rw (← e, ne_eqb (number_of fault) 0 (fault_some fault))
 
   -- what is written is the lists
-  pub listed-written : (n : ℕ) → number ≡ 0 → Written lent 0 (lists explicit words store) after n
+  pub listed-written : (n : ℕ) → number ≡ 0 → Written lent (lists explicit words store) after n
       → ◌≡◌ {A = NamesListed} (record { answer = answered_lists (Ok n); words = after }) (line_names_listed explicit words store lent)
   unfolding line_names_listed
   listed-written n z w =
@@ -50,7 +50,7 @@ module _ (explicit : ℕ) (words store lent after : List ℕ) where
 
   -- so a caller within the ranges has the lists
   pub listed-in-range : (r : ListedNames) → explicit ≤ 10000 → length words ≤ 4096 → 32768 ≤ length store
-      → ◌≡◌ {A = NamesListed} (record { answer = r; words = after }) (line_names_listed explicit words store lent) → Written lent 0 (lists explicit words store) after r.count
+      → ◌≡◌ {A = NamesListed} (record { answer = r; words = after }) (line_names_listed explicit words store lent) → Written lent (lists explicit words store) after r.count
   unfolding line_names_listed
   listed-in-range r a b c e =
       let z = in_range explicit (length words) (length store) a b c in
@@ -61,7 +61,7 @@ module _ (explicit : ℕ) (words store lent after : List ℕ) where
   -- and is answered with how many names there are
   pub listed-answered : (r : Result ℕ Fault) → explicit ≤ 10000 → length words ≤ 4096 → 32768 ≤ length store
       → ◌≡◌ {A = NamesListed} (record { answer = answered_lists r; words = after }) (line_names_listed explicit words store lent)
-      → (n : ℕ) × (r ≡ Ok n) × Written lent 0 (lists explicit words store) after n
+      → (n : ℕ) × (r ≡ Ok n) × Written lent (lists explicit words store) after n
   unfolding line_names_listed
   listed-answered (Ok n) a b c e = (n, refl, listed-in-range (answered_lists (Ok n)) a b c e)
   listed-answered (Err fault) a b c e =

@@ -5,40 +5,47 @@ use mathlib.Core.List.{List, [], ◌∷◌, ◌++◌, map}
 use Prim.Native.Nat.{ℕ, suc, ◌+◌, ◌-◌, ◌≤◌, ◌<◌}
 use native.Mathlib.Omega.{arith}
 use native.Mathlib.Numerals.{add-one}
-use lib.ListN.{length, get_or, take, drop, length-append, drop_of_length-le}
+use lib.ListN.{length, get_or, take, drop, set, length-append, drop_of_length-le}
 use lib.Seq.{sets, length-sets, drop-cons, take-suc}
-use Rattle.name_template.proofs.Placing.{sets_append}
+use borrow.Rule.Slice.PartMut.{put_mid}
+use Rattle.name_template.proofs.Placing.{sets_append, sets_part}
 use Rattle.name_entries.specs.declared.NameEntry.{NameEntry}
 use Rattle.name_entries.specs.Entries.{entry_of, named_entry, entries_of}
 use Rattle.name_entries.specs.LineNames.{shows}
 use Rattle.name_entries.specs.LineEntries.{entries_after}
 use Rattle.name_lists.specs.Lists.{part_word, line_words, lists_from, lists, Written, entry_words}
 
--- what is left to write when some of `count` words are there
-pub record Rests (lent : List ℕ) (count : ℕ) (whole now : List ℕ) (n : ℕ) (rest : List ℕ) : Type 0 where
-  pub words : sets now n rest ≡ sets lent count whole
-  pub counted : n + length rest ≡ count + length whole
+-- what is left to write where some are written
+pub record Rests (lent whole now : List ℕ) (n : ℕ) (rest : List ℕ) : Type 0 where
+  pub words : sets now n rest ≡ sets lent 0 whole
+  pub counted : n + length rest ≡ length whole
   pub kept : length now ≡ length lent
 
-module _ (lent : List ℕ) (count : ℕ) (whole : List ℕ) where
-  pub rests-all : Rests lent count whole lent count whole
-  rests-all = record { words = refl; counted = refl; kept = refl }
+module _ (lent whole : List ℕ) where
+  pub rests-all : Rests lent whole lent 0 whole
+  rests-all = record { words = refl; counted = omega arith; kept = refl }
 
   -- some of what is left are written
-  pub rests-next : (now after : List ℕ) (n next : ℕ) (part rest later : List ℕ) → Rests lent count whole now n rest → rest ≡ part ++ later → Written now n part after next →
-      Rests lent count whole after next later
-  rests-next now after n next part rest later r e w = record {
-    words = rw (w.words, w.counted) (sym (sets_append now n part later) ∙ ap (sets now n) (sym e) ∙ r.words);
-    counted = let a = ap length e ∙ length-append part later in omega (arith, a, w.counted, r.counted);
-    kept = ap length w.words ∙ length-sets now n part ∙ r.kept;
+  pub rests_set : (now after : List ℕ) (n next : ℕ) (part rest later : List ℕ) → Rests lent whole now n rest → rest ≡ part ++ later → after ≡ sets now n part → next ≡ n + length part →
+      Rests lent whole after next later
+  rests_set now after n next part rest later r e w k = record {
+    words = rw (w, k) (sym (sets_append now n part later) ∙ ap (sets now n) (sym e) ∙ r.words);
+    counted = let a = ap length e ∙ length-append part later in omega (arith, a, k, r.counted);
+    kept = ap length w ∙ length-sets now n part ∙ r.kept;
   }
 
+  -- they are written to the front of the words behind those that are there
+  pub rests-next : (now after : List ℕ) (n next : ℕ) (part rest later : List ℕ) → Rests lent whole now n rest → rest ≡ part ++ later → n ≤ length now →
+      Written (take (length now - n) (drop n now)) part after next → Rests lent whole (put_mid n (length now - n) now after) (n + next) later
+  rests-next now after n next part rest later r e h w =
+      rests_set now _ n (n + next) part rest later r e (rw w.words (sets_part now part n h)) (omega (arith, w.counted))
+
   -- and they fit
-  pub rests-fit : (now : List ℕ) (n : ℕ) (part rest later : List ℕ) → Rests lent count whole now n rest → rest ≡ part ++ later → count + length whole ≤ length lent →
+  pub rests-fit : (now : List ℕ) (n : ℕ) (part rest later : List ℕ) → Rests lent whole now n rest → rest ≡ part ++ later → length whole ≤ length lent →
       n + length part ≤ length now
   rests-fit now n part rest later r e h = let a = ap length e ∙ length-append part later in omega (arith, a, r.counted, r.kept)
 
-  pub rests-none : (now : List ℕ) (n : ℕ) (rest : List ℕ) → Rests lent count whole now n rest → rest ≡ [] → Written lent count whole now n
+  pub rests-none : (now : List ℕ) (n : ℕ) (rest : List ℕ) → Rests lent whole now n rest → rest ≡ [] → Written lent whole now n
   rests-none now n rest r e = record {
     words = ap (sets now n) (sym e) ∙ r.words;
     counted = let a = ap length e in omega (arith, a, r.counted);
@@ -69,6 +76,30 @@ module _ (entries store : List ℕ) (line : ℕ) where
   words-next i h =
       ap (map (part_word store)) (shown-step i h)
       ∙ words-if (shows line (entries_of (take i entries) store) (named_entry store (entry_of (get_or entries i 0)))) (entry_of (get_or entries i 0)) (shown_from line entries store (i + 1))
+
+  -- whether the entry at a place shows its name on the line
+  abbrev pub shown_at : ℕ → Bool
+  shown_at i = shows line (entries_of (take i entries) store) (named_entry store (entry_of (get_or entries i 0)))
+
+  module _ (lent now : List ℕ) (n i : ℕ) (less : i < length entries) (r : Rests lent (line_words entries store line) now n (words_from i)) where
+    word : ℕ
+    word = part_word store (entry_of (get_or entries i 0))
+
+    -- one that does is one word more
+    shown-next : shown_at i ≡ true → words_from i ≡ (word ∷ []) ++ words_from (i + 1)
+    unfolding word
+    shown-next h = words-next i less ∙ rw h
+
+    pub line-shown : shown_at i ≡ true → Rests lent (line_words entries store line) (set now n (part_word store (entry_of (get_or entries i 0)))) (n + 1) (words_from (i + 1))
+    unfolding word
+    line-shown h = rests_set lent (line_words entries store line) now _ n (n + 1) (word ∷ []) _ _ r (shown-next h) refl (omega arith)
+
+    pub line-room : shown_at i ≡ true → length (line_words entries store line) ≤ length lent → n < length now
+    line-room h fits = let f = rests-fit lent (line_words entries store line) now n (word ∷ []) _ _ r (shown-next h) fits in omega (arith, f)
+
+    -- another none
+    pub line-passed : shown_at i ≡ false → Rests lent (line_words entries store line) now n (words_from (i + 1))
+    line-passed h = rests_set lent (line_words entries store line) now now n n [] _ _ r (words-next i less ∙ rw h) refl (omega arith)
 
   pub words-end : (i : ℕ) → length entries ≤ i → words_from i ≡ []
   unfolding entries_after

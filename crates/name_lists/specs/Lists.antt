@@ -61,10 +61,10 @@ on_line line (w ∷ words) = cond (eqb (entry_of w).line line) (w ∷ on_line li
 
 -- ---- what the functions leave
 
--- some words written behind those that are there, and how many there are then
-pub record Written (lent : List ℕ) (count : ℕ) (run after : List ℕ) (r : ℕ) : Type 0 where
-  pub words : after ≡ sets lent count run
-  pub counted : r ≡ count + length run
+-- some words written to the front of others, and how many these are
+pub record Written (lent run after : List ℕ) (r : ℕ) : Type 0 where
+  pub words : after ≡ sets lent 0 run
+  pub counted : r ≡ length run
 
 -- the line of each entry
 abbrev pub line_keys : List ℕ → List ℕ

@@ -29,7 +29,7 @@ impl ExplicitNames<'_> {
     // Writes the lists: the quickest way, for entries that ascend.
     pub(crate) fn write_ascending(self, words: &mut [u64; MOST_ENTRIES]) -> usize
         requires { ascends self.names.entries.now ≡ true }
-        ensures { Written words.old 0 (lists self.entry.explicit self.entry.names.entries.now self.entry.names.store.now) words.new result }
+        ensures { Written words.old (lists self.entry.explicit self.entry.names.entries.now self.entry.names.store.now) words.new result }
     {
         let mut count: usize = 0;
         let mut at = entries_up_to(self.names.entries, 0);
@@ -39,7 +39,7 @@ impl ExplicitNames<'_> {
                 entries: &self.names.entries[at..end],
                 ..self.names
             };
-            count = write_line(own, line, words, count);
+            count += write_line(own, line, &mut words[count..]);
             at = end;
         }
         count

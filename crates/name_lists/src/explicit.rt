@@ -3,9 +3,6 @@ ghost use Rattle.std.specs.Prelude.{◌≤◌, length};
 
 use name_entries::Names;
 
-// The most explicit tracks.
-pub(crate) const MOST_TRACKS: u32 = coordinates::line::MOST_TRACKS as u32;
-
 // The names of an axis and its explicit tracks, no more of either than a panel has.
 #[derive(Clone, Copy)]
 pub(crate) struct ExplicitNames<'a> {

@@ -15,8 +15,10 @@ mod passes;
 
 use ascending::are_ascending;
 use coordinates::Fault;
-use explicit::{ExplicitNames, MOST_TRACKS};
-use name_entries::{MOST_ENTRIES, Names, STORE_BYTES};
+use coordinates::limit::STORE_BYTES;
+use coordinates::line::check_explicit;
+use explicit::ExplicitNames;
+use name_entries::{MOST_ENTRIES, Names};
 
 // Up to so many entries times lines, passes over the entries take less time than chains.
 const FEW: usize = 2048;
@@ -24,7 +26,7 @@ const FEW: usize = 2048;
 impl ExplicitNames<'_> {
     // Writes the lists of the explicit lines one after the other: the quickest way for these entries.
     fn write_lists(self, words: &mut [u64; MOST_ENTRIES]) -> usize
-        ensures { Written words.old 0 (lists self.entry.explicit self.entry.names.entries.now self.entry.names.store.now) words.new result }
+        ensures { Written words.old (lists self.entry.explicit self.entry.names.entries.now self.entry.names.store.now) words.new result }
     {
         if are_ascending(self.names.entries) {
             return self.write_ascending(words);
@@ -41,9 +43,7 @@ impl ExplicitNames<'_> {
 fn check_lists(explicit: u32, entries: usize, bytes: usize) -> Result<(), Fault>
     ensures { refused_by result ≡ line_names_refusal explicit entries bytes }
 {
-    if MOST_TRACKS < explicit {
-        return Err(Fault::Count);
-    }
+    check_explicit(explicit)?;
     if MOST_ENTRIES < entries {
         return Err(Fault::Crowded);
     }

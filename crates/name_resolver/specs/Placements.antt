@@ -1,5 +1,6 @@
 -- Placements as written and as resolved (document 01, "Panel sheet": kinds `auto line named span nspan`, each with its number).
-use Rattle.std.specs.Prelude.{ℕ, false, cond, List, leb, ℤ, pos, take, drop, Result, Ok, Err}
+use Rattle.std.specs.Prelude.{ℕ, false, cond, List, leb, ℤ, take, drop, Result, Ok, Err}
+use Rattle.coordinates.specs.Ends.{end_kind, end_number}
 use Rattle.coordinates.specs.Refusals.{Refusal, no_refusal, refusal_of, number_of, count}
 use Rattle.coordinates.specs.declared.refusal.Fault.{Fault}
 use Rattle.name_rules.specs.Css as Css
@@ -32,14 +33,10 @@ placement_of bytes (Written.NamedSpan n k) = Css.nspan (name_of bytes n) k
 
 -- the kinds `auto line span` of a resolved end are 0, 1 and 3, and its number is 0 where it has none
 abbrev pub resolved_kind_of : NonNamedGridPlacement → ℕ
-resolved_kind_of Plain.Auto = 0
-resolved_kind_of (Plain.Line g) = 1
-resolved_kind_of (Plain.Span k) = 3
+resolved_kind_of e = end_kind e
 
 abbrev pub resolved_number_of : NonNamedGridPlacement → ℤ
-resolved_number_of Plain.Auto = pos 0
-resolved_number_of (Plain.Line g) = g.0
-resolved_number_of (Plain.Span k) = pos k
+resolved_number_of e = end_number e
 
 -- what a resolved end says, in the words of CSS
 abbrev pub resolved_of : NonNamedGridPlacement → Css.Resolved

@@ -26,7 +26,7 @@ or_else (left m) s = s
 
 -- "takes the start or end edge of the area of that whole name, by the end being placed, else index 1": the edge, or the line that is counted to
 unfoldable pub found_by : (Bytes → ℕ → Bool) → Bytes → Question → Seek
-found_by names nm q = or_else (edge_found names nm q.edge) (walk q.way (λ (l : ℕ). names nm (suc l)) (start_of q.way q.from) q.over)
+found_by names nm q = or_else (edge_found names nm q.edge) (walk q.nth.way (λ (l : ℕ). names nm (suc l)) (start_of q.nth.way q.nth.from) q.nth.over)
 
 -- what an end that asks comes to; `bytes` hold the names of placements
 abbrev pub answered : (Bytes → ℕ → Bool) → List ℕ → ℕ → Asked → ResolvedEnd

@@ -100,17 +100,17 @@ line_found explicit Down from s = found_line s
 
 -- the end that a search resolves
 unfoldable pub found_end : ℕ → Question → Seek → ResolvedEnd
-found_end explicit q s = end_on_line explicit q.held (line_found explicit q.way q.from s)
+found_end explicit q s = end_on_line explicit q.held (line_found explicit q.nth.way q.nth.from s)
 
 -- the question of a count on from a line, a line before the first counting as the first
 abbrev pub question_ahead : Name → Option GridAreaEnd → ℤ → ℕ → Bool → Asked
 question_ahead name edge first over before =
-    Says.Line (record { name = name; edge = edge; way = Up; from = first_line first; over = over; held = before })
+    Says.Line (record { name = name; edge = edge; nth = record { way = Up; from = first_line first; over = over }; held = before })
 
 -- the question of a count back from a line, explicit lines only; before line 0 every line counts, and nothing is asked
 abbrev pub question_back : ℕ → Name → ℤ → ℕ → Bool → Asked
 question_back explicit name (pos l) over before =
-    Says.Line (record { name = name; edge = None; way = Down; from = suc (min l explicit); over = over; held = before })
+    Says.Line (record { name = name; edge = None; nth = record { way = Down; from = suc (min l explicit); over = over }; held = before })
 question_back explicit name (negsuc k) over before = Says.Resolved (end_on_line explicit before (negsuc (k + over)))
 
 -- the question of a count either way

@@ -8,7 +8,7 @@ use crate::count::Count;
 use crate::found::end_on_line;
 use crate::{Asked, End, GridPlacement, Name, NonNamedGridPlacement, Question, ResolvedEnd, count};
 use coordinates::{Fault, GridLine, Marked, MarkedLine, OriginZeroLine};
-use name_lines::{GridAreaEnd, Way};
+use name_lines::{GridAreaEnd, NthLine, Way};
 
 // The origin-zero line of a conversion, with its mark: 0 without one where it is refused.
 fn converted_line(answer: Result<MarkedLine, Fault>) -> MarkedLine
@@ -52,9 +52,11 @@ impl Counted {
             Ok(line) => Asked::Line(Question {
                 name: self.name,
                 edge: None,
-                way: Way::Down,
-                from: count::explicit_end(self.explicit, line),
-                over,
+                nth: NthLine {
+                    way: Way::Down,
+                    from: count::explicit_end(self.explicit, line),
+                    over,
+                },
                 held: self.held,
             }),
             Err(_) => {
@@ -72,9 +74,11 @@ impl Counted {
             Way::Up => Asked::Line(Question {
                 name: self.name,
                 edge,
-                way: Way::Up,
-                from: count::first_line(count.first),
-                over: count.over,
+                nth: NthLine {
+                    way: Way::Up,
+                    from: count::first_line(count.first),
+                    over: count.over,
+                },
                 held: self.held,
             }),
             Way::Down => self.question_back(count.first, count.over),

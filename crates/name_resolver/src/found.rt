@@ -28,10 +28,10 @@ pub(crate) fn end_on_line(explicit: u16, before: bool, line: MarkedLine) -> Reso
 
 // The line that a search came to, missing lines counted on past the explicit grid or before it, held, with its mark.
 fn line_found(explicit: u16, question: Question, found: Result<u32, u32>) -> MarkedLine
-    ensures { HeldAs (line_found explicit question.way question.from (seek_of found)) result }
+    ensures { HeldAs (line_found explicit question.nth.way question.nth.from (seek_of found)) result }
 {
-    match question.way {
-        Way::Up => count::line_forwards(explicit, question.from, found),
+    match question.nth.way {
+        Way::Up => count::line_forwards(explicit, question.nth.from, found),
         Way::Down => count::line_backwards(found),
     }
 }

@@ -9,7 +9,7 @@ pub mod ends;
 pub mod found;
 
 use coordinates::{GenericGridPlacement, GridLine, Line, Marked};
-use name_lines::{GridAreaEnd, Way};
+use name_lines::{GridAreaEnd, NthLine};
 
 // Where a placement's name lies in the lent bytes of the placements' names.
 #[derive(Clone, Copy, Debug, PartialEq, Eq)]
@@ -58,15 +58,12 @@ pub struct End {
     pub beside: Marked<GridLine>,
 }
 
-// The line of a name that an end asks for: an edge of its area first, where no number is written; which way its lines are counted, from which line, and past how many; whether a
-// line before it was held.
+// The line of a name that an end asks for: an edge of its area first, where no number is written, then the n-th line of the name; whether a line before it was held.
 #[derive(Clone, Copy, Debug, PartialEq, Eq)]
 pub struct Question {
     pub name: Name,
     pub edge: Option<GridAreaEnd>,
-    pub from: u32,
-    pub way: Way,
-    pub over: u32,
+    pub nth: NthLine,
     pub held: bool,
 }
 

@@ -3,23 +3,23 @@ use mathlib.Core.Path.{◌≡◌, refl, sym, ◌∙◌, ap, fun_ext}
 use mathlib.Core.Logic.{◌⊎◌, inl, inr, ⊎_elim}
 use mathlib.Core.Bool.{Bool}
 use mathlib.Core.List.Memᴰ
-use mathlib.Core.List.{List, [], ◌∷◌, ◌++◌, Memᴰ}
+use mathlib.Core.List.{[], ◌∷◌, ◌++◌, Memᴰ}
 use Prim.Native.Nat.{ℕ, zero, suc, ◌+◌, ◌-◌, ◌≤◌, ◌<◌}
 use native.Mathlib.Nat.{le_refl}
 use native.Mathlib.Omega.{arith}
-use lib.Dec.{T, leb→le, le→leb}
-use lib.IntN.{ℤ, pos, negsuc, ◌+ℤ◌, ◌-ℤ◌}
+use lib.Dec.{T, le→leb}
+use lib.IntN.{ℤ, pos, negsuc, ◌-ℤ◌}
 use lib.Signed.{◌≤ℤ◌}
 use Rattle.coordinates.specs.Lines.{held}
 use Rattle.coordinates.proofs.Integers.{minus_at, minus_past}
 use Rattle.coordinates.proofs.Lines.{lt_or_ge, held_ordered}
-use Rattle.name_rules.specs.Css.{Bytes, Entry, Area, Side, start, end, suffix, AxisNames, Named, written, drawn, Way, endward, startward, along, Counts, Nearest, Nth, CountsTo}
-use Rattle.name_rules.specs.Css.{Placement, auto, line, named, span, nspan}
+use Rattle.name_rules.specs.Css.{Bytes, Entry, Side, start, end, suffix, AxisNames, Named, written, drawn, Way, endward, startward, along, Counts, Nearest, Nth, CountsTo}
+use Rattle.name_rules.specs.Css.{Placement}
 use Rattle.name_rules.specs.Conditions.{used_names, NameLies, Agree, AgreeOn}
 use Rattle.name_rules.specs.OneMore.{OneMoreEntry, line_of_index, HasEdge, MovesLittle}
 use Rattle.name_rules.specs.Rule.{Seek, at, left, seek, top, forwards, backwards, named?, marks, or_first, resolve, held_ends}
 use Rattle.name_rules.proofs.Counting.{seek_first, seek-none, seek-below}
-use Rattle.name_rules.proofs.Lines.{Marked, forwards-index, backwards-index}
+use Rattle.name_rules.proofs.Lines.{forwards-index, backwards-index}
 use Rattle.name_rules.proofs.Names.{named→, →named}
 use Rattle.name_rules.proofs.Order.{same_lines, resolve-agrees-on, held-agrees-on}
 use Rattle.name_rules.proofs.Resolve.{all-marked}

@@ -2,7 +2,7 @@
 use Rattle.std.specs.Prelude.{◌≡◌, ◌⊎◌, ℕ, suc, ◌-◌, ◌≤◌, ℤ, pos, negsuc, ◌≤ℤ◌}
 use mathlib.Core.List.{◌∷◌, ◌++◌, Memᴰ}
 use Rattle.coordinates.specs.Lines.{held}
-use Rattle.name_rules.specs.Css.{Bytes, Entry, Side, start, end, suffix, AxisNames, Named, Placement, other}
+use Rattle.name_rules.specs.Css.{Bytes, Entry, Side, start, end, suffix, AxisNames, Named, Placement}
 use Rattle.name_rules.specs.Conditions.{used_names, NameLies, SameMembers}
 use Rattle.name_rules.specs.Rule.{named?, found, resolve, held_ends}
 

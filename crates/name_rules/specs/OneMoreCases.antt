@@ -1,6 +1,6 @@
 -- What each condition of request 13 is needed for: the smallest axes on which a name moves further without it, as one list under one test.
 use Rattle.std.specs.Prelude.{Bool, ◌&&◌, List, [], ◌∷◌, ℕ, ℤ, pos, negsuc}
-use Rattle.name_rules.specs.Css.{Entry, AxisNames, start, Placement, auto, named, nspan, Resolved, at_line}
+use Rattle.name_rules.specs.Css.{Entry, AxisNames, Placement, auto, named, nspan, at_line}
 use Rattle.name_rules.specs.Rule.{named?, resolve}
 use Rattle.name_rules.specs.Cases.{entry, letter_x, same_resolved}
 

@@ -1,6 +1,6 @@
 -- The rule of named.rs: `resolve_line_names` and what it calls. Which lines have a name is a predicate, so a line counts once, and
 -- neither the order of entries nor how they are kept plays a part.
-use Rattle.std.specs.Prelude.{Bool, true, false, ◌&&◌, ◌||◌, List, [], ◌∷◌, ◌++◌, ℕ, zero, suc, pred, ◌+◌, ◌-◌, max, min, ℤ, pos, negsuc, ◌+ℤ◌, ◌-ℤ◌, eqb}
+use Rattle.std.specs.Prelude.{Bool, true, false, ◌&&◌, ◌||◌, List, ◌++◌, ℕ, zero, suc, pred, ◌+◌, ◌-◌, max, min, ℤ, pos, negsuc, ◌+ℤ◌, ◌-ℤ◌, eqb}
 use Rattle.coordinates.specs.Lines.{held, outside, uncut, to_grid_line}
 use Rattle.std.specs.List.{list_any}
 use Rattle.std.specs.Str.{bytes_eq}

@@ -3,3 +3,4 @@ pub mod Distances
 pub mod Passes
 pub mod Walks
 pub mod Scanning
+pub mod Marked

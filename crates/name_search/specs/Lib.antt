@@ -2,3 +2,4 @@
 pub mod Sought
 pub mod Nearest
 pub mod Scans
+pub mod Marked

@@ -19,7 +19,7 @@ place_at Down k i = k - 1 - i
 
 -- the same name sought from line f on, or before it, after m lines of it
 abbrev pub part_of : Sought → ℕ → ℕ → Sought
-part_of s f m = record { axis = s.axis; edge = s.edge; way = s.way; from = f; over = m }
+part_of s f m = record { axis = s.axis; nth = record { way = s.nth.way; from = f; over = m } }
 
 -- the lines to look at from line f on, or before it, where none past line h has a name
 abbrev pub lines_sought : Way → ℕ → ℕ → Window

@@ -1,14 +1,14 @@
 // The drawn areas of an axis: the nearest of their edges that have a name, and these edges marked.
-ghost use Rattle.std.specs.Prelude.{◌+◌, suc, get_or, ◌≡◌};
+ghost use Rattle.std.specs.Prelude.{get_or, ◌≡◌};
 ghost use Rattle.name_rules.specs.Rule.{any, eq_bytes};
 ghost use Rattle.name_entries.specs.Entries.{entry_of, name_in};
 ghost use Rattle.name_lines.specs.Areas.{area_of, areas_of, edge_in, edged?, side_of};
-ghost use Rattle.name_lines.specs.Marks.{Adds};
+ghost use Rattle.name_search.specs.Marked.{Marked};
 ghost use Rattle.name_search.specs.Nearest.{Nearest, number_at};
 
-use crate::marks::{lies_in, mark_line};
+use crate::marks::Marks;
 use crate::{DrawnAreas, Sought};
-use coordinates::Axis;
+use coordinates::{Axis, word_at};
 use name_entries::NameEntry;
 use name_entries::bytes::same_bytes;
 use name_entries::entry::name_in;
@@ -23,13 +23,6 @@ pub(crate) fn edge_in(axis: Axis, end: GridAreaEnd, word: u64) -> u32
         GridAreaEnd::Start => (part % 0x1_0000) as u32,
         GridAreaEnd::End => (part / 0x1_0000 % 0x1_0000) as u32,
     }
-}
-
-// The word at a place, 0 past the end.
-fn word_at(words: &[u64], at: usize) -> u64
-    ensures { result ≡ get_or words.now at 0 }
-{
-    words.get(at).copied().unwrap_or(0)
 }
 
 // A drawn area: the word of its edges, the word of where its name lies, and the bytes of the names.
@@ -66,7 +59,7 @@ impl DrawnArea<'_> {
 
 // The distance of an area's edge where it is below `best` and the area has the name, else `best`. A name whose edge is not nearer is not looked at.
 fn nearest_area(sought: Sought, area: DrawnArea, name: &[u8], end: GridAreaEnd, best: u32) -> u32
-    ensures { Nearest (λ d. edged? name.now (side_of end) (number_at sought.way sought.from d) (area_of sought.axis area.entry.edges area.entry.name area.entry.store.now)) best result }
+    ensures { Nearest (λ d. edged? name.now (side_of end) (number_at sought.nth.way sought.nth.from d) (area_of sought.axis area.entry.edges area.entry.name area.entry.store.now)) best result }
 {
     let number = edge_in(sought.axis, end, area.edges);
     let near = sought.nearer(number, best);
@@ -84,7 +77,7 @@ pub(crate) fn nearest_areas(
     end: GridAreaEnd,
     limit: u32,
 ) -> u32
-    ensures { Nearest (λ d. any (edged? name.now (side_of end) (number_at sought.way sought.from d)) (areas_of sought.axis areas.entry.edges.now areas.entry.names.now areas.entry.store.now)) limit result }
+    ensures { Nearest (λ d. any (edged? name.now (side_of end) (number_at sought.nth.way sought.nth.from d)) (areas_of sought.axis areas.entry.edges.now areas.entry.names.now areas.entry.store.now)) limit result }
 {
     let mut best = limit;
     for (i, word) in areas.edges.iter().enumerate() {
@@ -93,27 +86,29 @@ pub(crate) fn nearest_areas(
     best
 }
 
-// Mark an edge of a drawn area that has the name. A name whose edge lies outside is not looked at.
-fn mark_area(marks: &mut [bool], sought: Sought, area: DrawnArea, name: &[u8], end: GridAreaEnd)
-    ensures { Adds marks.old marks.new (λ k. edged? name.now (side_of end) (suc (sought.from + k)) (area_of sought.axis area.entry.edges area.entry.name area.entry.store.now)) }
-{
-    let number = edge_in(sought.axis, end, area.edges);
-    if lies_in(sought.from, marks.len(), number) && area.is_named(name) {
-        mark_line(marks, sought.from, number);
+impl Marks {
+    // Mark an edge of a drawn area that has the name. A name whose edge lies outside is not looked at.
+    fn mark_area(&mut self, axis: Axis, area: DrawnArea, name: &[u8], end: GridAreaEnd)
+        ensures { Marked self.old self.new (λ n. edged? name.now (side_of end) n (area_of axis area.entry.edges area.entry.name area.entry.store.now)) }
+    {
+        let number = edge_in(axis, end, area.edges);
+        if self.holds(number) && area.is_named(name) {
+            self.mark_line(number);
+        }
     }
-}
 
-// Mark an edge of each drawn area that has the name.
-pub(crate) fn mark_areas(
-    marks: &mut [bool],
-    sought: Sought,
-    areas: DrawnAreas,
-    name: &[u8],
-    end: GridAreaEnd,
-)
-    ensures { Adds marks.old marks.new (λ k. any (edged? name.now (side_of end) (suc (sought.from + k))) (areas_of sought.axis areas.entry.edges.now areas.entry.names.now areas.entry.store.now)) }
-{
-    for (i, word) in areas.edges.iter().enumerate() {
-        mark_area(marks, sought, areas.area(i, *word), name, end);
+    // Mark an edge of each drawn area that has the name.
+    pub(crate) fn mark_areas(
+        &mut self,
+        axis: Axis,
+        areas: DrawnAreas,
+        name: &[u8],
+        end: GridAreaEnd,
+    )
+        ensures { Marked self.old self.new (λ n. any (edged? name.now (side_of end) n) (areas_of axis areas.entry.edges.now areas.entry.names.now areas.entry.store.now)) }
+    {
+        for (i, word) in areas.edges.iter().enumerate() {
+            self.mark_area(axis, areas.area(i, *word), name, end);
+        }
     }
 }

@@ -9,21 +9,21 @@ use name_lines::Way;
 impl Sought {
     // How many lines there are to look at: those on to the last that can have a name, or those back to the first.
     pub(crate) fn lines_on(self) -> u32
-        ensures { result ≡ reach self.way self.from }
+        ensures { result ≡ reach self.nth.way self.nth.from }
     {
-        match self.way {
-            Way::Up => LAST_LINE.saturating_sub(self.from),
-            Way::Down => self.from,
+        match self.nth.way {
+            Way::Up => LAST_LINE.saturating_sub(self.nth.from),
+            Way::Down => self.nth.from,
         }
     }
 
     // The distance of the line of a number from 1 where it is below `best`, else `best`.
     pub(crate) fn nearer(self, number: u32, best: u32) -> u32
-        ensures { Nearest (λ d. eqb number (number_at self.way self.from d)) best result }
+        ensures { Nearest (λ d. eqb number (number_at self.nth.way self.nth.from d)) best result }
     {
-        match self.way {
-            Way::Up if self.from < number => best.min(number - self.from - 1),
-            Way::Down if number <= self.from => best.min(self.from - number),
+        match self.nth.way {
+            Way::Up if self.nth.from < number => best.min(number - self.nth.from - 1),
+            Way::Down if number <= self.nth.from => best.min(self.nth.from - number),
             _ => best,
         }
     }

@@ -20,7 +20,7 @@ mod window;
 
 use coordinates::Axis;
 use name_entries::{LAST_LINE, Names};
-use name_lines::{GridAreaEnd, Way};
+use name_lines::{JoinedName, NthLine, Way};
 
 // The drawn areas of a panel: a word of edges and a word of where its name lies for each, and the bytes of the names.
 #[derive(Clone, Copy)]
@@ -30,23 +30,20 @@ pub struct DrawnAreas<'a> {
     pub store: &'a [u8],
 }
 
-// What is sought: in an axis the name that is a stem followed by the suffix of an edge, from a line on or before it, after so many lines of it.
+// What is sought: the n-th line in an axis.
 #[derive(Clone, Copy, Debug, PartialEq, Eq)]
 pub struct Sought {
     pub axis: Axis,
-    pub from: u32,
-    pub edge: Option<GridAreaEnd>,
-    pub over: u32,
-    pub way: Way,
+    pub nth: NthLine,
 }
 
-// A search: what is sought, the name entries and the drawn areas among whose lines it is sought, and the stem of the name.
+// A search: what is sought, of which name, and the name entries and the drawn areas among whose lines it is sought.
 #[derive(Clone, Copy)]
 pub struct Search<'a> {
     pub sought: Sought,
+    pub name: JoinedName<'a>,
     pub names: Names<'a>,
     pub areas: DrawnAreas<'a>,
-    pub stem: &'a [u8],
 }
 
 impl Sought {
@@ -54,7 +51,12 @@ impl Sought {
     fn part(self, from: u32, over: u32) -> Sought
         ensures { result ≡ part_of self from over }
     {
-        Sought { from, over, ..self }
+        let nth = NthLine {
+            from,
+            over,
+            ..self.nth
+        };
+        Sought { nth, ..self }
     }
 }
 
@@ -75,11 +77,11 @@ impl Search<'_> {
     // The line that is sought among the lines of the entries and the edges of the drawn areas, as far as line 20,000, or how many lines were still to be passed over.
     #[tactic(auto, unfolding(crate::specs::Sought::line_sought))]
     pub fn nth_line(self) -> Result<u32, u32>
-        ensures { seek_of result ≡ line_sought self.entry.sought (marks_in self.entry) }
+        ensures { seek_of result ≡ line_sought self.entry.sought.nth (marks_in self.entry) }
     {
         let sought = self.sought;
         let held = Search {
-            sought: sought.part(start_of(sought.way, sought.from), sought.over),
+            sought: sought.part(start_of(sought.nth.way, sought.nth.from), sought.nth.over),
             ..self
         };
         if self.names.entries.len() <= FEW && self.areas.edges.len() <= FEW {

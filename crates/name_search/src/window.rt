@@ -19,16 +19,16 @@ pub(crate) const WINDOW: u32 = 2048;
 impl Sought {
     // The lines that a search looks at, where none past the `highest` bears a name.
     pub(crate) fn lines_sought(self, highest: u32) -> Window
-        ensures { result ≡ lines_sought self.way self.from highest }
+        ensures { result ≡ lines_sought self.nth.way self.nth.from highest }
     {
-        match self.way {
+        match self.nth.way {
             Way::Up => Window {
-                low: self.from,
+                low: self.nth.from,
                 end: highest.min(LAST_LINE),
             },
             Way::Down => Window {
                 low: 0,
-                end: self.from.min(highest),
+                end: self.nth.from.min(highest),
             },
         }
     }

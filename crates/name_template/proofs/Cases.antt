@@ -4,7 +4,8 @@ use mathlib.Core.List.{List, [], ◌∷◌, map}
 use Prim.Native.Nat.{ℕ, ◌+◌, ◌*◌}
 use Rattle.template_rules.specs.Template.{component_of}
 use Rattle.name_entries.specs.declared.NameEntry.{NameEntry}
-use Rattle.name_template.specs.Records.{record_of, record_word, stands, leading}
+use Rattle.name_entries.specs.Places.{name_place}
+use Rattle.name_template.specs.Records.{record_word, stands, leading}
 use Rattle.name_template.specs.Writing.{repeated_names, line_after_repeat, written_from, written_entries}
 
 -- five names of one byte, at offsets 0 to 4
@@ -20,9 +21,9 @@ abbrev placed : NameEntry → ℕ
 placed e = e.line * 10 + e.offset
 
 twice : map placed (written_entries names (components 2) 0) ≡ 10 ∷ 21 ∷ 32 ∷ 43 ∷ 41 ∷ 52 ∷ 63 ∷ 64 ∷ []
-unfolding component_of record_of stands leading repeated_names line_after_repeat written_from
+unfolding component_of name_place stands leading repeated_names line_after_repeat written_from
 twice = refl
 
 never : map placed (written_entries names (components 0) 0) ≡ 10 ∷ 34 ∷ []
-unfolding component_of record_of stands leading repeated_names line_after_repeat written_from
+unfolding component_of name_place stands leading repeated_names line_after_repeat written_from
 never = refl

@@ -15,7 +15,8 @@ use Rattle.template_rules.specs.declared.RepetitionCount.TheVariants.{Single, Co
 use Rattle.name_rules.specs.Css.{Entry}
 use Rattle.name_rules.specs.Template.{Piece, Item, repeat, tracks_in, book_from, repeated, passed, rule_from}
 use Rattle.std.proofs.lemmas.Bool.{and_parts}
-use Rattle.name_template.specs.Records.{record_of, stands, leading, names_at, names_after}
+use Rattle.name_entries.specs.Places.{name_place}
+use Rattle.name_template.specs.Records.{stands, leading, names_at, names_after}
 use Rattle.name_template.specs.Writing.{entries_on, repeated_names, line_after_repeat, line_after, times_of, written_from}
 use Rattle.name_template.specs.Items.{labels, singles, pieces_from, item_of, items_from, Ordered, InOrder}
 use Rattle.name_template.proofs.Repeats.{past}
@@ -27,12 +28,12 @@ unfolding leading stands on_one
 before-names store k line [] = refl
 before-names store k line (w ∷ l) = by (stands false k w) refl (before-names store k line l)
   where
-    zero-place : stands false k w ≡ true → (record_of w).place ≡ 0
-    zero-place e = eqb-true (record_of w).place 0 (and_parts (eqb (record_of w).component k) (eqb (record_of w).place 0) e).1
+    zero-place : stands false k w ≡ true → (name_place w).place ≡ 0
+    zero-place e = eqb-true (name_place w).place 0 (and_parts (eqb (name_place w).component k) (eqb (name_place w).place 0) e).1
 
     by : (t : Bool) → stands false k w ≡ t → on_one line store (names_at false k l) ≡ named store (entries_on line (names_at false k l))
         → on_one line store (take (cond t (suc (leading false k l)) 0) (w ∷ l)) ≡ named store (entries_on line (take (cond t (suc (leading false k l)) 0) (w ∷ l)))
-    by true e h = let z = zero-place e in let s : line + ((record_of w).place - 1) ≡ line = omega arith in rw (s, h)
+    by true e h = let z = zero-place e in let s : line + ((name_place w).place - 1) ≡ line = omega arith in rw (s, h)
     by false e h = refl
 
 rule_singles : (line : ℕ) (store names : List ℕ) (rest : List Item) → rule_from line (singles (labels store names) ++ rest) ≡ on_one line store names ++ rule_from line rest

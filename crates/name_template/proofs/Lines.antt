@@ -15,7 +15,8 @@ use Rattle.name_entries.specs.declared.NameEntry.{NameEntry}
 use Rattle.name_entries.specs.Entries.{named_entry, entries_of}
 use Rattle.name_entries.specs.Enter.{Within}
 use Rattle.name_entries.proofs.Entering.{entry-word, entries_cons, entries_nil}
-use Rattle.name_template.specs.Records.{record_of, leading, names_at, names_after}
+use Rattle.name_entries.specs.Places.{name_place}
+use Rattle.name_template.specs.Records.{leading, names_at, names_after}
 use Rattle.name_template.specs.Writing.{names_written, entries_on, repeated_names, line_after_repeat, line_after, times_of, written_from, written_entries, entry_word}
 use Rattle.name_template.specs.Lines.{Placed, Below, FewTracks}
 use Rattle.name_template.proofs.Repeats.{past, line_bound}
@@ -48,9 +49,9 @@ placed-both last used (e ∷ l) m h g = (h.0, h.1, h.2, h.3, h.4, placed-both la
 on_placed : (line last used : ℕ) (names : List ℕ) → Below used names → 1 ≤ line → line + 254 ≤ last → Placed last used (entries_on line names)
 on_placed line last used [] below h g = tt
 on_placed line last used (w ∷ l) below h g =
-    let x = small-place w (record_of w) refl in
-    let y = small-offset w (record_of w) refl in
-    let z = small-length w (record_of w) refl in
+    let x = small-place w (name_place w) refl in
+    let y = small-offset w (name_place w) refl in
+    let z = small-length w (name_place w) refl in
     (omega arith, omega arith, below.0, omega arith, omega arith, on_placed line last used l below.1 h g)
 
 repeat_placed : (n line t b used : ℕ) (names : List ℕ) → Below used names → 1 ≤ line → line ≤ b → 10000 ≤ b

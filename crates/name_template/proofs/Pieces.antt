@@ -11,7 +11,7 @@ use Rattle.name_rules.specs.Css.{Entry}
 use Rattle.name_rules.specs.Template.{Piece, track, tracks_in, book_from}
 use Rattle.name_entries.specs.declared.NameEntry.{NameEntry}
 use Rattle.name_entries.specs.Entries.{named_entry}
-use Rattle.name_template.specs.Records.{record_of}
+use Rattle.name_entries.specs.Places.{name_place}
 use Rattle.name_template.specs.Writing.{entries_on}
 use Rattle.name_template.specs.Items.{name_of, labels, reached, pieces_from, Ordered}
 
@@ -49,8 +49,8 @@ unfolding on_one
 same_place b i store [] h = refl
 same_place b i store (w ∷ l) h =
     let x = h.0 in let y = h.1 in
-    let p : (record_of w).place ≡ i + 1 = omega arith in
-    let e : b + ((record_of w).place - 1) ≡ b + i = omega arith in
+    let p : (name_place w).place ≡ i + 1 = omega arith in
+    let e : b + ((name_place w).place - 1) ≡ b + i = omega arith in
     rw (e, same_place b i store l (rw p at h.2))
 
 -- the records up to i tracks, and those after
@@ -62,24 +62,24 @@ unfolding reached
 taken_ordered i last [] h = tt
 taken_ordered i last (w ∷ l) h =
     ⊎_elim
-    (λ (g : (record_of w).place ≤ i + 1).
+    (λ (g : (name_place w).place ≤ i + 1).
     let x = h.0 in
-    let p : (record_of w).place ≡ i + 1 = omega arith in
-    rw (le-leb (record_of w).place (i + 1) g) (x, g, rw p (taken_ordered i last l (rw p at h.2))))
-    (λ (g : i + 1 < (record_of w).place). rw (lt-leb (record_of w).place (i + 1) g) tt)
-    (either (record_of w).place i)
+    let p : (name_place w).place ≡ i + 1 = omega arith in
+    rw (le-leb (name_place w).place (i + 1) g) (x, g, rw p (taken_ordered i last l (rw p at h.2))))
+    (λ (g : i + 1 < (name_place w).place). rw (lt-leb (name_place w).place (i + 1) g) tt)
+    (either (name_place w).place i)
 
 dropped_ordered : (i last : ℕ) (names : List ℕ) → Ordered (i + 1) last names → Ordered (suc i + 1) last (drop (reached i names) names)
 unfolding reached
 dropped_ordered i last [] h = tt
 dropped_ordered i last (w ∷ l) h =
     ⊎_elim
-    (λ (g : (record_of w).place ≤ i + 1).
+    (λ (g : (name_place w).place ≤ i + 1).
     let x = h.0 in
-    let p : (record_of w).place ≡ i + 1 = omega arith in
-    rw (le-leb (record_of w).place (i + 1) g) (dropped_ordered i last l (rw p at h.2)))
-    (λ (g : i + 1 < (record_of w).place). rw (lt-leb (record_of w).place (i + 1) g) (omega arith, h.1, h.2))
-    (either (record_of w).place i)
+    let p : (name_place w).place ≡ i + 1 = omega arith in
+    rw (le-leb (name_place w).place (i + 1) g) (dropped_ordered i last l (rw p at h.2)))
+    (λ (g : i + 1 < (name_place w).place). rw (lt-leb (name_place w).place (i + 1) g) (omega arith, h.1, h.2))
+    (either (name_place w).place i)
 
 on_append : (b : ℕ) (l m : List ℕ) → entries_on b (l ++ m) ≡ entries_on b l ++ entries_on b m
 on_append b [] m = refl

@@ -1,36 +1,56 @@
 -- Entries placed one after the other in a table.
-use mathlib.Core.Path.{◌≡◌, refl, ◌∙◌}
-use mathlib.Core.List.{List, [], ◌∷◌, ◌++◌, map}
+use mathlib.Core.Path.{◌≡◌, refl, sym, ◌∙◌, ap}
+use mathlib.Core.List.{List, [], ◌∷◌, ◌++◌, map, append-nil}
+use borrow.Rule.Slice.PartMut.{put_mid}
 use Prim.Native.Nat.{ℕ, zero, suc, ◌+◌, ◌-◌, ◌*◌, ◌≤◌}
 use native.Mathlib.Nat.{suc-mul}
 use native.Mathlib.Omega.{arith}
-use lib.ListN.{length, take, drop, set, length-map, length-drop}
-use lib.Seq.{sets, length-take-le}
+use lib.ListN.{length, take, drop, set, length-map, length-drop, take-append-drop, drop_of_length-le}
+use lib.Seq.{sets, length-take-le, take_all}
 use Rattle.std.proofs.lemmas.List.{map-append}
 use Rattle.name_entries.specs.declared.NameEntry.{NameEntry}
-use Rattle.name_template.specs.declared.NameRecord.{NameRecord}
+use Rattle.name_entries.specs.declared.NamePlace.{NamePlace}
 use Rattle.name_template.specs.declared.ComponentNames.{ComponentNames}
-use Rattle.name_template.specs.Records.{record_of}
+use Rattle.name_entries.specs.Places.{name_place}
 use Rattle.name_template.specs.Writing.{entry_on, entries_on, entry_word}
 use Rattle.name_template.specs.Steps.{copies_on, component_count, component_entries}
 
 -- a word holds small numbers
-module _ (w : ℕ) (r : NameRecord) (e : r ≡ record_of w) where
+module _ (w : ℕ) (r : NamePlace) (e : r ≡ name_place w) where
   pub small-place : r.place ≤ 255
-  unfolding record_of
+  unfolding name_place
   small-place = rw e (omega arith)
 
   pub small-offset : r.offset ≤ 65535
-  unfolding record_of
+  unfolding name_place
   small-offset = rw e (omega arith)
 
   pub small-length : r.length ≤ 255
-  unfolding record_of
+  unfolding name_place
   small-length = rw e (omega arith)
 
 pub sets_append : (d : List ℕ) (o : ℕ) (l m : List ℕ) → sets d o (l ++ m) ≡ sets (sets d o l) (o + length l) m
 sets_append d o [] m = let e : o + 0 ≡ o = omega arith in rw e
 sets_append d o (x ∷ l) m = let e : o + suc (length l) ≡ suc o + length l = omega arith in rw e (sets_append (set d o x) (suc o) l m)
+
+-- what is set in a part of a list from a place on is set in the list behind that place
+set_behind : (p q : List ℕ) (i x : ℕ) → set (p ++ q) (length p + i) x ≡ p ++ set q i x
+set_behind [] q i x = let e : 0 + i ≡ i = omega arith in rw e
+set_behind (y ∷ p) q i x = let e : suc (length p) + i ≡ suc (length p + i) = omega arith in rw (e, set_behind p q i x)
+
+sets_behind : (p q xs : List ℕ) (i : ℕ) → sets (p ++ q) (length p + i) xs ≡ p ++ sets q i xs
+sets_behind p q [] i = refl
+sets_behind p q (x ∷ xs) i =
+    let e : suc (length p + i) ≡ length p + suc i = omega arith in
+    rw (set_behind p q i x, e) (sets_behind p (set q i x) xs (suc i))
+
+pub sets_part : (l xs : List ℕ) (o : ℕ) → o ≤ length l → put_mid o (length l - o) l (sets (take (length l - o) (drop o l)) 0 xs) ≡ sets l o xs
+sets_part l xs o h =
+    let d : take (length l - o) (drop o l) ≡ drop o l = take_all (length l - o) (drop o l) (rw length-drop (omega arith)) in
+    let z : drop (length l - o) (drop o l) ≡ [] = drop_of_length-le (drop o l) (rw length-drop (omega arith)) in
+    let n : length (take o l) + 0 ≡ o = rw (length-take-le o l h) (omega arith) in
+    rw (d, z, append-nil (sets (drop o l) 0 xs))
+    (sym (sets_behind (take o l) (drop o l) xs 0) ∙ rw (n, take-append-drop o l))
 
 -- two runs of entries, one after the other
 pub placed-append : (d : List ℕ) (o : ℕ) (l m : List NameEntry)
@@ -64,15 +84,16 @@ pub part_length : (names : List ℕ) (from to : ℕ) → from ≤ to → to ≤ 
 part_length names from to h g = length-take-le (to - from) (drop from names) (rw length-drop (omega arith))
 
 -- a component's names before it, and then those inside it
-pub component-placed : (names d once all : List ℕ) (at line o r : ℕ) (c : ComponentNames) → at ≤ c.before → c.before ≤ c.inside → c.inside ≤ length names
-    → once ≡ sets d o (map entry_word (entries_on line (take (c.before - at) (drop at names))))
-    → r ≡ o + (c.before - at) + c.times * length (take (c.inside - c.before) (drop c.before names))
-    → all ≡ sets once (o + (c.before - at)) (map entry_word (copies_on c.times line c.tracks (take (c.inside - c.before) (drop c.before names))))
-    → (r ≡ o + component_count at c) × (all ≡ sets d o (map entry_word (component_entries names at c line)))
-component-placed names d once all at line o r c x y z one count copies =
+pub component-placed : (names d once all : List ℕ) (at line r : ℕ) (c : ComponentNames) → at ≤ c.before → c.before ≤ c.inside → c.inside ≤ length names
+    → once ≡ sets d 0 (map entry_word (entries_on line (take (c.before - at) (drop at names))))
+    → r ≡ c.times * length (take (c.inside - c.before) (drop c.before names))
+    → all ≡ sets once (c.before - at) (map entry_word (copies_on c.times line c.tracks (take (c.inside - c.before) (drop c.before names))))
+    → ((c.before - at) + r ≡ component_count at c) × (all ≡ sets d 0 (map entry_word (component_entries names at c line)))
+component-placed names d once all at line r c x y z one count copies =
     let p : length (entries_on line (take (c.before - at) (drop at names))) ≡ c.before - at =
     rw length-map (part_length names at c.before x (omega arith)) in
-    let q = part_length names c.before c.inside y z in (
-      rw q at count ∙ omega arith,
-      copies ∙ rw (one, placed-append d o (entries_on line (take (c.before - at) (drop at names))) (copies_on c.times line c.tracks (take (c.inside - c.before) (drop c.before names))), p),
+    let q = part_length names c.before c.inside y z in
+    let n : 0 + (c.before - at) ≡ c.before - at = omega arith in (
+      ap (λ (m : ℕ). (c.before - at) + m) (rw q at count),
+      copies ∙ rw (one, placed-append d 0 (entries_on line (take (c.before - at) (drop at names))) (copies_on c.times line c.tracks (take (c.inside - c.before) (drop c.before names))), p, n),
     )

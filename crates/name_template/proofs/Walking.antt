@@ -14,7 +14,8 @@ use lib.ListN.{length, take, drop, length-append, length-drop, length-map, drop_
 use lib.Seq.{drop-drop, sets, length-take-le}
 use Rattle.template_rules.specs.Template.{component_of}
 use Rattle.name_template.specs.declared.ComponentNames.{ComponentNames}
-use Rattle.name_template.specs.Records.{record_of, stands, leading}
+use Rattle.name_entries.specs.Places.{name_place}
+use Rattle.name_template.specs.Records.{stands, leading}
 use Rattle.name_template.specs.Writing.{entries_on, line_after, times_of, written_from, entry_word}
 use Rattle.name_template.specs.Steps.{repetitions_written, copies_on, component_names, component_count, component_entries, Writable}
 use Rattle.name_template.proofs.Placing.{placed-append, part_length}
@@ -36,7 +37,7 @@ ends_within inside k names at h = let g = leading_le inside k (drop at names) in
 
 -- no record names a component from 256 on
 none_stand : (inside : Bool) (k w : ℕ) → 256 ≤ k → stands inside k w ≡ false
-unfolding stands record_of
+unfolding stands name_place
 none_stand inside k w h = rw (ne_eqb (w % 256) k (λ e. omega arith))
 
 none_lead : (inside : Bool) (k : ℕ) (names : List ℕ) → 256 ≤ k → leading inside k names ≡ 0
@@ -174,8 +175,8 @@ stands-next names at w k line repetitions r met f h =
 
 -- the next component can be written where there is room for what remains
 pub writable : (names : List ℕ) (at w k line repetitions : ℕ) (r : ComponentNames) → r ≡ component_names names at w k line repetitions
-    → r.tracks ≤ 65535 → Stands names at line k → k ≤ 256 → (room place : ℕ) → place + component_count at r ≤ room → Writable names at r line room place
-writable names at w k line repetitions r met f h few room place fits =
+    → r.tracks ≤ 65535 → Stands names at line k → k ≤ 256 → (room : ℕ) → component_count at r ≤ room → Writable names at r line room
+writable names at w k line repetitions r met f h few room fits =
     let t = met-last names at w k line repetitions r met h.placed (10001 + 65536 * k) f h.low (omega arith) in
     record {
       from = met-before names at w k line repetitions r met h.placed;

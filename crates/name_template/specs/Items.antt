@@ -5,11 +5,12 @@ use Rattle.template_rules.specs.declared.RepetitionCount.{RepetitionCount}
 use Rattle.template_rules.specs.declared.RepetitionCount.TheVariants.{Single, Count, AutoFill, AutoFit}
 use Rattle.name_rules.specs.Css.{Bytes}
 use Rattle.name_rules.specs.Template.{Piece, label, track, Item, single, repeat}
-use Rattle.name_template.specs.Records.{record_of, names_at, names_after}
+use Rattle.name_entries.specs.Places.{name_place}
+use Rattle.name_template.specs.Records.{names_at, names_after}
 
 -- the name of a record
 abbrev pub name_of : List ℕ → ℕ → Bytes
-name_of store w = take (record_of w).length (drop (record_of w).offset store)
+name_of store w = take (name_place w).length (drop (name_place w).offset store)
 
 abbrev pub labels : List ℕ → List ℕ → List Piece
 labels store names = map (λ (w : ℕ). label (name_of store w)) names
@@ -20,7 +21,7 @@ singles pieces = map single pieces
 -- how many of the first records stand at most i tracks into their repeat
 unfoldable pub reached : ℕ → List ℕ → ℕ
 reached i [] = 0
-reached i (w ∷ l) = cond (leb (record_of w).place (i + 1)) (suc (reached i l)) 0
+reached i (w ∷ l) = cond (leb (name_place w).place (i + 1)) (suc (reached i l)) 0
 
 -- the pieces of a repeat from i tracks on, with n tracks to come
 unfoldable pub pieces_from : List ℕ → ℕ → ℕ → List ℕ → List Piece
@@ -47,7 +48,7 @@ items_from store repetitions k names (w ∷ components) =
 -- places that never fall, from `low` to `last`
 abbrev pub Ordered : ℕ → ℕ → List ℕ → Type 0
 Ordered low last [] = Unit {0}
-Ordered low last (w ∷ l) = (low ≤ (record_of w).place) × ((record_of w).place ≤ last) × Ordered (record_of w).place last l
+Ordered low last (w ∷ l) = (low ≤ (name_place w).place) × ((name_place w).place ≤ last) × Ordered (name_place w).place last l
 
 -- the records inside each component stand in order, none after its last track
 unfoldable pub InOrder : ℕ → List ℕ → List ℕ → Type 0

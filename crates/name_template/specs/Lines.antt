@@ -1,7 +1,7 @@
 -- Where the written entries lie, on a template within document 01's "Panel ranges".
 use Rattle.std.specs.Prelude.{ℕ, ◌+◌, ◌≤◌, ◌<◌, List, [], ◌∷◌}
 use Rattle.template_rules.specs.Template.{component_of}
-use Rattle.name_template.specs.Records.{record_of}
+use Rattle.name_entries.specs.Places.{name_place}
 use Rattle.name_entries.specs.declared.NameEntry.{NameEntry}
 
 -- every entry is on a line from 1 to `last`, its bytes lie below `used`, and its offset and length fit a word
@@ -13,7 +13,7 @@ Placed last used (e ∷ l) =
 -- the bytes of every record lie below `used`
 abbrev pub Below : ℕ → List ℕ → Type 0
 Below used [] = Unit {0}
-Below used (w ∷ l) = ((record_of w).offset + (record_of w).length ≤ used) × Below used l
+Below used (w ∷ l) = ((name_place w).offset + (name_place w).length ≤ used) × Below used l
 
 -- at most 32 tracks in each component
 abbrev pub FewTracks : List ℕ → Type 0

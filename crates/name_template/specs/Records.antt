@@ -1,10 +1,7 @@
 -- Name records as words, in sheet order: the component (bits 0 to 7), the place (bits 8 to 15: 0 before the component, i + 1 inside it
 -- after i of its tracks), the offset of the name in the store (bits 16 to 31) and its length (bits 32 to 39).
-use Rattle.std.specs.Prelude.{ℕ, suc, ◌+◌, ◌*◌, ◌/◌, ◌%◌, Bool, cond, ◌&&◌, List, [], ◌∷◌, eqb, ltb, take, drop}
-use Rattle.name_template.specs.declared.NameRecord.{NameRecord}
-
-unfoldable pub record_of : ℕ → NameRecord
-record_of w = record { component = w % 256; place = w / 256 % 256; offset = w / 65536 % 65536; length = w / 4294967296 % 256 }
+use Rattle.std.specs.Prelude.{ℕ, suc, ◌+◌, ◌*◌, Bool, cond, ◌&&◌, List, [], ◌∷◌, eqb, ltb, take, drop}
+use Rattle.name_entries.specs.Places.{name_place}
 
 -- the word of a record
 abbrev pub record_word : ℕ → ℕ → ℕ → ℕ → ℕ
@@ -12,7 +9,7 @@ record_word component place offset length = component + place * 256 + offset * 6
 
 -- whether a record stands before component k, or inside it
 unfoldable pub stands : Bool → ℕ → ℕ → Bool
-stands inside k w = eqb (record_of w).component k && cond inside (ltb 0 (record_of w).place) (eqb (record_of w).place 0)
+stands inside k w = eqb (name_place w).component k && cond inside (ltb 0 (name_place w).place) (eqb (name_place w).place 0)
 
 -- how many of the first records stand there
 unfoldable pub leading : Bool → ℕ → List ℕ → ℕ

@@ -39,9 +39,9 @@ component_entries names at c line =
     entries_on line (take (c.before - at) (drop at names)) ++ copies_on c.times line c.tracks (take (c.inside - c.before) (drop c.before names))
 
 -- the records are there, lines are small, and the table has room
-pub record Writable (names : List ℕ) (at : ℕ) (c : ComponentNames) (line room place : ℕ) : Type 0 where
+pub record Writable (names : List ℕ) (at : ℕ) (c : ComponentNames) (line room : ℕ) : Type 0 where
   pub from : at ≤ c.before
   pub to : c.before ≤ c.inside
   pub within : c.inside ≤ length names
   pub low : line + c.times * c.tracks ≤ 2147483648
-  pub fits : place + component_count at c ≤ room
+  pub fits : component_count at c ≤ room

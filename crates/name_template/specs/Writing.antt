@@ -8,11 +8,12 @@ use Rattle.template_rules.specs.declared.RepetitionCount.{RepetitionCount}
 use Rattle.template_rules.specs.declared.RepetitionCount.TheVariants.{Single, Count, AutoFill, AutoFit}
 use Rattle.name_entries.specs.Entries.{word_of}
 use Rattle.name_entries.specs.declared.NameEntry.{NameEntry}
-use Rattle.name_template.specs.Records.{record_of, names_at, names_after}
+use Rattle.name_entries.specs.Places.{name_place}
+use Rattle.name_template.specs.Records.{names_at, names_after}
 
 -- a record's entry where its component, or the repetition, begins on that line
 abbrev pub entry_on : ℕ → ℕ → NameEntry
-entry_on line w = record { line = line + ((record_of w).place - 1); offset = (record_of w).offset; length = (record_of w).length }
+entry_on line w = record { line = line + ((name_place w).place - 1); offset = (name_place w).offset; length = (name_place w).length }
 
 abbrev pub entries_on : ℕ → List ℕ → List NameEntry
 entries_on line names = map (entry_on line) names

@@ -4,84 +4,76 @@ ghost use Rattle.std.proofs.lemmas.List.Edits.{sets};
 ghost use Rattle.name_template.specs.Writing.{answered_names, entry_on, entries_on, written_entries, entry_word, names_written};
 ghost use Rattle.name_template.specs.Steps.{copies_on, component_count, component_entries, Writable};
 
-use crate::{ComponentNames, MOST_COMPONENTS, NameRecord, TemplateNames};
+use crate::{ComponentNames, MOST_COMPONENTS, TemplateNames};
 use coordinates::Fault;
-use name_entries::{MOST_ENTRIES, NameEntry};
+use name_entries::{MOST_ENTRIES, NameEntry, NamePlace};
 
 // The word of a record's entry, where its component or the repetition begins on that line.
-#[tactic(auto, unfolding(crate::specs::Records::record_of))]
+#[tactic(auto, unfolding(name_entries::specs::Places::name_place))]
 fn word_on(line: u64, word: u64) -> u64
     requires { line ≤ 2147483648 }
     ensures { result ≡ entry_word (entry_on line word) }
 {
-    let record = NameRecord::from(word);
-    let on = line + record.place.saturating_sub(1);
+    let record = NamePlace::from(word);
+    let on = line + u64::from(record.place.saturating_sub(1));
     u64::from(NameEntry {
         line: on as u32,
-        offset: record.offset as u32,
-        length: record.length as u32,
+        offset: record.offset,
+        length: record.length,
     })
 }
 
-// Writes the entries of some records, one after the other from a place on.
-fn write_once(names: &[u64], line: u64, entries: &mut [u64], place: usize)
-    requires { (line ≤ 2147483648) × (place + length names.now ≤ length entries.old) }
-    ensures { entries.new ≡ sets entries.old place (map entry_word (entries_on line names.now)) }
+// Writes the entries of some records to the front of others, one after the other.
+fn write_once(names: &[u64], line: u64, entries: &mut [u64])
+    requires { (line ≤ 2147483648) × (length names.now ≤ length entries.old) }
+    ensures { entries.new ≡ sets entries.old 0 (map entry_word (entries_on line names.now)) }
 {
     for (j, word) in names.iter().enumerate() {
-        entries[place + j] = word_on(line, *word);
+        entries[j] = word_on(line, *word);
     }
 }
 
-// Writes the entries of some records so many times, each time so many lines further on. Answers the place after them.
-fn write_copies(
-    names: &[u64],
-    times: u64,
-    line: u64,
-    tracks: u64,
-    entries: &mut [u64],
-    place: usize,
-) -> usize
-    requires { (line + times * tracks ≤ 2147483648) × (place + times * length names.now ≤ length entries.old) }
-    ensures { (result ≡ place + times * length names.now) × (entries.new ≡ sets entries.old place (map entry_word (copies_on times line tracks names.now))) }
+// Writes the entries of some records so many times, each time so many lines further on. Answers how many these are.
+fn write_copies(names: &[u64], times: u64, line: u64, tracks: u64, entries: &mut [u64]) -> usize
+    requires { (line + times * tracks ≤ 2147483648) × (times * length names.now ≤ length entries.old) }
+    ensures { (result ≡ times * length names.now) × (entries.new ≡ sets entries.old 0 (map entry_word (copies_on times line tracks names.now))) }
 {
     if names.is_empty() {
-        return place;
+        return 0;
     }
     let mut on = line;
-    let mut o = place;
+    let mut count = 0;
     for done in 0..times {
-        write_once(names, on, entries, o);
+        write_once(names, on, &mut entries[count..]);
         on += tracks;
-        o += names.len();
+        count += names.len();
     }
-    o
+    count
 }
 
 impl TemplateNames<'_> {
-    // Writes the entries of a component's names. Answers the place after them.
+    // Writes the entries of a component's names. Answers how many these are.
     fn write_component(
         self,
         at: usize,
         component: ComponentNames,
         line: u64,
         entries: &mut [u64],
-        place: usize,
     ) -> usize
-        requires { Writable self.names.now at component line (length entries.old) place }
-        ensures { (result ≡ place + component_count at component) × (entries.new ≡ sets entries.old place (map entry_word (component_entries self.entry.names.now at component line))) }
+        requires { Writable self.names.now at component line (length entries.old) }
+        ensures { (result ≡ component_count at component) × (entries.new ≡ sets entries.old 0 (map entry_word (component_entries self.entry.names.now at component line))) }
     {
         let before = &self.names[at..component.before];
         let inside = &self.names[component.before..component.inside];
-        write_once(before, line, entries, place);
-        write_copies(
+        write_once(before, line, entries);
+        let copies = write_copies(
             inside,
             component.times,
             line,
             component.tracks,
-            entries,
-            place + before.len(),
-        )
+            &mut entries[before.len()..],
+        );
+        before.len() + copies
     }
 
     // Writes all entries that the records give.
@@ -90,17 +82,17 @@ impl TemplateNames<'_> {
         ensures { entries.new ≡ sets entries.old 0 (map entry_word (written_entries self.entry.names.now self.entry.components.now self.entry.repetitions)) }
     {
         let last = self.components.len().min(MOST_COMPONENTS);
-        let mut o: usize = 0;
+        let mut count: usize = 0;
         let mut at: usize = 0;
         let mut line: u64 = 1;
         for k in 0..last {
             let c = self.component_names(at, k, line);
-            o = self.write_component(at, c, line, entries, o);
+            count += self.write_component(at, c, line, &mut entries[count..]);
             at = c.inside;
             line = c.line;
         }
         let end = self.end_of_names(at, last as u64, false);
-        write_once(&self.names[at..end], line, entries, o);
+        write_once(&self.names[at..end], line, &mut entries[count..]);
     }
 
     // Writes the template's names into the first places of the table of entries, and answers how many there are. 8: more than 4,096 of them.

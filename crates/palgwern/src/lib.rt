@@ -21,7 +21,7 @@ mod cursor;
 mod hits;
 pub mod resize;
 
-use axis_tables::layout::AXIS_BYTES;
+use coordinates::limit::PLACEMENT_RUN;
 use coordinates::{Axis, Fault};
 use library_names::{LINE_NAME_RUN, write_lists};
 use library_numbers::axis::entry_in_no_axis;
@@ -33,7 +33,7 @@ use panel_names::LentNames;
 use panel_names::entering::enter_name;
 use panel_names::naming::line_entry;
 use panel_resolving::placing::resolve_placement;
-use panel_resolving::run::{PLACEMENT_RUN, write_placements};
+use panel_resolving::run::write_placements;
 use panel_tables::region::{PANEL_BYTES, PANEL_WORDS};
 use panel_tables::{Grid, LentPanel, Panel};
 
@@ -157,9 +157,7 @@ fn place_name(
     ensures { ShowsName grid (lent_tables lent.entry) axis line place (answered_name result) }
 {
     let axis = axis_in(axis)?;
-    if lent.shorter_store() < AXIS_BYTES {
-        return Err(Fault::Short);
-    }
+    lent.check_stores()?;
     let entry = line_entry(grid, lent, axis, line, place);
     Ok(part::name_part(lent.store(axis).len(), entry))
 }

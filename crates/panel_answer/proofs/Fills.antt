@@ -5,16 +5,10 @@ use mathlib.Core.Bool.{Bool, true, false, cond, true≢false}
 use mathlib.Core.List.{List, [], ◌∷◌, ◌++◌, append-nil, append_assoc}
 use native.Mathlib.Omega.{arith}
 use lib.Dec.{eqb}
-use borrow.Author.Tests.{ne_eqb}
 use lib.ListN.{length, take, drop, length-append, length-drop, drop_of_length-le}
 use lib.Seq.{sets, sets-eq, length-sets, drop-drop, take_all}
 use Rattle.name_template.proofs.Placing.{sets_append}
 use Rattle.std.specs.Prelude.{Option, Some, None, is_some}
-use Rattle.coordinates.specs.Refusals.{number_of}
-use Rattle.coordinates.proofs.Faults.{fault_some}
-use Rattle.sheet_rules.specs.declared.SheetFault.{SheetFault}
-use Rattle.sheet_rules.specs.declared.SheetFault.TheVariants.{Overlap as Overlaps, Line, Whole}
-use Rattle.sheet_rules.specs.Answers.{refused_with}
 use Rattle.sheet_rules.specs.Read.{SheetRead}
 use Rattle.coordinates.specs.declared.axis.Axis.TheVariants.{Column, Row}
 use Rattle.panel_text.specs.Written.{WritesLine}
@@ -90,12 +84,6 @@ begun_text r = go (eqb r.answer.refusal.number 0)
     go false =
         text-next (record { grid = r.answer.panel.grid; tables = r.tables }) (Refused r.answer.refusal) (omega arith)
         ∙ ap (λ (z : List ℕ). refused_line r.answer.refusal ++ z) (text-end (record { grid = r.answer.panel.grid; tables = r.tables }))
-
--- a sheet that is refused begins with its refusal
-pub first-refused : (f : SheetFault) → Refused (refused_with f).refusal ≡ first_line (refused_with f)
-first-refused (Overlaps p) = refl
-first-refused (Line f) = rw (ne_eqb (number_of f.fault) 0 (fault_some f.fault))
-first-refused (Whole fault) = rw (ne_eqb (number_of fault) 0 (fault_some fault))
 
 module _ (out₀ : List ℕ) (h : GridHeld) (at : AnswerLine) where
   pub none_written : WritesUpTo out₀ h at at out₀ 0

@@ -1,4 +1,4 @@
--- A line of an answer in this paper's numbers, any refusal among them, and the lines that the calls take and answer as such lines.
+-- A line of an answer, where a refusal is any number and any line, and the lines that the calls take and answer as such lines.
 use Rattle.std.specs.Prelude.{ℕ, Option, Some, None}
 use Rattle.coordinates.specs.declared.axis.Axis.{Axis}
 use Rattle.coordinates.specs.Refusals.{Refusal}

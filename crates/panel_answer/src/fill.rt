@@ -12,7 +12,6 @@ use crate::line::{next_line, put_line};
 use crate::{AnswerLine, Begun, Filled};
 use coordinates::Axis;
 use panel_tables::region::{PANEL_BYTES, PANEL_WORDS};
-use panel_tables::state::zero_panel;
 use panel_tables::{Grid, LentPanel, Panel};
 use panel_text::LINE_BYTES;
 use sheet::read_sheet;
@@ -29,7 +28,7 @@ fn begin_with(read: Result<Panel, SheetFault>) -> Begun
             first: AnswerLine::Size(Axis::Column),
         },
         Err(fault) => Begun {
-            grid: zero_panel().grid,
+            grid: Grid::default(),
             first: AnswerLine::Refused(fault),
         },
     }
@@ -60,7 +59,7 @@ pub fn fill(out: &mut [u8], grid: Grid, lent: LentPanel, at: Option<AnswerLine>)
             return Filled { count, next };
         }
         count += put_line(&mut out[count..], grid, lent, line);
-        next = next_line(grid, lent.words, lent.bytes, line);
+        next = next_line(grid, lent, line);
     }
     Filled { count, next }
 }

@@ -10,28 +10,15 @@ ghost use Rattle.panel_answer.specs.Walk.{line_text, next_line};
 ghost use Rattle.coordinates.specs.declared.axis.Axis.TheVariants.{Column, Row};
 
 use crate::{AnswerLine, axis, place};
-use coordinates::Fault;
-use panel_tables::region::{PANEL_BYTES, PANEL_WORDS};
 use panel_tables::{Grid, LentPanel};
-use sheet_rules::SheetFault;
+use sheet_rules::{LineFault, SheetFault};
 
 // The line of a refused sheet.
 fn put_refused(out: &mut [u8], fault: SheetFault) -> usize
     ensures { WritesLine out.old (refused_line (refused_with fault).refusal) out.new result }
 {
-    match fault {
-        SheetFault::Overlap(overlap) => panel_text::refused_line(
-            out,
-            u32::from(Fault::Overlap),
-            overlap.line,
-        ),
-        SheetFault::Line(found) => panel_text::refused_line(
-            out,
-            u32::from(found.fault),
-            found.line,
-        ),
-        SheetFault::Whole(fault) => panel_text::refused_line(out, u32::from(fault), 0),
-    }
+    let told = LineFault::from(fault);
+    panel_text::refused_line(out, u32::from(told.fault), told.line)
 }
 
 // Writes a line at the start of lent bytes and answers its length.
@@ -50,22 +37,17 @@ pub fn put_line(out: &mut [u8], grid: Grid, lent: LentPanel, at: AnswerLine) -> 
 }
 
 // The line after a line, where one is left.
-pub fn next_line(
-    grid: Grid,
-    words: &[u64; PANEL_WORDS],
-    bytes: &[u8; PANEL_BYTES],
-    at: AnswerLine,
-) -> Option<AnswerLine>
-    ensures { answered_next result ≡ next_line grid (axis_words_in Column words.now) (axis_words_in Row words.now) (marks_in Column bytes.now) (marks_in Row bytes.now) (answered_line at) }
+pub fn next_line(grid: Grid, lent: LentPanel, at: AnswerLine) -> Option<AnswerLine>
+    ensures { answered_next result ≡ next_line grid (axis_words_in Column lent.entry.words.now) (axis_words_in Row lent.entry.words.now) (marks_in Column lent.entry.bytes.now) (marks_in Row lent.entry.bytes.now) (answered_line at) }
 {
     match at {
         AnswerLine::Refused(_) => None,
         AnswerLine::Size(axis) => {
-            let lent = axis::lent_on(grid, words, bytes, axis);
+            let lent = axis::lent_on(grid, lent.words, lent.bytes, axis);
             Some(axis::first_record(lent, axis))
         }
         AnswerLine::Record(axis, index, state) => {
-            let lent = axis::lent_on(grid, words, bytes, axis);
+            let lent = axis::lent_on(grid, lent.words, lent.bytes, axis);
             axis::next_record(grid, lent, axis, index, state)
         }
         AnswerLine::Place(index) => place::place_from(grid, index as u64 + 1),

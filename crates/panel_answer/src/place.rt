@@ -24,7 +24,7 @@ pub(crate) fn put_place(out: &mut [u8], grid: Grid, lent: LentPanel, index: u32)
     ensures { WritesLine out.old (placed_line (resolve_placement grid (lent_names lent.entry) (lent_areas lent.entry) (lent_placements lent.entry) index)) out.new result }
 {
     match resolve_placement(grid, lent, index) {
-        Ok(placed) => panel_text::place_line(out, placed.axis, placed.line),
+        Ok(answer) => panel_text::place_line(out, answer.axis, answer.placed.line),
         Err(_) => panel_text::place_line(out, Axis::Column, ZERO_LINE),
     }
 }

@@ -2,9 +2,10 @@
 ghost use Rattle.std.specs.Prelude.{◌≡◌, min};
 ghost use Rattle.template_rules.specs.Template.{components_of};
 ghost use Rattle.track_rules.specs.Tracks.{answered_record};
-ghost use Rattle.track_rules.specs.Written.{spares_of};
+ghost use Rattle.track_rules.specs.Written.{spare_sizes};
 ghost use Rattle.track_rules.specs.Records.{item_at, records_in};
 ghost use Rattle.track_rules.specs.Steps.{plan_of};
+ghost use Rattle.axis_tables.specs.Runs.{part_of};
 ghost use Rattle.panel_tables.specs.Axes.{grid_in};
 ghost use Rattle.panel_tables.specs.Regions.{axis_words_in};
 ghost use Rattle.panel_rules.specs.Calls.{axis_tracks, template_in, spares_in, track_record};
@@ -17,6 +18,7 @@ use coordinates::{Axis, Fault};
 use panel_tables::Grid;
 use panel_tables::axis::grid_in;
 use panel_tables::region::{PANEL_WORDS, axis_words};
+use template_rules::Template;
 use track_counts::TrackCounts;
 use track_record::LentTracks;
 use track_rules::{AxisTracks, GridTrack, Plan, TrackWalk};
@@ -56,7 +58,7 @@ pub fn axis_tracks(grid: AxisGrid) -> AxisTracks
 pub fn record_count(grid: AxisGrid) -> u32
     ensures { result ≡ records_in (axis_tracks grid) }
 {
-    2 * track_record::plan::track_count(axis_tracks(grid)) + 1
+    track_record::plan::record_count(axis_tracks(grid))
 }
 
 impl<'a> LentAxis<'a> {
@@ -78,14 +80,24 @@ impl<'a> LentAxis<'a> {
         }
     }
 
+    // Its template.
+    pub fn template(self) -> Template<'a>
+        ensures template { components_of result ≡ template_in self.entry.grid self.entry.tables.now }
+        ensures components { result.components.now ≡ part_of self.entry.tables.now 0 self.entry.grid.template.components }
+        ensures minimums { result.sizes.minimums.now ≡ part_of self.entry.tables.now 64 self.entry.grid.template.tracks }
+        ensures maximums { result.sizes.maximums.now ≡ part_of self.entry.tables.now 2112 self.entry.grid.template.tracks }
+    {
+        template_on(self.grid, self.tables)
+    }
+
     // The tables of its tracks.
     pub(crate) fn tracks(self) -> LentTracks<'a>
         ensures template { components_of result.template ≡ template_in self.entry.grid self.entry.tables.now }
-        ensures spares { spares_of result.spares.minimums.now result.spares.maximums.now ≡ spares_in self.entry.grid self.entry.tables.now }
+        ensures spares { spare_sizes result.spares ≡ spares_in self.entry.grid self.entry.tables.now }
         ensures items { result.items.now ≡ self.entry.items.now }
     {
         LentTracks {
-            template: template_on(self.grid, self.tables),
+            template: self.template(),
             spares: spares_on(self.grid, self.tables),
             items: self.items,
         }
@@ -103,16 +115,14 @@ impl<'a> LentAxis<'a> {
     pub fn plan(self) -> Plan
         ensures { result ≡ plan_of (axis_tracks self.entry.grid) (template_in self.entry.grid self.entry.tables.now) (item_at self.entry.items.now) }
     {
-        let template = template_on(self.grid, self.tables);
-        track_record::plan::make_plan(template, self.items, axis_tracks(self.grid))
+        self.tracks().make_plan(axis_tracks(self.grid))
     }
 
     // What is carried to record `index`.
     pub fn begin(self, index: usize) -> TrackWalk
         ensures { result ≡ carried_to self.entry.grid self.entry.tables.now self.entry.items.now index }
     {
-        let template = template_on(self.grid, self.tables);
-        track_record::rule::begin_at(template, self.items, axis_tracks(self.grid), index)
+        self.tracks().begin_at(axis_tracks(self.grid), index)
     }
 
     // What is carried to record 0.
@@ -134,6 +144,6 @@ impl<'a> LentAxis<'a> {
     pub fn next(self, at: TrackWalk, index: usize) -> TrackWalk
         ensures { result ≡ carried_on self.entry.grid self.entry.tables.now at index }
     {
-        track_run::state::advance(template_on(self.grid, self.tables).components, at, index)
+        track_run::state::advance(self.template().components, at, index)
     }
 }

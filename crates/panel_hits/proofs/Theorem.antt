@@ -21,7 +21,7 @@ use Rattle.panel_tables.specs.Axes.{grid_in}
 use Rattle.panel_tables.specs.Regions.{axis_words_in}
 use Rattle.coordinates.specs.Axes.{axis_number}
 use Rattle.panel_rules.specs.Calls.{shorter_store}
-use Rattle.sheet_end.specs.End.{inner_in}
+use Rattle.axis_tables.specs.Reads.{inner_in}
 use Rattle.line_positions.specs.Positions.{lines_before, lines_up_to}
 use Rattle.panel_positions.specs.Cursor.{records_on, pixels, cursor_refusal, lines_for, lines_on, lines_within}
 use Rattle.panel_positions.specs.Cursor.{LinesWithin}

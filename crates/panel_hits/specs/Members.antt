@@ -5,7 +5,7 @@ use Rattle.name_resolver.specs.Placements.{resolved_ends}
 use Rattle.panel_tables.specs.declared.Grid.{Grid}
 use Rattle.panel_tables.specs.Axes.{grid_in}
 use Rattle.panel_tables.specs.Regions.{axis_words_in}
-use Rattle.sheet_end.specs.End.{inner_in}
+use Rattle.axis_tables.specs.Reads.{inner_in}
 use Rattle.line_positions.specs.Positions.{Within}
 use Rattle.panel_positions.specs.Cursor.{records_on, pixels}
 use Rattle.placement_hits.specs.Hits.{LinesInside, LineBetween, InOrder}

@@ -5,8 +5,8 @@ ghost use Rattle.panel_rules.specs.Calls.{shorter_store};
 ghost use Rattle.panel_resolving.specs.Lent.{lent_names};
 ghost use Rattle.panel_hits.specs.Lists.{lower_fault, checked_of, store_refusal, line_refusal};
 
-use axis_tables::layout::AXIS_BYTES;
 use coordinates::Fault;
+use panel_names::LentNames;
 use panel_tables::LentPanel;
 
 // The fault with the lower number.
@@ -34,10 +34,7 @@ pub(crate) fn checked<A: Copy>(
 pub(crate) fn check_stores(lent: LentPanel) -> Result<(), Fault>
     ensures { refused_by result ≡ store_refusal (shorter_store (lent_names lent.entry)) }
 {
-    if lent.columnstore.len().min(lent.rowstore.len()) < AXIS_BYTES {
-        return Err(Fault::Short);
-    }
-    Ok(())
+    LentNames::from(lent).check_stores()
 }
 
 // Whether a given line can be asked for: it is an i16, and not 0.

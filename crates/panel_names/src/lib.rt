@@ -12,8 +12,9 @@ ghost use Rattle.panel_rules.specs.Calls.{entry_words_in, short_names, shorter_s
 ghost use Rattle.panel_tables.specs.Axes.{grid_in};
 ghost use Rattle.panel_names.specs.Lent.{lent_tables};
 
+use coordinates::limit::STORE_BYTES;
 use coordinates::{Axis, Fault};
-use name_entries::{Names, STORE_BYTES};
+use name_entries::Names;
 use panel_tables::axis::grid_in;
 use panel_tables::region::{PANEL_WORDS, axis_words};
 use panel_tables::{Grid, LentPanel};
@@ -32,10 +33,7 @@ impl<'a> LentNames<'_, 'a> {
     pub fn store(self, axis: Axis) -> &'a [u8]
         ensures { result.now ≡ store_in (lent_tables self.entry) axis }
     {
-        match axis {
-            Axis::Column => self.columnstore,
-            Axis::Row => self.rowstore,
-        }
+        axis.of(self.columnstore, self.rowstore)
     }
 
     // The bytes of the shorter store.

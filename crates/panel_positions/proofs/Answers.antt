@@ -12,7 +12,7 @@ use borrow.Author.Tests.{eq-eqb, ne_eqb, ltb-false}
 use Rattle.coordinates.specs.declared.axis.Axis.{Axis}
 use Rattle.coordinates.specs.Lines.{to_grid_line}
 use Rattle.sizing.specs.Ranges.{length_in_range}
-use Rattle.sheet_end.specs.End.{inner_in}
+use Rattle.axis_tables.specs.Reads.{inner_in}
 use Rattle.track_rules.specs.Records.{tracks_in, records_in}
 use Rattle.axis_tables.specs.declared.AxisGrid.{AxisGrid}
 use Rattle.panel_tables.specs.declared.Grid.{Grid}

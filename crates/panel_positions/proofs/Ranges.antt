@@ -29,7 +29,7 @@ use Rattle.track_rules.proofs.RecordList.{records-at}
 use Rattle.axis_tables.specs.declared.AxisGrid.{AxisGrid}
 use Rattle.axis_tables.specs.declared.AxisSpace.{AxisSpace}
 use Rattle.axis_tables.specs.Runs.{part_of}
-use Rattle.sheet_end.specs.End.{inner_in}
+use Rattle.axis_tables.specs.Reads.{inner_in}
 use Rattle.panel_rules.specs.Calls.{axis_tracks, template_in, spares_in}
 use Rattle.line_positions.specs.Positions.{InnerInRange, SizesInRange, InRange}
 use Rattle.panel_positions.specs.Cursor.{records_on}

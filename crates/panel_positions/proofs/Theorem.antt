@@ -11,7 +11,7 @@ use borrow.Author.Tests.{ne_eqb, lt-ltb}
 use Rattle.std.proofs.lemmas.Bool.{cases_lt}
 use Rattle.coordinates.specs.declared.axis.Axis.TheVariants.{Column}
 use Rattle.sizing.specs.Ranges.{length_in_range}
-use Rattle.sheet_end.specs.End.{inner_in}
+use Rattle.axis_tables.specs.Reads.{inner_in}
 use Rattle.track_rules.specs.declared.GridTrack.{GridTrack}
 use Rattle.track_rules.specs.Tracks.{zero_grid_track}
 use Rattle.track_rules.specs.Records.{tracks_in, records_in}

@@ -11,7 +11,7 @@ use Rattle.axis_tables.specs.declared.AxisGrid.{AxisGrid}
 use Rattle.panel_tables.specs.declared.Grid.{Grid}
 use Rattle.panel_tables.specs.Axes.{grid_in}
 use Rattle.panel_tables.specs.Regions.{axis_words_in}
-use Rattle.sheet_end.specs.End.{inner_in}
+use Rattle.axis_tables.specs.Reads.{inner_in}
 use Rattle.panel_rules.specs.Calls.{axis_tracks, template_in, spares_in}
 use Rattle.line_positions.specs.Positions.{all_definite, nearest_of, lines_before, lines_up_to}
 use Rattle.coordinates.specs.declared.refusal.Fault.{Fault}

@@ -4,7 +4,7 @@ use Rattle.coordinates.specs.Refusals.{number_of, value, count, short}
 use Rattle.sizing.specs.Ranges.{length_in_range}
 use Rattle.track_rules.specs.Records.{tracks_in}
 use Rattle.axis_tables.specs.declared.AxisGrid.{AxisGrid}
-use Rattle.sheet_end.specs.End.{inner_in}
+use Rattle.axis_tables.specs.Reads.{inner_in}
 use Rattle.panel_rules.specs.Calls.{axis_tracks}
 use Rattle.line_positions.specs.Positions.{nearest_of, lines_before, lines_up_to}
 use Rattle.coordinates.specs.declared.refusal.Fault.{Fault}

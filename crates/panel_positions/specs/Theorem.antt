@@ -3,7 +3,7 @@ use Rattle.std.specs.Prelude.{ℕ, ◌≤◌, ◌<◌, ◌≡◌, List, length}
 use Rattle.coordinates.specs.Refusals.{indefinite}
 use Rattle.coordinates.specs.declared.axis.Axis.{Axis}
 use Rattle.coordinates.specs.declared.axis.Axis.TheVariants.{Column}
-use Rattle.sheet_end.specs.End.{inner_in}
+use Rattle.axis_tables.specs.Reads.{inner_in}
 use Rattle.track_rules.specs.Tracks.{zero_grid_track}
 use Rattle.axis_tables.specs.declared.AxisGrid.{AxisGrid}
 use Rattle.panel_tables.specs.Axes.{grid_in}

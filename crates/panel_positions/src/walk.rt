@@ -3,7 +3,7 @@ ghost use Rattle.std.specs.Prelude.{◌≡◌, ◌&&◌, ◌||◌, leb, ◌≤�
 ghost use Rattle.sizing.specs.Ranges.{length_in_range};
 ghost use Rattle.track_rules.specs.Tracks.{gutter_of};
 ghost use Rattle.track_rules.specs.Records.{records_in};
-ghost use Rattle.sheet_end.specs.End.{inner_in};
+ghost use Rattle.axis_tables.specs.Reads.{inner_in};
 ghost use Rattle.panel_rules.specs.Calls.{axis_tracks};
 ghost use Rattle.line_positions.specs.Steps.{walked_to};
 ghost use Rattle.coordinates.specs.Lines.{to_grid_line};
@@ -17,9 +17,9 @@ use coordinates::Fault;
 use coordinates::line::MOST_TRACKS;
 use line_positions::{LineWalk, Span, step};
 use panel_calls::axis_track::{LentAxis, axis_tracks};
-use sheet_end::size::inner_in;
 use sizing::range::length_in_range;
 use sizing::word::length_of;
+use track_counts::TrackCounts;
 use track_record::collapse::gutter_collapses;
 use track_rules::grid_track::gutter;
 use track_rules::{GridTrack, TrackWalk};
@@ -36,7 +36,7 @@ fn gutter_after(at: TrackWalk, track: GridTrack, number: u64) -> GridTrack
 pub(crate) fn walked(lent: LentAxis, span: Span<f32>) -> LineWalk
     ensures { result ≡ walked_to span (inner_in lent.entry.grid.space) (records_on lent.entry.grid lent.entry.tables.now lent.entry.items.now) (records_in (axis_tracks lent.entry.grid)) }
 {
-    let inner = inner_in(lent.grid.space);
+    let inner = lent.grid.space.inner();
     let tracks = axis_tracks(lent.grid);
     let count = track_record::plan::track_count(tracks);
     let first = gutter(tracks.gap, true);
@@ -103,16 +103,15 @@ fn sought_on(lent: LentAxis, span: Span<u32>) -> Result<LineWalk, Fault>
 }
 
 // The grid line at a place of an axis's lines.
-fn grid_line_at(place: u32, negative: u32, explicit: u32) -> i32
-    requires place_bound { place ≤ 30000 }
-    requires negative_bound { negative ≤ 10000 }
-    requires explicit_bound { explicit ≤ 10000 }
-    ensures { result ≡ to_grid_line explicit (pos place -ℤ pos negative) }
+fn grid_line_at(counts: TrackCounts, place: u32) -> i32
+    requires { place ≤ 30000 }
+    ensures { result ≡ to_grid_line counts.explicit (pos place -ℤ pos counts.negative_implicit) }
 {
-    if negative <= place {
-        (place - negative + 1) as i32
+    let before = u32::from(counts.negative_implicit);
+    if before <= place {
+        (place - before + 1) as i32
     } else {
-        -1 - (negative - place + explicit) as i32
+        -1 - (before - place + u32::from(counts.explicit)) as i32
     }
 }
 
@@ -120,9 +119,9 @@ fn grid_line_at(place: u32, negative: u32, explicit: u32) -> i32
 pub(crate) fn nearest_on(lent: LentAxis, cursor: u32) -> Result<i32, Fault>
     ensures { answered_nearest_line result ≡ nearest_on lent.entry.grid lent.entry.tables.now lent.entry.items.now cursor }
 {
-    let grid = lent.grid;
     let sought = sought_on(lent, Span::at(cursor))?;
-    Ok(grid_line_at(sought.nearest, grid.implicit.negative, grid.size.explicit))
+    let counts = axis_tracks(lent.grid).counts;
+    Ok(grid_line_at(counts, sought.nearest))
 }
 
 // The lines of an axis around a span.

@@ -14,11 +14,15 @@ use panel_answer::AnswerLine;
 use panel_answer::fill::{begin_answer, fill};
 use panel_tables::LentPanel;
 use panel_tables::region::{PANEL_BYTES, PANEL_WORDS};
+use sheet_rules::SHEET_BYTES;
 use std::io;
 use std::io::{Read, Write};
 
 // One byte more than a sheet may have is enough to refuse it.
-const SHEET_ROOM: usize = 32769;
+const SHEET_ROOM: usize = SHEET_BYTES + 1;
+
+// The bytes of the text that are printed at once.
+const PART_BYTES: usize = 65536;
 
 // Reads until the buffer is full, the input ends or a read fails: how many bytes stand at its start then, and whether no read failed.
 pub fn read_full<R: Read>(input: &mut R, buffer: &mut [u8]) -> (usize, io::Result<()>)
@@ -60,7 +64,7 @@ fn print_answer<W: Write>(output: &mut W, sheet: &[u8]) -> (Option<AnswerLine>, 
         rowstore: &rowstore,
     };
     let mut next = Some(begun.first);
-    let mut out = [0u8; 65536];
+    let mut out = [0u8; PART_BYTES];
     let mut written = Ok(());
     while next.is_some() {
         let filled = fill(&mut out, begun.grid, lent, next);

@@ -27,7 +27,7 @@ use Rattle.panel_tables.specs.Axes.{grid_in}
 use Rattle.sheet_rules.specs.Sheet.{inner_of, strategy_of, counted}
 use Rattle.sheet_rules.specs.Panels.{Tables, sized_state}
 use Rattle.sheet_rules.proofs.Counted.{counted_css}
-use Rattle.sheet_end.specs.End.{strategy_in}
+use Rattle.axis_tables.specs.Reads.{strategy_in}
 use Rattle.panel_rules.specs.Calls.{words_in, template_in}
 use Rattle.panel_rules.specs.Runs.{Held, names_of, Call, Accepted, run_of, size_of}
 use Rattle.panel_rules.specs.Views.{state_after, held_after, size_after}

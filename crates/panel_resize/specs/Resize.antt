@@ -7,7 +7,7 @@ use Rattle.axis_tables.specs.declared.AxisGrid.{AxisGrid}
 use Rattle.panel_tables.specs.declared.Grid.{Grid}
 use Rattle.panel_tables.specs.Axes.{grid_in}
 use Rattle.panel_tables.specs.Regions.{axis_words_in}
-use Rattle.sheet_end.specs.End.{strategy_in}
+use Rattle.axis_tables.specs.Reads.{strategy_in}
 use Rattle.panel_rules.specs.Calls.{template_in}
 use Rattle.least_resize.specs.declared.ResizeAnswer.{ResizeAnswer}
 use Rattle.least_resize.specs.Answer.{resize_answer}

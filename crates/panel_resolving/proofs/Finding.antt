@@ -13,13 +13,12 @@ use Rattle.name_groups.specs.Keys.{joined_key, key_of}
 use Rattle.name_groups.specs.Groups.{group_at, group_part}
 use Rattle.name_groups.proofs.Keying.{side_key}
 use Rattle.name_search.specs.Sought.{line_sought}
-use Rattle.name_search.specs.declared.Sought.{Sought}
 use Rattle.name_resolver.specs.declared.Question.{Question}
 use Rattle.name_resolver.specs.Questions.{edge_found, or_else, found_by}
 use Rattle.axis_tables.specs.Runs.{part_of}
 use Rattle.panel_resolving.specs.declared.Around.{Around}
 use Rattle.panel_resolving.specs.Names.{bears_by, sought_by}
-use Rattle.panel_resolving.specs.Asking.{asks_own, sought_for, stem_for, own_found, found_from}
+use Rattle.panel_resolving.specs.Asking.{asks_own, edge_for, stem_for, nth_for, own_found, found_from}
 use Rattle.std.specs.Prelude.{Option, Some, None}
 use Rattle.name_lines.specs.declared.GridAreaEnd.{GridAreaEnd}
 use Rattle.name_lines.specs.declared.GridAreaEnd.TheVariants.{Start, End}
@@ -34,19 +33,16 @@ module _ (x : Around) (index store areas areabytes : List ℕ) where
   part key = group_part index (group_at x.grouping index key)
 
   -- the lines of the name itself
-  own-lines : (s : Sought) (nm : Bytes) → s.axis ≡ x.axis → s.edge ≡ edge_of nm
-      → sought_by x s index store areas areabytes (stem_of nm (edge_of nm)) ≡ (λ (l : ℕ). names nm (suc l))
+  own-lines : (nm : Bytes) → sought_by x index store areas areabytes (stem_of nm (edge_of nm)) (edge_of nm) ≡ (λ (l : ℕ). names nm (suc l))
   unfolding sought_by bears_by
-  own-lines s nm a e =
-      rw (a, e) (fun_ext (λ (l : ℕ). sought-name x.axis (part (key_of x.grouping nm)) store (part_of areas 0 x.areas) (part_of areas 64 x.areas) areabytes nm l))
+  own-lines nm = fun_ext (λ (l : ℕ). sought-name x.axis (part (key_of x.grouping nm)) store (part_of areas 0 x.areas) (part_of areas 64 x.areas) areabytes nm l)
 
   -- an edge of its area
-  edge-lines : (s : Sought) (nm : Bytes) (side : Side) → s.axis ≡ x.axis → s.edge ≡ side_edge side
-      → sought_by x s index store areas areabytes nm ≡ (λ (l : ℕ). names (nm ++ suffix side) (suc l))
+  edge-lines : (nm : Bytes) (side : Side) → sought_by x index store areas areabytes nm (side_edge side) ≡ (λ (l : ℕ). names (nm ++ suffix side) (suc l))
   unfolding sought_by bears_by
-  edge-lines s nm side a e =
-      rw (a, e) (fun_ext (λ (l : ℕ). sought-side x.axis (part (joined_key x.grouping nm (side_edge side))) store (part_of areas 0 x.areas) (part_of areas 64 x.areas) areabytes nm side l
-      ∙ ap (λ (key : ℕ). bears_in x.axis (part key) store (part_of areas 0 x.areas) (part_of areas 64 x.areas) areabytes (nm ++ suffix side) (suc l)) (sym (side-key-of side))))
+  edge-lines nm side =
+      fun_ext (λ (l : ℕ). sought-side x.axis (part (joined_key x.grouping nm (side_edge side))) store (part_of areas 0 x.areas) (part_of areas 64 x.areas) areabytes nm side l
+      ∙ ap (λ (key : ℕ). bears_in x.axis (part key) store (part_of areas 0 x.areas) (part_of areas 64 x.areas) areabytes (nm ++ suffix side) (suc l)) (sym (side-key-of side)))
     where
       side-key-of : (w : Side) → key_of x.grouping (nm ++ suffix w) ≡ joined_key x.grouping nm (side_edge w)
       side-key-of start = side_key x.grouping nm start
@@ -55,12 +51,12 @@ module _ (x : Around) (index store areas areabytes : List ℕ) where
   module _ (q : Question) (nm : Bytes) (k : Seek) where
     -- what one search comes to
     abbrev Comes : Bool → Type 0
-    Comes own = k ≡ line_sought (sought_for x.axis q own nm) (sought_by x (sought_for x.axis q own nm) index store areas areabytes (stem_for x.axis q own nm))
+    Comes own = k ≡ line_sought (nth_for q own) (sought_by x index store areas areabytes (stem_for q own nm) (edge_for q own nm))
 
     -- the lines of the name
     came-own : Comes true → k ≡ own_found names nm q
     unfolding line_sought
-    came-own e = rw (own-lines (sought_for x.axis q true nm) nm refl refl) at e
+    came-own e = rw (own-lines nm) at e
 
     -- an edge of its area
     came-edge : asks_own q.edge ≡ false → Comes false → k ≡ edge_found names nm q.edge
@@ -68,8 +64,8 @@ module _ (x : Around) (index store areas areabytes : List ℕ) where
     came-edge a e = go q.edge a refl
       where
         go : (w : Option GridAreaEnd) → asks_own w ≡ false → q.edge ≡ w → k ≡ edge_found names nm w
-        go (Some Start) h f = rw (edge-lines (sought_for x.axis q false nm) nm start refl f) at e
-        go (Some End) h f = rw (edge-lines (sought_for x.axis q false nm) nm end refl f) at e
+        go (Some Start) h f = rw (f, edge-lines nm start) at e
+        go (Some End) h f = rw (f, edge-lines nm end) at e
         go None h f = never (sym h)
 
   module _ (q : Question) (nm : Bytes) (own : Bool) (edged : own ≡ false → asks_own q.edge ≡ false) where
@@ -97,7 +93,7 @@ module _ (x : Around) (index store areas areabytes : List ℕ) where
   unfolding found_from found_by
   found_first q nm own h = rw h (go q.edge)
     where
-      go : (w : Option GridAreaEnd) → found_from names nm (record { name = q.name; edge = w; way = q.way; from = q.from; over = q.over; held = q.held }) (asks_own w)
-          ≡ found_by names nm (record { name = q.name; edge = w; way = q.way; from = q.from; over = q.over; held = q.held })
+      go : (w : Option GridAreaEnd) → found_from names nm (record { name = q.name; edge = w; nth = q.nth; held = q.held }) (asks_own w)
+          ≡ found_by names nm (record { name = q.name; edge = w; nth = q.nth; held = q.held })
       go (Some side) = refl
       go None = refl

@@ -13,7 +13,6 @@ use Rattle.name_lines.proofs.Marking.{or_false}
 use Rattle.name_groups.specs.Listed.{listed, listed_from}
 use Rattle.name_groups.specs.Keys.{joined_key}
 use Rattle.name_groups.specs.Groups.{group_at, group_part, Lists}
-use Rattle.name_groups.specs.declared.group.Group.{Group}
 use Rattle.name_groups.specs.declared.key.Grouping.{Grouping}
 use Rattle.panel_resolving.specs.Listing.{LinesAscend, on_line, first_named, named_part}
 use Rattle.panel_resolving.specs.Drawn.{edges_drawn}
@@ -68,6 +67,6 @@ module _ (axis : Axis) (store edges areas areastore : List ℕ) (stem : Bytes) (
         ∙ ap (λ (b : Bool). any (written? (stem ++ tail_of edge) (suc k)) (entries_of part store) || b) (sym (none_edged_by axis edges areas areastore stem edge (suc k) d)))
 
 -- the entries of a group that is said to be listed are
-pub part_listed : (g : Grouping) (index store : List ℕ) (stem : Bytes) (edge : Option GridAreaEnd) → Lists g index store → (group : Group) (part : List ℕ)
-    → group ≡ group_at g index (joined_key g stem edge) → part ≡ group_part index group → group.listed ≡ true → listed store part ≡ true
-part_listed g index store stem edge h group part e f l = rw (f, e) (h stem edge (ap (λ (x : Group). x.listed) (sym e) ∙ l))
+pub part_listed : (g : Grouping) (index store : List ℕ) (stem : Bytes) (edge : Option GridAreaEnd) → Lists g index store → (part : List ℕ) (flag : Bool)
+    → part ≡ group_part index (group_at g index (joined_key g stem edge)) → flag ≡ (group_at g index (joined_key g stem edge)).listed → flag ≡ true → listed store part ≡ true
+part_listed g index store stem edge h part flag e f l = rw e (h stem edge (sym f ∙ l))

@@ -1,12 +1,12 @@
 -- The names of an axis as the index of a run keeps them (document 01, layer 4): a name's lines are those of its group's entries and of the drawn areas.
-use Rattle.std.specs.Prelude.{Bool, cond, List, ℕ, leb}
+use Rattle.std.specs.Prelude.{Bool, cond, List, ℕ, leb, Option}
 use Rattle.name_rules.specs.Css.{Bytes, Area}
 use Rattle.name_entries.specs.Entries.{entries_of}
-use Rattle.name_lines.specs.Areas.{areas_of, bears}
+use Rattle.name_lines.specs.Areas.{areas_of, bears, sought_in}
+use Rattle.name_lines.specs.declared.GridAreaEnd.{GridAreaEnd}
+use Rattle.name_lines.specs.declared.JoinedName.{JoinedName}
 use Rattle.name_groups.specs.Keys.{joined_key, key_of}
 use Rattle.name_groups.specs.Groups.{group_at, group_part}
-use Rattle.name_search.specs.Sought.{marks_of}
-use Rattle.name_search.specs.declared.Sought.{Sought}
 use Rattle.name_resolver.specs.Types.{WrittenLine}
 use Rattle.name_resolver.specs.Placements.{Resolution}
 use Rattle.name_resolver.specs.Placements.{refused_resolution}
@@ -29,9 +29,9 @@ unfoldable pub bears_by : Around → List ℕ → List ℕ → List ℕ → List
 bears_by x index store areas areabytes nm number = bears (entries_of (part_of_name x index nm) store) (areas_around x areas areabytes) nm number
 
 -- the lines that a search looks at: those of the name that is the stem followed by the suffix of the edge
-unfoldable pub sought_by : Around → Sought → List ℕ → List ℕ → List ℕ → List ℕ → Bytes → ℕ → Bool
-sought_by x s index store areas areabytes stem =
-    marks_of s (group_part index (group_at x.grouping index (joined_key x.grouping stem s.edge))) store (part_of areas 0 x.areas) (part_of areas 64 x.areas) areabytes stem
+unfoldable pub sought_by : Around → List ℕ → List ℕ → List ℕ → List ℕ → Bytes → Option GridAreaEnd → ℕ → Bool
+sought_by x index store areas areabytes stem edge =
+    sought_in x.axis (group_part index (group_at x.grouping index (joined_key x.grouping stem edge))) store (part_of areas 0 x.areas) (part_of areas 64 x.areas) areabytes stem edge
 
 -- a placement beside these names; an explicit count above 10,000 is refused by 4
 unfoldable pub resolution_by : ℕ → (Bytes → ℕ → Bool) → List ℕ → WrittenLine → Resolution
@@ -44,5 +44,5 @@ resolution_by explicit names bytes l =
 abbrev pub names_beside : Beside → Bytes → ℕ → Bool
 names_beside x = bears_by x.around x.index.now x.store.now (area_words_in x.words.now) (area_bytes_in x.bytes.now)
 
-abbrev pub sought_beside : Beside → Sought → Bytes → ℕ → Bool
-sought_beside x s stem = sought_by x.around s x.index.now x.store.now (area_words_in x.words.now) (area_bytes_in x.bytes.now) stem
+abbrev pub sought_beside : Beside → JoinedName → ℕ → Bool
+sought_beside x n = sought_by x.around x.index.now x.store.now (area_words_in x.words.now) (area_bytes_in x.bytes.now) n.stem.now n.edge

@@ -4,10 +4,10 @@ ghost use Rattle.name_rules.specs.Rule.{eq_bytes};
 ghost use Rattle.name_entries.specs.Entries.{entry_of, name_in};
 ghost use Rattle.panel_resolving.specs.Drawn.{drawn_in, edges_drawn};
 
-use axis_tables::layout::word_at;
+use coordinates::word_at;
 use name_entries::NameEntry;
 use name_entries::entry::name_in;
-use name_lines::GridAreaEnd;
+use name_lines::JoinedName;
 use name_search::DrawnAreas;
 
 // Whether the area at a place has the name; a word that is missing is read as 0.
@@ -24,9 +24,9 @@ fn has_area(areas: DrawnAreas, name: &[u8]) -> bool
     (0..areas.edges.len()).any(|i| is_named(areas.names, i, areas.store, name))
 }
 
-// Whether an edge of a drawn area can be among the lines of the name that is the stem followed by the suffix of the edge.
-pub(crate) fn is_drawn(areas: DrawnAreas, stem: &[u8], edge: Option<GridAreaEnd>) -> bool
-    ensures { result ≡ edges_drawn areas.entry.edges.now areas.entry.names.now areas.entry.store.now stem.now edge }
+// Whether an edge of a drawn area can be among the lines of the name.
+pub(crate) fn is_drawn(areas: DrawnAreas, name: JoinedName) -> bool
+    ensures { result ≡ edges_drawn areas.entry.edges.now areas.entry.names.now areas.entry.store.now name.entry.stem.now name.entry.edge }
 {
-    edge.is_some() && has_area(areas, stem)
+    name.edge.is_some() && has_area(areas, name.stem)
 }

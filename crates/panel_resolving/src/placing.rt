@@ -14,8 +14,8 @@ ghost use Rattle.panel_resolving.specs.Whole.{whole_around};
 
 use crate::Around;
 use crate::axis_run::Run;
-use crate::put::PLACEMENT_NUMBERS;
 use crate::write::write_beside;
+use coordinates::limit::PLACEMENT_NUMBERS;
 use coordinates::{Axis, Fault};
 use name_entries::Names;
 use name_groups::key::Grouping;
@@ -34,8 +34,7 @@ pub(crate) fn placed_on(
 ) -> Result<PlacedLine, Fault>
     ensures { answered_placement result ≡ placed_by (answered_resolution resolved) axis false }
 {
-    let ResolvedPlacement { line, held } = resolved?;
-    Ok(PlacedLine { axis, line, held })
+    resolved.map(|placed| PlacedLine { axis, placed })
 }
 
 // What a placement of an axis is resolved beside, its name entries kept together.

@@ -6,11 +6,9 @@ ghost use Rattle.library_numbers.specs.Answers.{placement_numbers};
 ghost use Rattle.panel_resolving.specs.Placements.{SmallNumbers, numbers_of};
 
 use coordinates::Fault;
+use coordinates::limit::PLACEMENT_NUMBERS;
 use library_numbers::PlacementNumbers;
 use panel_rules::PlacedLine;
-
-// How many numbers a placement takes.
-pub(crate) const PLACEMENT_NUMBERS: usize = 8;
 
 // The eight numbers of an answer.
 fn numbers_of(answer: PlacementNumbers) -> [i32; PLACEMENT_NUMBERS]

@@ -1,23 +1,20 @@
 // A placement beside the names of an axis: each end asks for a line, or is resolved as written.
-ghost use Rattle.std.specs.Prelude.{◌≤◌, cond, ◌≡◌};
+ghost use Rattle.std.specs.Prelude.{◌≤◌, ◌≡◌};
 ghost use Rattle.name_resolver.specs.Placements.{answered_resolution};
 ghost use Rattle.name_resolver.specs.Questions.{answered};
-ghost use Rattle.name_resolver.specs.Steps.{first_end, question_of, second_end};
+ghost use Rattle.name_resolver.specs.Steps.{question_of};
 ghost use Rattle.panel_tables.specs.Regions.{placement_bytes_in};
+ghost use Rattle.panel_resolving.specs.Asking.{next_end};
 ghost use Rattle.panel_resolving.specs.Names.{names_beside, resolution_by};
 
 use crate::Beside;
 use crate::find::find_named_line;
-use coordinates::{Fault, Marked};
+use coordinates::Fault;
+use coordinates::line::check_explicit;
 use name_resolver::ask::question_of;
 use name_resolver::ends::{first_end, resolved_ends, second_end};
 use name_resolver::found::found_end;
-use name_resolver::{
-    Asked, End, NonNamedGridPlacement, ResolvedEnd, ResolvedPlacement, WrittenLine,
-};
-
-// The most explicit tracks.
-const MOST_TRACKS: u32 = coordinates::line::MOST_TRACKS as u32;
+use name_resolver::{Asked, End, ResolvedEnd, ResolvedPlacement, WrittenLine};
 
 // One end.
 fn resolve_end(beside: Beside, end: End) -> ResolvedEnd
@@ -35,13 +32,12 @@ fn resolve_end(beside: Beside, end: End) -> ResolvedEnd
 }
 
 // The end that is resolved next: the first, then the other beside its line.
-fn next_end(line: WrittenLine, last: bool, first: ResolvedEnd) -> End
-    ensures { result ≡ cond last (second_end line first) (first_end line) }
+fn next_end(line: WrittenLine, first: Option<ResolvedEnd>) -> End
+    ensures { result ≡ next_end line first }
 {
-    if last {
-        second_end(line, first)
-    } else {
-        first_end(line)
+    match first {
+        Some(first) => second_end(line, first),
+        None => first_end(line),
     }
 }
 
@@ -54,17 +50,13 @@ pub(crate) fn resolve_line_names(
 ) -> Result<ResolvedPlacement, Fault>
     ensures { answered_resolution result ≡ resolution_by beside.entry.around.explicit (names_beside beside.entry) (placement_bytes_in beside.entry.bytes.now) line }
 {
-    if MOST_TRACKS < beside.around.explicit {
-        return Err(Fault::Count);
-    }
-    let mut first = Marked::unmarked(NonNamedGridPlacement::Auto);
-    let mut last = false;
+    check_explicit(beside.around.explicit)?;
+    let mut first = None;
     loop {
-        let resolved = resolve_end(beside, next_end(line, last, first));
-        if last {
-            return Ok(resolved_ends(line, first, resolved));
+        let resolved = resolve_end(beside, next_end(line, first));
+        match first {
+            Some(first) => return Ok(resolved_ends(line, first, resolved)),
+            None => first = Some(resolved),
         }
-        first = resolved;
-        last = true;
     }
 }

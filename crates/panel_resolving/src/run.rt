@@ -11,17 +11,12 @@ ghost use Rattle.panel_resolving.specs.Placements.{WrittenNumbers, numbers_count
 
 use crate::axis_run::Run;
 use crate::placing::whole_around;
-use crate::put::PLACEMENT_NUMBERS;
 use crate::write::write_axis;
+use coordinates::limit::PLACEMENT_RUN;
 use coordinates::{Axis, Fault};
 use panel_names::LentNames;
+use panel_tables::placement::MOST_PLACEMENTS;
 use panel_tables::{Grid, LentPanel};
-
-// The most placements of a run, which is as many as a panel holds.
-const MOST_PLACEMENTS: u32 = 256;
-
-// The numbers of a run: eight for each placement.
-pub const PLACEMENT_RUN: usize = MOST_PLACEMENTS as usize * PLACEMENT_NUMBERS;
 
 // Whether a run can be given, of so many placements that are held.
 #[tactic(auto, unfolding(crate::specs::Placements::numbers_refusal))]

@@ -11,13 +11,14 @@ ghost use Rattle.panel_resolving.specs.Names.{bears_by, resolution_by};
 use crate::axis_run::Run;
 use crate::ends::line_placement;
 use crate::placing::placed_on;
-use crate::put::{PLACEMENT_NUMBERS, put_placement};
+use crate::put::put_placement;
 use crate::resolve::resolve_line_names;
 use crate::{Around, Beside};
 use coordinates::Fault;
+use coordinates::limit::PLACEMENT_NUMBERS;
 use name_entries::{MOST_ENTRIES, Names};
 use name_groups::index::group_entries;
-use name_groups::key::Grouping;
+use name_groups::key::{FEW_KEYS, Grouping, MANY_KEYS};
 use name_resolver::ResolvedPlacement;
 use panel_tables::placement::placement_at;
 use panel_tables::region::{PANEL_BYTES, PANEL_WORDS, placement_words};
@@ -31,9 +32,9 @@ const MANY_ENTRIES: usize = MOST_ENTRIES;
 const PASSED_OVER: usize = 256;
 
 // The index of few entries and of many: a word for each key, and the entries.
-const FEW_WORDS: usize = 256;
+const FEW_WORDS: usize = FEW_KEYS + FEW_ENTRIES;
 
-const MANY_WORDS: usize = 5120;
+const MANY_WORDS: usize = MANY_KEYS + MANY_ENTRIES;
 
 // Writes the placements of the axis beside an index of the names; the others' numbers stay as they are. Answers the last that it resolved, so that one
 // placement is a run of one.

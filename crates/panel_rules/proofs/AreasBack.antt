@@ -13,8 +13,8 @@ use Rattle.name_rules.specs.Css.{start, end}
 use Rattle.name_entries.specs.Entries.{entry_of, name_in}
 use Rattle.name_lines.specs.Areas.{edge_in, area_of, areas_of}
 use Rattle.axis_tables.specs.Runs.{words_from, part_of}
-use Rattle.axis_tables.specs.Store.{name_word}
-use Rattle.axis_tables.specs.Reads.{name_place}
+use Rattle.name_entries.specs.Places.{name_word}
+use Rattle.name_entries.specs.Places.{name_place}
 use Rattle.axis_tables.proofs.Lays.{lay_part, pad-is}
 use Rattle.axis_tables.proofs.Runs.{All, length-words}
 use Rattle.axis_tables.proofs.Back.{place-back}

@@ -57,7 +57,7 @@ refused_placement n = record { refusal = refusal_of n; axis = Column; line = zer
 
 -- the numbers and values of what a call answers
 abbrev pub answered_placement : Result PlacedLine Fault → PlacementAnswer
-answered_placement (Ok p) = record { refusal = no_refusal; axis = p.axis; line = p.line; held = p.held }
+answered_placement (Ok p) = record { refusal = no_refusal; axis = p.axis; line = p.placed.line; held = p.placed.held }
 answered_placement (Err fault) = refused_placement (number_of fault)
 
 -- the answer of the resolver, for the placement's axis; 10 comes after every other number

@@ -3,12 +3,11 @@
 #![tactic(auto)]
 
 use coordinates::Axis;
-use name_resolver::{HeldEnds, ResolvedLine};
+use name_resolver::ResolvedPlacement;
 
-// A resolved placement with its axis and the marks of its ends.
+// A resolved placement with its axis.
 #[derive(Clone, Copy, Debug, PartialEq, Eq)]
 pub struct PlacedLine {
     pub axis: Axis,
-    pub line: ResolvedLine,
-    pub held: HeldEnds,
+    pub placed: ResolvedPlacement,
 }

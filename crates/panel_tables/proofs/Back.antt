@@ -13,8 +13,8 @@ use Rattle.coordinates.specs.declared.axis.Axis.{Axis}
 use Rattle.coordinates.specs.declared.axis.Axis.TheVariants.{Column, Row}
 use Rattle.text.specs.Split.{same}
 use Rattle.axis_tables.specs.Runs.{bytes_of, words_from, part_of}
-use Rattle.axis_tables.specs.Store.{name_word}
-use Rattle.axis_tables.specs.Reads.{name_place}
+use Rattle.name_entries.specs.Places.{name_word}
+use Rattle.name_entries.specs.Places.{name_place}
 use Rattle.axis_tables.proofs.Lays.{lay-get, pad-get, pad-is}
 use Rattle.axis_tables.proofs.Runs.{All, word_at, name-part, name-room}
 use Rattle.axis_tables.proofs.Back.{place-back}

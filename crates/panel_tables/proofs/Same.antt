@@ -14,7 +14,8 @@ use Rattle.axis_tables.specs.Runs.{bytes_of, words_from, put_bytes}
 use Rattle.axis_tables.specs.View.{empty_axis}
 use Rattle.axis_tables.specs.declared.AxisState.{AxisState}
 use Rattle.axis_tables.specs.Readings.{AxisReading}
-use Rattle.axis_tables.specs.Store.{name_word, zero_state, zero_reading}
+use Rattle.name_entries.specs.Places.{name_word}
+use Rattle.axis_tables.specs.Store.{zero_state, zero_reading}
 use Rattle.axis_tables.specs.Written.{regions_of, words_with, axis_words, names_store, state_of, reading_of, Held, held_of}
 use Rattle.axis_tables.proofs.Same.{axis_empty}
 use Rattle.axis_tables.proofs.Lays.{length-pad, pad-put, pad_puts, pad-none, lay-put, lay-none}

@@ -8,8 +8,9 @@ use Rattle.text.specs.Split.{same}
 use Rattle.axis_tables.specs.declared.AxisRoom.{AxisRoom}
 use Rattle.axis_tables.specs.Runs.{part_of, put_bytes}
 use Rattle.axis_tables.specs.View.{no_room, named_fault}
-use Rattle.axis_tables.specs.Store.{name_word, with_areas}
-use Rattle.axis_tables.specs.Reads.{name_place}
+use Rattle.name_entries.specs.Places.{name_word}
+use Rattle.axis_tables.specs.Store.{with_areas}
+use Rattle.name_entries.specs.Places.{name_place}
 use Rattle.panel_tables.specs.declared.Room.{Room}
 use Rattle.panel_tables.specs.declared.Panel.{Panel}
 use Rattle.panel_tables.specs.declared.AreaEdges.{AreaEdges}

@@ -1,6 +1,5 @@
 -- One axis of a panel: taken out, and put back.
 use Rattle.std.specs.Prelude.{ℕ}
-use Rattle.coordinates.specs.Refusals.{fault_number}
 use Rattle.coordinates.specs.Axes.{of_axis}
 use Rattle.coordinates.specs.declared.axis.Axis.{Axis}
 use Rattle.coordinates.specs.declared.axis.Axis.TheVariants.{Column, Row}
@@ -8,7 +7,6 @@ use Rattle.axis_tables.specs.declared.AxisGrid.{AxisGrid}
 use Rattle.axis_tables.specs.declared.AxisRoom.{AxisRoom}
 use Rattle.axis_tables.specs.declared.AxisState.{AxisState}
 use Rattle.axis_tables.specs.Readings.{AxisReading}
-use Rattle.axis_tables.specs.Store.{AxisPut}
 use Rattle.axis_tables.specs.View.{AxisView, AxisOutcome}
 use Rattle.axis_tables.specs.Written.{Held}
 use Rattle.panel_tables.specs.declared.Grid.{Grid}

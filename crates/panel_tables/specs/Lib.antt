@@ -4,6 +4,7 @@ pub mod Widths
 pub mod Readings
 pub mod Numbers
 pub mod Areas
+pub mod Places
 pub mod Placements
 pub mod Regions
 pub mod Written

@@ -3,7 +3,8 @@ use Rattle.std.specs.Prelude.{ℕ, List, [], ◌∷◌, map, false, length}
 use Rattle.coordinates.specs.declared.axis.Axis.TheVariants.{Column, Row}
 use Rattle.axis_tables.specs.Lay.{pad, Region, region, lay}
 use Rattle.axis_tables.specs.Runs.{bytes_of, words_from}
-use Rattle.axis_tables.specs.Store.{name_word, zero_axis_grid, zero_axis_room, zero_reading}
+use Rattle.name_entries.specs.Places.{name_word}
+use Rattle.axis_tables.specs.Store.{zero_axis_grid, zero_axis_room, zero_reading}
 use Rattle.axis_tables.specs.Written.{grid_of, room_of, reading_of, axis_words, names_store}
 use Rattle.picture_rules.specs.Picture.{Picture, width_of}
 use Rattle.picture_rules.specs.Steps.{taken_of}

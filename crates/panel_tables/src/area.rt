@@ -1,20 +1,22 @@
-// The drawn areas: 64 words of edges, then 64 words of names; the bytes of the names one after the other.
+// The drawn areas: a word of edges for each, then a word of its name; the bytes of the names one after the other.
 ghost use Rattle.std.specs.Prelude.{◌≡◌};
 ghost use Rattle.panel_tables.specs.Areas.{edges_word, edges_of, area_at, area_name, has_area_in};
+ghost use Rattle.panel_tables.specs.Places.{area_place_in};
 
 use crate::region::word_under;
 use crate::{AreaEdges, AreaPlace};
-use axis_tables::NamePlace;
 use axis_tables::layout::part_from;
-
-pub const AREA_WORDS: usize = 128;
-
-pub const AREA_NAMES: usize = 64;
-
-pub const AREA_BYTES: usize = 2048;
+use coordinates::limit::LONGEST_NAME;
+use name_entries::NamePlace;
 
 // The most drawn areas.
 pub const MOST_AREAS: u32 = 64;
+
+pub const AREA_NAMES: usize = MOST_AREAS as usize;
+
+pub const AREA_WORDS: usize = 2 * AREA_NAMES;
+
+pub const AREA_BYTES: usize = AREA_NAMES * LONGEST_NAME;
 
 impl From<AreaEdges> for u64 {
     ghost from_gives = { λ edges word. word ≡ edges_word edges };
@@ -68,9 +70,17 @@ pub fn area_name<'a>(words: &[u64], bytes: &'a [u8], index: u32) -> &'a [u8]
     part_from(bytes, place.offset as usize, place.length)
 }
 
+// The first of so many areas that has that name, of those that the table has places for.
+pub fn area_index(areas: u32, words: &[u64], bytes: &[u8], name: &[u8]) -> Option<u32>
+    ensures { result ≡ area_place_in areas words.now bytes.now name.now }
+{
+    (0..areas.min(MOST_AREAS)).find(|index| area_name(words, bytes, *index) == name)
+}
+
 // Whether one of so many areas has that name.
+#[tactic(auto, using(crate::proofs::Places::has_place))]
 pub fn has_area(areas: u32, words: &[u64], bytes: &[u8], name: &[u8]) -> bool
     ensures { result ≡ has_area_in areas words.now bytes.now name.now }
 {
-    (0..areas.min(MOST_AREAS)).any(|k| area_name(words, bytes, k) == name)
+    area_index(areas, words, bytes, name).is_some()
 }

@@ -8,7 +8,7 @@ pub mod number;
 pub mod placement;
 pub mod region;
 pub mod stage;
-pub mod state;
+mod start;
 
 ghost use Rattle.std.specs.Prelude.{◌≡◌, eqb};
 ghost use Rattle.panel_tables.specs.Widths.{is_unread};

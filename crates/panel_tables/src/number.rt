@@ -4,9 +4,9 @@ ghost use Rattle.panel_tables.specs.View.{number_outside};
 ghost use Rattle.panel_tables.specs.Numbers.{count_of, number_of};
 
 // The least line index, and the largest span.
-const LEAST_INDEX: i32 = -32768;
+const LEAST_INDEX: i32 = i16::MIN as i32;
 
-const LARGEST_SPAN: i32 = 65535;
+const LARGEST_SPAN: i32 = u16::MAX as i32;
 
 // Whether a number is neither a line index nor a span.
 pub fn number_outside(number: i32) -> bool

@@ -7,13 +7,14 @@ use crate::number::{count_of, number_of};
 use crate::region::word_under;
 use crate::{EndPlace, PlacementEnd, PlacementPlace};
 use coordinates::Axis;
+use coordinates::limit::LONGEST_NAME;
 
 // The most placements of a panel.
-pub const MOST_PLACEMENTS: u32 = 256;
+pub const MOST_PLACEMENTS: u32 = coordinates::limit::MOST_PLACEMENTS as u32;
 
 pub const PLACEMENT_WORDS: usize = 2 * MOST_PLACEMENTS as usize;
 
-pub const PLACEMENT_BYTES: usize = 16384;
+pub const PLACEMENT_BYTES: usize = PLACEMENT_WORDS * LONGEST_NAME;
 
 // What the number of a placement's axis counts in its first word.
 const AXIS_PART: u64 = 0x100_0000_0000_0000;

@@ -4,12 +4,8 @@ ghost use Rattle.panel_tables.specs.Regions.{first_word, first_mark, axis_words_
 
 use crate::area::{AREA_BYTES, AREA_WORDS};
 use crate::placement::{PLACEMENT_BYTES, PLACEMENT_WORDS};
-use axis_tables::layout::{AXIS_MARKS, AXIS_WORDS, word_at};
-use coordinates::Axis;
-
-pub const PANEL_WORDS: usize = 25600;
-
-pub const PANEL_BYTES: usize = 78432;
+use axis_tables::layout::{AXIS_MARKS, AXIS_WORDS};
+use coordinates::{Axis, word_at};
 
 pub const ROWS: usize = AXIS_WORDS;
 
@@ -17,11 +13,15 @@ pub const AREAS: usize = ROWS + AXIS_WORDS;
 
 pub const PLACEMENTS: usize = AREAS + AREA_WORDS;
 
+pub const PANEL_WORDS: usize = PLACEMENTS + PLACEMENT_WORDS;
+
 pub const ROW_MARKS: usize = AXIS_MARKS;
 
 pub const AREA_NAMES_START: usize = ROW_MARKS + AXIS_MARKS;
 
 pub const PLACEMENT_NAMES_START: usize = AREA_NAMES_START + AREA_BYTES;
+
+pub const PANEL_BYTES: usize = PLACEMENT_NAMES_START + PLACEMENT_BYTES;
 
 // The word at a place, of row `index` of a table of `most`; 0 past the last row.
 pub(crate) fn word_under(words: &[u64], index: u32, most: u32, at: usize) -> u64

@@ -5,10 +5,10 @@ ghost use Rattle.panel_tables.specs.Readings.{stage_number};
 // How far a sheet has come: nothing but `axis` records, an `area`, a `row` of a picture, or any other record.
 #[derive(Clone, Copy, Debug, PartialEq, Eq, PartialOrd, Ord)]
 pub enum Stage {
-    Axes,
-    Areas,
-    Rows,
-    Rest,
+    Axes = 0,
+    Areas = 1,
+    Rows = 2,
+    Rest = 3,
 }
 
 impl From<Stage> for u32 {
@@ -16,11 +16,6 @@ impl From<Stage> for u32 {
 
     // The number of a stage, in that order.
     fn from(stage: Stage) -> u32 {
-        match stage {
-            Stage::Axes => 0,
-            Stage::Areas => 1,
-            Stage::Rows => 2,
-            Stage::Rest => 3,
-        }
+        stage as u32
     }
 }

@@ -3,22 +3,19 @@ ghost use Rattle.std.specs.Prelude.{◌≡◌};
 ghost use Rattle.panel_tables.specs.View.{edge_outside, edges_outside};
 ghost use Rattle.panel_tables.specs.Areas.{InAreas, answered_panel, raised, raised_to, put_area};
 
+use axis_tables::AxisRoom;
 use axis_tables::name::{named_fault, no_room, put_bytes};
-use axis_tables::write::set_at;
-use axis_tables::{AxisRoom, NamePlace};
-use coordinates::Fault;
-use coordinates::line::MOST_TRACKS;
+use coordinates::line::LAST_EXPLICIT_LINE;
+use coordinates::{Fault, set_at};
+use name_entries::NamePlace;
 use panel_tables::area::{AREA_BYTES, AREA_NAMES, MOST_AREAS};
 use panel_tables::{AreaEdges, Panel, Room};
-
-// The last line that an edge of an area may be, that after 10,000 tracks.
-const LAST_EDGE: u32 = MOST_TRACKS as u32 + 1;
 
 // Whether an edge is outside 1 to 10,001.
 fn edge_outside(edge: u32) -> bool
     ensures { result ≡ edge_outside edge }
 {
-    !(1..=LAST_EDGE).contains(&edge)
+    !(1..=LAST_EXPLICIT_LINE).contains(&edge)
 }
 
 // Whether one of the edges is.

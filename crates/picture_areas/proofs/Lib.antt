@@ -1,4 +1,3 @@
 -- Laws of a run in the table of areas.
-pub mod Places
 pub mod Runs
 pub mod Same

@@ -12,9 +12,9 @@ use Rattle.panel_tables.specs.declared.Panel.{Panel}
 use Rattle.panel_tables.specs.declared.AreaEdges.{AreaEdges}
 use Rattle.panel_tables.specs.declared.AreaPlace.{AreaPlace}
 use Rattle.panel_tables.specs.Areas.{edges_word, area_at, InAreas, answered_panel, put_area}
-use Rattle.picture_areas.specs.Places.{area_index_in, area_place_in}
+use Rattle.panel_tables.specs.Places.{area_index_in, area_place_in}
 use Rattle.picture_areas.specs.Runs.{run_continues, longer_edges, InEdges, grow_in, of_grown, of_put, answered_drawn, draw_in}
-use Rattle.picture_areas.proofs.Places.{known_place, no_place}
+use Rattle.panel_tables.proofs.Places.{known_place, no_place}
 
 -- ---- an area that goes on
 

@@ -13,7 +13,7 @@ use Rattle.text.specs.Split.{same, index}
 use Rattle.text.proofs.Which.{same_equal, same_self}
 use Rattle.axis_tables.specs.Lay.{pad, lay}
 use Rattle.axis_tables.specs.Runs.{words_from, put_bytes}
-use Rattle.axis_tables.specs.Store.{name_word}
+use Rattle.name_entries.specs.Places.{name_word}
 use Rattle.axis_tables.proofs.Lays.{length-pad}
 use Rattle.axis_tables.proofs.Runs.{All, all_append, all_left, all_right, bytes-more}
 use Rattle.panel_tables.specs.declared.Panel.{Panel}
@@ -28,7 +28,7 @@ use Rattle.panel_tables.proofs.Back.{area-held}
 use Rattle.picture_rules.specs.Picture.{PictureArea, Among, OtherName}
 use Rattle.picture_rules.specs.Steps.{continues, longer, grown, drawn, fits}
 use Rattle.picture_rules.proofs.Drawn.{Found, new, known, found}
-use Rattle.picture_areas.specs.Places.{seek_in, area_index_in}
+use Rattle.panel_tables.specs.Places.{seek_in, area_index_in}
 use Rattle.picture_areas.specs.Runs.{edges_of_box, run_continues, longer_edges, grow_in, InPicture, of_grown, of_put, draw_in, table_area, table_of, drawn_table}
 use Rattle.picture_areas.proofs.Runs.{draw-known, draw-new}
 

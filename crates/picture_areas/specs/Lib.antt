@@ -1,3 +1,2 @@
 -- What the contracts on a run in the table of areas cite.
-pub mod Places
 pub mod Runs

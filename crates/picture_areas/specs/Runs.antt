@@ -10,7 +10,7 @@ use Rattle.picture_rules.specs.Steps.{continues, drawn, fits}
 use Rattle.coordinates.specs.Refusals.{number_of}
 use Rattle.coordinates.specs.declared.refusal.Fault.{Fault}
 use Rattle.picture_areas.specs.declared.draw.PictureAfter.{PictureAfter}
-use Rattle.picture_areas.specs.Places.{area_index_in}
+use Rattle.panel_tables.specs.Places.{area_index_in}
 
 -- edges as the box of an area, and a box as edges
 abbrev pub box_of : AreaEdges → Box

@@ -3,8 +3,8 @@ ghost use Rattle.std.specs.Prelude.{◌≡◌};
 ghost use Rattle.picture_areas.specs.Runs.{answered_drawn, draw_in};
 
 use crate::grow::grow_area;
-use crate::place::area_index;
 use coordinates::Fault;
+use panel_tables::area::area_index;
 use panel_tables::{AreaEdges, Panel};
 use panel_writes::area_record::put_area;
 

@@ -2,7 +2,7 @@
 ghost use Rattle.std.specs.Prelude.{◌≡◌, not};
 ghost use Rattle.picture_areas.specs.Runs.{run_continues, grow_in};
 
-use axis_tables::write::set_at;
+use coordinates::set_at;
 use panel_tables::AreaEdges;
 use panel_tables::area::area_at;
 

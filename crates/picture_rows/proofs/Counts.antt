@@ -24,13 +24,13 @@ module _ (p : Panel) (e : AreaEdges) (d : Drawn) where
 -- ---- a row
 
 module _ (p : Panel) (w b : List ℕ) (ws : List Word) (row width : ℕ) (wide : width ≡ length ws) where
-  pub row-wide : 10000 < width → (r : Drawn) → r ≡ refused_row 4 p → record { answer = r; words = w; bytes = b } ≡ row_in p w b ws row
+  pub row_wide : 10000 < width → (r : Drawn) → r ≡ refused_row 4 p → record { answer = r; words = w; bytes = b } ≡ row_in p w b ws row
   unfolding row_in
-  row-wide h r q = rw (← wide, lt-ltb 10000 width h) (ap (λ (d : Drawn). record { answer = d; words = w; bytes = b }) q)
+  row_wide h r q = rw (← wide, lt-ltb 10000 width h) (ap (λ (d : Drawn). record { answer = d; words = w; bytes = b }) q)
 
-  pub row-far : width ≤ 10000 → 10000 < row → (r : Drawn) → r ≡ refused_row 4 p → record { answer = r; words = w; bytes = b } ≡ row_in p w b ws row
+  pub row_far : width ≤ 10000 → 10000 < row → (r : Drawn) → r ≡ refused_row 4 p → record { answer = r; words = w; bytes = b } ≡ row_in p w b ws row
   unfolding row_in
-  row-far h k r q = rw (← wide, le-ltb 10000 width h, lt-ltb 10000 row k) (ap (λ (d : Drawn). record { answer = d; words = w; bytes = b }) q)
+  row_far h k r q = rw (← wide, le-ltb 10000 width h, lt-ltb 10000 row k) (ap (λ (d : Drawn). record { answer = d; words = w; bytes = b }) q)
 
   pub row-drawn : width ≤ 10000 → row ≤ 10000 → (x : InPicture) → x ≡ runs_in row 1 (runs_of ws) (started p w b) → (e : AreaEdges) → e ≡ picture_edges width row
       → (r : Drawn) → r ≡ counted_row p e x.answer → record { answer = r; words = x.words; bytes = x.bytes } ≡ row_in p w b ws row

@@ -24,6 +24,7 @@ fn run_edges(row: u16, column: u32, count: usize) -> AreaEdges
 }
 
 // One run, after those before it: dots draw nothing, a name is drawn. Nothing mends a broken picture.
+#[tactic(auto, using(crate::proofs::Settled::dots_step))]
 fn run_step(
     before: PictureAfter,
     words: &mut [u64],

@@ -41,6 +41,7 @@ fn spanned(panel: Panel, edges: AreaEdges) -> Panel
 // Row number `row` of a picture, from 1: the words of a line. Each run of a name is drawn; the answer says whether one of them breaks the picture,
 // and its panel has the tracks of the row on both axes. 4: more than 10,000 words or rows; 8: a 65th name; 2: a name of more than 32 bytes. On a
 // refusal the panel is as it came, and the runs before the refused one stay in the table.
+#[tactic(auto, using(crate::proofs::Counts::row_wide, crate::proofs::Counts::row_far))]
 pub fn draw_row(
     panel: Panel,
     words: &mut [u64],

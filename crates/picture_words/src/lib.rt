@@ -8,4 +8,4 @@ pub mod word;
 
 pub use row::{check_row, words_in};
 pub use run::{WordRun, run_at};
-pub use word::{check_word, first_word, is_dots, word_at, word_end};
+pub use word::{check_word, first_word, is_dots, word_at};

@@ -1,9 +1,9 @@
 // One word of a line: where it lies, and what it is.
-ghost use Rattle.std.specs.Prelude.{◌≡◌, ◌≤◌, eqb, length};
+ghost use Rattle.std.specs.Prelude.{◌≡◌, eqb};
 ghost use Rattle.std.specs.List.{list_all};
 ghost use Rattle.coordinates.specs.Refusals.{refused_by};
 ghost use Rattle.picture_rules.specs.Picture.{is_dots};
-ghost use Rattle.picture_words.specs.Words.{first_start, word_end, word_at};
+ghost use Rattle.picture_words.specs.Words.{first_start, word_at};
 ghost use Rattle.sheet_forms.specs.Fields.{word_fault};
 
 use coordinates::Fault;
@@ -19,15 +19,6 @@ pub fn first_word(line: &[u8]) -> usize
     ensures { result ≡ first_start line.now }
 {
     part_end(line, 0, TAB) + 1
-}
-
-// Where the word that starts at a place ends, which is in the line where the place is.
-#[tactic(auto, using(crate::proofs::Words::end_within))]
-pub fn word_end(line: &[u8], at: usize) -> usize
-    ensures place { result ≡ word_end line.now at }
-    ensures within { at ≤ length line.now → result ≤ length line.now }
-{
-    part_end(line, at, TAB)
 }
 
 // The word that starts at a place; empty past the end.

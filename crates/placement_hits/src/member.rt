@@ -1,18 +1,11 @@
 // Whether a placement is in a list.
-ghost use Rattle.std.specs.Prelude.{◌≡◌, ◌<◌};
+ghost use Rattle.std.specs.Prelude.{◌≡◌, length};
 ghost use Rattle.placement_hits.specs.Steps.{answers, within_places, around_place, end_by, end_of, ends_at, ends_by, is_hit, asked_of};
 
 use crate::occupied::occupied;
 use crate::{Asked, Ends, Question, SettledEnd};
-use coordinates::line::MOST_PLACEMENTS;
 use coordinates::{Axis, Line, LinePair};
 use track_counts::TrackCounts;
-
-// How many numbers a placement takes in a run.
-const PLACEMENT_NUMBERS: usize = 8;
-
-// The numbers of a run of as many placements as a panel holds.
-pub const RUN_NUMBERS: usize = PLACEMENT_NUMBERS * MOST_PLACEMENTS;
 
 // The kinds of an end that is a line, and of one that is a span.
 const LINE: i32 = 1;
@@ -30,10 +23,9 @@ pub fn is_within(places: Option<LinePair>, below: u32, upto: u32) -> bool
 pub fn is_around(places: Option<LinePair>, place: Option<u32>) -> bool
     ensures { result ≡ around_place place places }
 {
-    match (place, places) {
-        (Some(line), Some(own)) => own.start < line && line < own.end,
-        _ => false,
-    }
+    place
+        .zip(places)
+        .is_some_and(|(line, own)| own.start < line && line < own.end)
 }
 
 // Whether what is asked holds of the places of a placement.
@@ -71,33 +63,31 @@ impl Asked {
     }
 }
 
-// A placement of a run, by its index.
+// A placement of a run, by its numbers.
 #[derive(Clone, Copy)]
 pub(crate) struct Placement<'a> {
-    pub numbers: &'a [i32; RUN_NUMBERS],
-    pub index: u32,
-    ghost in_run: { index < 256 },
+    pub numbers: &'a [i32],
+    ghost whole: { length numbers.now ≡ 8 },
 }
 
 impl Placement<'_> {
     // Both ends.
     #[tactic(auto, unfolding(crate::specs::Steps::ends_at))]
     fn ends(self) -> Ends
-        ensures { ends_by result ≡ ends_at self.entry.numbers.now self.entry.index }
+        ensures { ends_by result ≡ ends_at self.entry.numbers.now 0 }
     {
-        let place = PLACEMENT_NUMBERS * self.index as usize;
         Line {
-            start: settled_end(self.numbers[place + 2], self.numbers[place + 3]),
-            end: settled_end(self.numbers[place + 4], self.numbers[place + 5]),
+            start: settled_end(self.numbers[2], self.numbers[3]),
+            end: settled_end(self.numbers[4], self.numbers[5]),
         }
     }
 
     // Whether it is one of the axis, and what is asked holds of it.
     #[tactic(auto, unfolding(crate::specs::Steps::is_hit))]
     pub(crate) fn is_hit(self, asked: Asked) -> bool
-        ensures { result ≡ is_hit asked self.entry.numbers.now self.entry.index }
+        ensures { result ≡ is_hit asked self.entry.numbers.now 0 }
     {
-        let axis = self.numbers[PLACEMENT_NUMBERS * self.index as usize + 1];
+        let axis = self.numbers[1];
         axis == asked.axis && answers(asked.question, occupied(asked.counts, self.ends()))
     }
 }

@@ -2,9 +2,10 @@
 ghost use Rattle.std.specs.Prelude.{◌≡◌};
 ghost use Rattle.placement_hits.specs.Steps.{ordered_places, both_places, end_of, end_place, ends_by, occupied_of};
 
-use crate::place::{last_place, line_place};
+use crate::place::line_place;
 use crate::{Ends, SettledEnd};
 use coordinates::LinePair;
+use std::cmp::Ordering;
 use track_counts::counts::TrackCounts;
 
 // Two lines in their order: reversed ones are swapped, equal ones span one track, which has to lie before the last line.
@@ -12,22 +13,17 @@ use track_counts::counts::TrackCounts;
 pub fn ordered(last: u32, start: u32, end: u32) -> Option<LinePair>
     ensures { result ≡ ordered_places last start end }
 {
-    if start < end {
-        return Some(LinePair { start, end });
-    }
-    if end < start {
-        return Some(LinePair {
+    match start.cmp(&end) {
+        Ordering::Less => Some(LinePair { start, end }),
+        Ordering::Greater => Some(LinePair {
             start: end,
             end: start,
-        });
-    }
-    if start < last {
-        return Some(LinePair {
+        }),
+        Ordering::Equal => (start < last).then_some(LinePair {
             start,
-            end: start + 1,
-        });
+            end: start.saturating_add(1),
+        }),
     }
-    None
 }
 
 // The same where both ends have a place.
@@ -54,5 +50,5 @@ pub fn occupied(counts: TrackCounts, ends: Ends) -> Option<LinePair>
 {
     let start = end_place(counts, ends.start);
     let end = end_place(counts, ends.end);
-    both_places(last_place(counts), start, end)
+    both_places(counts.tracks(), start, end)
 }

@@ -14,7 +14,7 @@ use crate::lines::read_lines;
 use axis_tables::layout::AXIS_WORDS;
 use axis_tables::{AxisAfter, AxisState};
 use coordinates::{Axis, Fault};
-use panel_tables::axis::{state_in, with_state};
+use panel_tables::axis::with_state;
 use panel_tables::region::{PANEL_WORDS, first_word};
 use sheet_end::end_axis;
 use sheet_rules::LineFault;
@@ -34,20 +34,16 @@ fn end_in(axis: Axis, before: AxisAfter, words: &mut [u64; PANEL_WORDS]) -> Resu
 pub(crate) fn end_panel(draft: &mut Draft) -> Result<(), Fault>
     ensures { record { fault = refused_by result; line = 0; held = held_of draft.new } ≡ held_end 0 (held_of draft.old) }
 {
-    let columns = state_in(draft.panel, Axis::Column);
-    let rows = state_in(draft.panel, Axis::Row);
-    let columns_before = AxisAfter {
-        state: columns,
-        reading: draft.reading.columns,
-    };
-    let rows_before = AxisAfter {
-        state: rows,
-        reading: draft.reading.rows,
-    };
-    let columns_end = end_in(Axis::Column, columns_before, &mut draft.words);
-    let rows_end = end_in(Axis::Row, rows_before, &mut draft.words);
-    let columns_ended = with_state(draft.panel, Axis::Column, columns_end.unwrap_or(columns));
-    draft.panel = with_state(columns_ended, Axis::Row, rows_end.unwrap_or(rows));
+    let columns = draft.axis(Axis::Column);
+    let rows = draft.axis(Axis::Row);
+    let columns_end = end_in(Axis::Column, columns, &mut draft.words);
+    let rows_end = end_in(Axis::Row, rows, &mut draft.words);
+    let columns_ended = with_state(
+        draft.panel,
+        Axis::Column,
+        columns_end.unwrap_or(columns.state),
+    );
+    draft.panel = with_state(columns_ended, Axis::Row, rows_end.unwrap_or(rows.state));
     first_refusal(columns_end, rows_end)
 }
 

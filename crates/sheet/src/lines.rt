@@ -1,5 +1,5 @@
 // The lines of a sheet, one after the other.
-ghost use Rattle.std.specs.Prelude.{◌≡◌, ◌<◌, ◌≤◌, length, drop};
+ghost use Rattle.std.specs.Prelude.{◌≡◌, ◌<◌, ◌≤◌, length, Err};
 ghost use Rattle.text.specs.Split.{split};
 ghost use Rattle.sheet_rules.specs.Contents.{lines_from};
 ghost use Rattle.sheet_rules.specs.Answers.{noted, NumberedPair};
@@ -30,24 +30,29 @@ fn overlap_at(shared: Option<u32>, areas: u32, line: u32) -> Option<Overlap>
     })
 }
 
-// The line of the last row of a broken picture, of which one that was noted stays: here line `line`, after which the sheet goes on at a place.
-fn broken_line(
-    noted: Option<u32>,
-    broken: bool,
-    text: &[u8],
-    sheet: &[u8],
-    next: usize,
-    line: u32,
-) -> Option<u32>
+// The line of the last row of a broken picture, of which one that was noted stays: here line `line`, after which the rest of the sheet comes.
+fn broken_line(noted: Option<u32>, broken: bool, text: &[u8], rest: &[u8], line: u32) -> Option<u32>
     requires noted { IsLine noted }
     requires line { 0 < line }
-    ensures line { line_or_none result ≡ or_line (line_or_none noted) (broken_note broken (split 9 text.now) (lines_from (split 10 (drop next sheet.now))) line) }
+    ensures line { line_or_none result ≡ or_line (line_or_none noted) (broken_note broken (split 9 text.now) (lines_from (split 10 rest.now)) line) }
     ensures positive { IsLine result }
 {
-    if noted.is_none() && last_broken_row(broken, text, sheet.get(next..).unwrap_or(&[])) {
+    if noted.is_none() && last_broken_row(broken, text, rest) {
         return Some(line);
     }
     noted
+}
+
+// Lines of which one is refused, with what was noted before it.
+fn refused_at(overlap: Option<Overlap>, broken: Option<u32>, fault: Fault, line: u32) -> LinesRead
+    ensures { result ≡ record { overlap = overlap; broken = broken; end = Err (record { fault = fault; line = line }) } }
+{
+    let end = Err(LineFault { fault, line });
+    LinesRead {
+        overlap,
+        broken,
+        end,
+    }
 }
 
 // Line after line into the draft, until one is refused; the first overlap and the last row of a broken picture are noted, and reading goes on.
@@ -66,30 +71,18 @@ pub(crate) fn read_lines(sheet: &[u8], draft: &mut Draft) -> LinesRead
     while at < sheet.len() {
         let end = part_end(sheet, at, LINE_FEED);
         if end == sheet.len() {
-            let end = Err(LineFault {
-                fault: Fault::Unread,
-                line,
-            });
-            return LinesRead {
-                overlap,
-                broken,
-                end,
-            };
+            return refused_at(overlap, broken, Fault::Unread, line);
         }
         let text = &sheet[at..end];
         let areas = draft.panel.grid.areas;
         let read = read_line(draft, text);
         overlap = overlap.or(overlap_at(read.shared, areas, line));
         if let Some(fault) = read.fault {
-            let end = Err(LineFault { fault, line });
-            return LinesRead {
-                overlap,
-                broken,
-                end,
-            };
+            return refused_at(overlap, broken, fault, line);
         }
         at = end + 1;
-        broken = broken_line(broken, draft.reading.picture.broken, text, sheet, at, line);
+        let rest = &sheet[at..];
+        broken = broken_line(broken, draft.reading.picture.broken, text, rest, line);
         line += 1;
     }
     LinesRead {

@@ -12,14 +12,10 @@ use crate::{ReadPanel, SheetRun};
 use axis_tables::layout::{AXIS_BYTES, part_from};
 use axis_tables::name::put_bytes;
 use coordinates::Fault;
-use panel_tables::Panel;
 use panel_tables::region::{PANEL_BYTES, PANEL_WORDS};
-use panel_tables::state::{zero_panel, zero_panel_reading};
-use sheet_rules::{Display, SheetFault};
+use panel_tables::{Panel, Reading};
+use sheet_rules::{Display, SHEET_BYTES, SheetFault};
 use sheet_step::Draft;
-
-// The most bytes of a sheet.
-const SHEET_BYTES: usize = 32768;
 
 // What a sheet is refused by: two areas that share a cell, but not under the former rule, else its own fault.
 fn judged(former: bool, run: SheetRun) -> Result<(), SheetFault>
@@ -58,8 +54,8 @@ fn read_tables(
         return Err(SheetFault::Whole(Fault::Unread));
     }
     let mut draft = Draft {
-        panel: zero_panel(),
-        reading: zero_panel_reading(),
+        panel: Panel::default(),
+        reading: Reading::default(),
         words: [0; PANEL_WORDS],
         bytes: [0; PANEL_BYTES],
         column_bytes: [0; AXIS_BYTES],

@@ -9,7 +9,7 @@ use lib.ListN.{length, length-map}
 use Rattle.name_rules.specs.Template.{rule_from}
 use Rattle.name_entries.specs.declared.NameEntry.{NameEntry}
 use Rattle.name_entries.specs.Entries.{named_entry, entries_of as held_entries}
-use Rattle.name_template.specs.Records.{record_of}
+use Rattle.name_entries.specs.Places.{name_place}
 use Rattle.name_template.specs.Writing.{written_entries, entry_word}
 use Rattle.name_template.specs.Lines.{Below}
 use Rattle.name_template.proofs.Placing.{small-offset, small-length}
@@ -42,7 +42,7 @@ none_open v e = no_open v.unended (first_zero (open_fault v.unended) (first_of (
 -- any record's bytes lie below that
 below-any : (ws : List ℕ) → Below 65790 ws
 below-any [] = tt
-below-any (w ∷ ws) = let x = small-offset w (record_of w) refl in let y = small-length w (record_of w) refl in (omega arith, below-any ws)
+below-any (w ∷ ws) = let x = small-offset w (name_place w) refl in let y = small-length w (name_place w) refl in (omega arith, below-any ws)
 
 module _ (v : AxisView) (f : Fits v) where
   -- the limits of a view that fits

@@ -11,11 +11,12 @@ use lib.ListN.{length, take, drop, length-append}
 use Rattle.template_rules.specs.declared.RepetitionCount.TheVariants.{Single, Count, AutoFill, AutoFit}
 use Rattle.template_rules.specs.Template.{component_of, count_of}
 use Rattle.name_rules.specs.Template.{label, single as one, repeat as times}
-use Rattle.name_template.specs.Records.{record_of, stands, leading}
+use Rattle.name_entries.specs.Places.{name_place}
+use Rattle.name_template.specs.Records.{stands, leading}
 use Rattle.name_template.specs.Items.{name_of, reached, pieces_from, item_of as word_item, items_from, Ordered, InOrder}
 use Rattle.name_template.specs.Lines.{FewTracks}
 use Rattle.axis_tables.specs.View.{Piece, name, track, Repeat, Item, single, repeat, tracks_in, tracks_of, NameRecord, names_in, names_from}
-use Rattle.axis_tables.specs.Store.{component_word}
+use Rattle.template_rules.specs.Template.{component_word}
 use Rattle.axis_tables.specs.Written.{components_from}
 use Rattle.axis_tables.specs.Reads.{name_record_in}
 use Rattle.axis_tables.proofs.Same.{positive}
@@ -47,10 +48,10 @@ few-held (repeat r ∷ is) n s h =
 -- ---- the pieces of a repeat
 module _ (store : List ℕ) where
   -- a name at a place reached is the next piece
-  piece-named : (i n w : ℕ) (ws : List ℕ) → (record_of w).place ≤ i + 1 → pieces_from store i n (w ∷ ws) ≡ label (name_of store w) ∷ pieces_from store i n ws
+  piece-named : (i n w : ℕ) (ws : List ℕ) → (name_place w).place ≤ i + 1 → pieces_from store i n (w ∷ ws) ≡ label (name_of store w) ∷ pieces_from store i n ws
   unfolding pieces_from reached
   piece-named i zero w ws h = refl
-  piece-named i (suc n) w ws h = rw (le-leb (record_of w).place (i + 1) h)
+  piece-named i (suc n) w ws h = rw (le-leb (name_place w).place (i + 1) h)
 
   -- no name of a place further on is reached
   none-reached : (c i : ℕ) (ps : List Piece) (p : ℕ) (ws : List ℕ) → i + 1 < p → map (name_record_in store) ws ≡ names_in c p ps → reached i ws ≡ 0
@@ -60,7 +61,7 @@ module _ (store : List ℕ) where
   none-reached c i (name m ∷ ps) p [] h e = refl
   none-reached c i (name m ∷ ps) p (w ∷ ws) h e =
       let q = place_read store w (record { component = c; place = p; name = m }) (head-eq_of_cons-eq e) in
-      rw (lt-leb (record_of w).place (i + 1) (omega arith))
+      rw (lt-leb (name_place w).place (i + 1) (omega arith))
   none-reached c i (track t ∷ ps) p ws h e = none-reached c i ps (p + 1) ws (omega arith) e
 
   -- the words of a repeat's names, with its tracks, are its pieces, and they stand in order
@@ -87,7 +88,7 @@ module _ (store : List ℕ) where
   ordered-read c low last (name m ∷ ps) p [] h g e = tt
   ordered-read c low last (name m ∷ ps) p (w ∷ ws) h g e =
       let q = place_read store w (record { component = c; place = p; name = m }) (head-eq_of_cons-eq e) in
-      (omega arith, omega arith, ordered-read c (record_of w).place last ps p ws (omega arith) g (tail-eq_of_cons-eq e))
+      (omega arith, omega arith, ordered-read c (name_place w).place last ps p ws (omega arith) g (tail-eq_of_cons-eq e))
   ordered-read c low last (track t ∷ ps) p ws h g e = ordered-read c low last ps (p + 1) ws (omega arith) (omega arith) e
 
 -- ---- the items

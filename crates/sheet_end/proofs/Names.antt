@@ -7,10 +7,11 @@ use native.Mathlib.Omega.{arith}
 use borrow.Author.Tests.{eq-eqb, ne_eqb, lt-ltb}
 use lib.Dec.{eqb}
 use lib.ListN.{length, take, drop}
-use Rattle.name_template.specs.Records.{record_of, stands, leading}
+use Rattle.name_entries.specs.Places.{name_place}
+use Rattle.name_template.specs.Records.{stands, leading}
 use Rattle.name_template.specs.Items.{name_of}
 use Rattle.axis_tables.specs.View.{Piece, name, track, Item, single, repeat, NameRecord, names_in, names_from}
-use Rattle.axis_tables.specs.Reads.{name_place, name_record_in}
+use Rattle.axis_tables.specs.Reads.{name_record_in}
 use Rattle.axis_tables.proofs.Runs.{All, all_append}
 
 -- a record inside component k, and one of a later component
@@ -40,16 +41,16 @@ later-names k c (repeat r ∷ is) h =
 
 -- ---- words that read as those records
 module _ (store : List ℕ) where
-  pub component-read : (w : ℕ) (x : NameRecord) → name_record_in store w ≡ x → (record_of w).component ≡ x.component
-  unfolding record_of name_place
+  pub component-read : (w : ℕ) (x : NameRecord) → name_record_in store w ≡ x → (name_place w).component ≡ x.component
+  unfolding name_place
   component-read w x e = ap (λ (n : NameRecord). n.component) e
 
-  pub place_read : (w : ℕ) (x : NameRecord) → name_record_in store w ≡ x → (record_of w).place ≡ x.place
-  unfolding record_of name_place
+  pub place_read : (w : ℕ) (x : NameRecord) → name_record_in store w ≡ x → (name_place w).place ≡ x.place
+  unfolding name_place
   place_read w x e = ap (λ (n : NameRecord). n.place) e
 
   pub name-read : (w : ℕ) (x : NameRecord) → name_record_in store w ≡ x → name_of store w ≡ x.name
-  unfolding record_of name_place
+  unfolding name_place
   name-read w x e = ap (λ (n : NameRecord). n.name) e
 
   -- a word before component k, inside it, or of a later one
@@ -57,19 +58,19 @@ module _ (store : List ℕ) where
     pub before_stands : x.component ≡ k → x.place ≡ 0 → stands false k w ≡ true
     unfolding stands
     before_stands c p =
-        rw (eq-eqb (record_of w).component k (component-read w x e ∙ c), eq-eqb (record_of w).place 0 (place_read w x e ∙ p))
+        rw (eq-eqb (name_place w).component k (component-read w x e ∙ c), eq-eqb (name_place w).place 0 (place_read w x e ∙ p))
 
     inner-stands : Inner k x → stands true k w ≡ true
     unfolding stands
     inner-stands h =
-        let p : 0 < (record_of w).place = rw (place_read w x e) h.1 in
-        rw (eq-eqb (record_of w).component k (component-read w x e ∙ h.0), lt-ltb 0 (record_of w).place p)
+        let p : 0 < (name_place w).place = rw (place_read w x e) h.1 in
+        rw (eq-eqb (name_place w).component k (component-read w x e ∙ h.0), lt-ltb 0 (name_place w).place p)
 
     inner-apart : Inner k x → stands false k w ≡ false
     unfolding stands
     inner-apart h =
         let q = place_read w x e in let g = h.1 in
-        rw (ne_eqb (record_of w).place 0 (λ z. omega arith)) (go (eqb (record_of w).component k))
+        rw (ne_eqb (name_place w).place 0 (λ z. omega arith)) (go (eqb (name_place w).component k))
       where
         go : (t : Bool) → (t && false) ≡ false
         go true = refl
@@ -79,7 +80,7 @@ module _ (store : List ℕ) where
     unfolding stands
     later-apart inside h =
         let q = component-read w x e in
-        rw (ne_eqb (record_of w).component k (λ z. omega arith))
+        rw (ne_eqb (name_place w).component k (λ z. omega arith))
 
   -- no word of later components stands at k
   pub later-leading : (inside : Bool) (k : ℕ) (ws : List ℕ) (xs : List NameRecord) → map (name_record_in store) ws ≡ xs → All (Later k) xs → leading inside k ws ≡ 0

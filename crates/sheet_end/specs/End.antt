@@ -3,28 +3,18 @@ use Rattle.std.specs.Prelude.{ℕ, List, [], map, cond, eqb, ltb, length, Float,
 use Rattle.std.proofs.lemmas.List.Edits.{sets}
 use Rattle.coordinates.specs.declared.refusal.Fault.{Fault}
 use Rattle.coordinates.specs.Refusals.{number_of}
-use Rattle.sizing.specs.Words.{float_up_to, largest_bits, sizing_of}
-use Rattle.template_rules.specs.declared.AutoRepeatStrategy.{AutoRepeatStrategy}
-use Rattle.template_rules.specs.Strategies.{strategy_of}
+use Rattle.sizing.specs.Words.{sizing_of}
 use Rattle.template_rules.specs.Explicit.{SizeAnswer, explicit_size_of}
 use Rattle.template_rules.specs.Template.{template_of}
 use Rattle.name_entries.specs.declared.NameEntry.{NameEntry}
 use Rattle.coordinates.specs.Refusals.{no_refusal, refusal_of}
 use Rattle.name_template.specs.Writing.{written_entries, entry_word, WrittenNames}
-use Rattle.axis_tables.specs.declared.AxisSpace.{AxisSpace}
 use Rattle.axis_tables.specs.declared.AxisState.{AxisState}
 use Rattle.axis_tables.specs.Readings.{AxisReading, OpenRepeat}
 use Rattle.axis_tables.specs.Store.{zero_template}
+use Rattle.axis_tables.specs.Reads.{inner_in, strategy_in}
 use Rattle.axis_tables.specs.Runs.{part_of}
 use Rattle.sheet_rules.specs.Panels.{with_size}
-
--- "inner size or `-`"
-abbrev pub inner_in : AxisSpace → Option Float
-inner_in s = cond (eqb s.definite 0) None (Some (float_up_to largest_bits s.inner))
-
--- rule 0 is `max`, 1 is `min`
-abbrev pub strategy_in : AxisSpace → AutoRepeatStrategy
-strategy_in s = strategy_of s.rule
 
 -- the words of the components, and of the name records
 abbrev pub components_in : AxisState → List ℕ → List ℕ

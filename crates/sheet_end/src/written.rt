@@ -8,11 +8,9 @@ use axis_tables::AxisState;
 use axis_tables::layout::{ENTRIES, NAMES, part_from};
 use axis_tables::write::copy_what_fits;
 use coordinates::Fault;
+use name_entries::MOST_ENTRIES;
 use name_template::TemplateNames;
 use template_rules::ExplicitSize;
-
-// The most name entries of an axis.
-const MOST_ENTRIES: usize = 4096;
 
 // The names of an axis's template, with the repetitions of its automatic repeat.
 fn names_of(state: AxisState, repetitions: u32, words: &[u64]) -> TemplateNames

@@ -7,6 +7,7 @@ ghost use Rattle.sheet_rules.specs.Lines.{edges_of};
 ghost use Rattle.sheet_faults.specs.Lines.{noted_by};
 ghost use Rattle.sheet_faults.specs.Parts.{shared_of};
 
+use crate::fault::AreasBefore;
 use coordinates::Fault;
 use panel_cells::first_sharing;
 use panel_tables::AreaEdges;
@@ -24,12 +25,12 @@ pub fn edges_of(area: AreaRecord) -> AreaEdges
     }
 }
 
-// The place, from 0, of the first area of the table that shares a cell with a record's, which is an area.
-pub fn shared(count: u32, areas: &[u64], said: Result<Record, Fault>) -> Option<u32>
-    ensures { area_number_of result ≡ shared_of count areas.now (said_of said) }
+// The place, from 0, of the first area before a line that shares a cell with its record's, which is an area.
+pub fn shared(areas: AreasBefore<'_>, said: Result<Record, Fault>) -> Option<u32>
+    ensures { area_number_of result ≡ shared_of areas.entry.count areas.entry.words.now (said_of said) }
 {
     match said {
-        Ok(Record::Area(a)) => first_sharing(count, areas, edges_of(a)),
+        Ok(Record::Area(a)) => first_sharing(areas.count, areas.words, edges_of(a)),
         _ => None,
     }
 }

@@ -1,10 +1,11 @@
 // An end of a placement: three fields, kind, name and number.
-ghost use Rattle.std.specs.Prelude.{◌≡◌};
+ghost use Rattle.std.specs.Prelude.{◌≡◌, cond};
 ghost use Rattle.coordinates.specs.Refusals.{refused_by};
+ghost use Rattle.text.specs.Split.{same};
 ghost use Rattle.text.specs.Whole.{whole_of, index_in};
 ghost use Rattle.sheet_forms.specs.Answers.{end_kind_number, kind_said, integer_said, end_said, end_where_read};
 ghost use Rattle.sheet_forms.specs.Fields.{count_of};
-ghost use Rattle.sheet_forms.specs.Ends.{end_kind, unused_name, end_name, index_field, span_field, unused_number, end_number, end_of};
+ghost use Rattle.sheet_forms.specs.Ends.{end_kind, end_name, index_field, span_field, end_number, end_of};
 
 use coordinates::Fault;
 use sheet_forms::field::count;
@@ -26,12 +27,12 @@ fn kind(f: &[u8]) -> Option<EndKind>
     }
 }
 
-// An unused name is `-`.
+// A field that its kind of end does not use has this text alone.
 #[tactic(auto, using(text::proofs::Library::same_pointwise))]
-fn unused_name(f: &[u8]) -> Result<(), Fault>
-    ensures { refused_by result ≡ unused_name f.now }
+fn unused(f: &[u8], text: &[u8]) -> Result<(), Fault>
+    ensures { refused_by result ≡ cond (same f.now text.now) 0 1 }
 {
-    if f == b"-".as_slice() {
+    if f == text {
         Ok(())
     } else {
         Err(Fault::Unread)
@@ -45,7 +46,7 @@ fn end_name(kind: EndKind, f: &[u8]) -> Result<(), Fault>
 {
     match kind {
         EndKind::Named | EndKind::NamedSpan => check_name(f),
-        EndKind::Auto | EndKind::Line | EndKind::Span => unused_name(f),
+        EndKind::Auto | EndKind::Line | EndKind::Span => unused(f, b"-"),
     }
 }
 
@@ -53,7 +54,7 @@ fn end_name(kind: EndKind, f: &[u8]) -> Result<(), Fault>
 fn index(f: &[u8]) -> Result<i32, Fault>
     ensures { integer_said result ≡ index_field (index_in (whole_of f.now)) }
 {
-    Ok(read_index(f)?)
+    Ok(i32::from(read_index(f)?))
 }
 
 // A span.
@@ -64,25 +65,13 @@ fn span(f: &[u8]) -> Result<i32, Fault>
     Ok(count(f, 0, u32::from(u16::MAX))? as i32)
 }
 
-// An unused number is 0.
-#[tactic(auto, using(text::proofs::Library::same_pointwise))]
-fn unused_number(f: &[u8]) -> Result<(), Fault>
-    ensures { refused_by result ≡ (unused_number f.now).fault }
-{
-    if f == b"0".as_slice() {
-        Ok(())
-    } else {
-        Err(Fault::Unread)
-    }
-}
-
 // An end of that kind with its number: a line index of `line` and `named`, a span of `span` and `nspan`.
 #[tactic(auto, unfolding(sheet_forms::specs::Ends::end_number))]
 fn end_number(kind: EndKind, f: &[u8]) -> Result<PlaceEnd, Fault>
     ensures { end_said result ≡ end_where_read (record { fault = (end_number (end_kind_number kind) f.now).fault; end = record { kind = end_kind_number kind; number = (end_number (end_kind_number kind) f.now).value } }) }
 {
     match kind {
-        EndKind::Auto => unused_number(f).map(|()| PlaceEnd::Auto),
+        EndKind::Auto => unused(f, b"0").map(|()| PlaceEnd::Auto),
         EndKind::Line => index(f).map(PlaceEnd::Line),
         EndKind::Named => index(f).map(PlaceEnd::Named),
         EndKind::Span => span(f).map(PlaceEnd::Span),

@@ -1,10 +1,20 @@
 // Which of the faults of one line is named.
-ghost use Rattle.std.specs.Prelude.{◌≡◌, Ok, IfOk};
+ghost use Rattle.std.specs.Prelude.{◌≡◌, ◌+◌, Ok, IfOk};
 ghost use Rattle.coordinates.specs.Refusals.{number_of, fault_number, refused_by};
 ghost use Rattle.sheet_forms.specs.Faults.{rank_of, first_of};
 ghost use Rattle.sheet_forms.specs.Answers.{first_named, both_of};
 
 use coordinates::Fault;
+
+// How many faults a line of a sheet can have.
+const LINE_FAULTS: u64 = 13;
+
+// The place of a number that no line of a sheet has.
+fn after_all(number: u32) -> u64
+    ensures { result ≡ number + 13 }
+{
+    u64::from(number) + LINE_FAULTS
+}
 
 // The place of a fault's number in the order in which the faults of one line are looked at: the lowest first, but 12 before 8 and 10 last. A
 // number that no line of a sheet has comes after all of these.
@@ -12,29 +22,33 @@ use coordinates::Fault;
 pub fn rank_of_number(number: u32) -> u64
     ensures { result ≡ rank_of number }
 {
-    match number {
-        1 => 0,
-        2 => 1,
-        3 => 2,
-        4 => 3,
-        5 => 4,
-        6 => 5,
-        7 => 6,
-        12 => 7,
-        8 => 8,
-        9 => 9,
-        13 => 10,
-        14 => 11,
-        10 => 12,
-        _ => u64::from(number) + 13,
+    match Fault::try_from(number) {
+        Ok(fault) => rank(fault),
+        Err(_) => after_all(number),
     }
 }
 
 // A fault's place in that order.
+#[tactic(auto, unfolding(crate::specs::Faults::rank_of))]
 pub fn rank(fault: Fault) -> u64
     ensures { result ≡ rank_of (number_of fault) }
 {
-    rank_of_number(u32::from(fault))
+    match fault {
+        Fault::Unread => 0,
+        Fault::Name => 1,
+        Fault::Value => 2,
+        Fault::Count => 3,
+        Fault::Area => 4,
+        Fault::Twice => 5,
+        Fault::Late => 6,
+        Fault::Overlap => 7,
+        Fault::Crowded => 8,
+        Fault::ZeroLine => 9,
+        Fault::Unequal => 10,
+        Fault::Broken => 11,
+        Fault::Short => 12,
+        Fault::Indefinite | Fault::Unplaced => after_all(u32::from(fault)),
+    }
 }
 
 // The first of two faults.
@@ -51,8 +65,7 @@ pub fn first_fault(a: Option<Fault>, b: Option<Fault>) -> Option<Fault>
 {
     match (a, b) {
         (Some(a), Some(b)) => Some(first(a, b)),
-        (Some(_), None) => a,
-        (None, _) => b,
+        _ => a.or(b),
     }
 }
 

@@ -9,7 +9,7 @@ pub mod name;
 ghost use Rattle.std.specs.Prelude.{◌≡◌};
 ghost use Rattle.sheet_forms.specs.Answers.{end_kind_number, place_end};
 
-use coordinates::{Axis, Fault};
+use coordinates::{Axis, Fault, Line};
 pub use fault::{both, first_fault, rank, rank_of_number};
 pub use name::check_name;
 use template_rules::AutoRepeatStrategy;
@@ -97,6 +97,13 @@ impl PlaceEnd {
     }
 }
 
+// The sizes of a track, each a word.
+#[derive(Clone, Copy, Debug, PartialEq, Eq)]
+pub struct TrackSizes {
+    pub min: u64,
+    pub max: u64,
+}
+
 // What a line says. A size is one word, its kind times 2^32 and its bits. Names stay in the line: field 1 of an `area`,
 // field 2 of a `name`, fields 3 and 6 of a `place`. A `repeat` whose count is outside its range still says its axis, since inside a repeat of
 // its axis it is unread before anything else. The words of a `row` are its fields from 1 on; the record says how many there are.
@@ -105,13 +112,13 @@ pub enum Record {
     Axis(AxisRecord),
     Area(AreaRecord),
     Name(Axis),
-    Track(Axis, u64, u64),
+    Track(Axis, TrackSizes),
     Repeat(Axis, Result<Repetition, Fault>),
     End(Axis),
-    Spare(Axis, u64, u64),
+    Spare(Axis, TrackSizes),
     Extra(Axis, u32, u32),
     Item(Axis, u32),
-    Place(Axis, PlaceEnd, PlaceEnd),
+    Place(Axis, Line<PlaceEnd>),
     PictureRow(u32),
 }
 

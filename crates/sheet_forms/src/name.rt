@@ -5,19 +5,13 @@ ghost use Rattle.sheet_forms.specs.Fields.{in_code_range, name_fault};
 ghost use Rattle.coordinates.specs.Refusals.{refused_by};
 
 use coordinates::Fault;
-
-// Whether a byte is of the codes 33 to 126.
-fn in_code_range(b: u8) -> bool
-    ensures { result ≡ in_code_range b }
-{
-    matches!(b, 33..=126)
-}
+use coordinates::limit::LONGEST_NAME;
 
 // Whether every byte is of the codes 33 to 126.
 fn in_codes(f: &[u8]) -> bool
     ensures { result ≡ list_all (λ b. in_code_range b) f.now }
 {
-    f.iter().all(|b| in_code_range(*b))
+    f.iter().all(|b| b.is_ascii_graphic())
 }
 
 // A name is in the name range; else it is refused by 2.
@@ -25,7 +19,7 @@ fn in_codes(f: &[u8]) -> bool
 pub fn check_name(f: &[u8]) -> Result<(), Fault>
     ensures { refused_by result ≡ name_fault f.now }
 {
-    if (1..=32).contains(&f.len()) && in_codes(f) {
+    if (1..=LONGEST_NAME).contains(&f.len()) && in_codes(f) {
         Ok(())
     } else {
         Err(Fault::Name)

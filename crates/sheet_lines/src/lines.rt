@@ -6,14 +6,11 @@ ghost use Rattle.sheet_forms.specs.Records.{edges_of, made_area, area_line, made
 ghost use Rattle.sheet_lines.specs.Fields.{fields_of};
 
 use crate::fields::{AREA_FIELDS, EXTRA_FIELDS, Fields, ITEM_FIELDS, NAME_FIELDS, PLACE_FIELDS};
-use coordinates::line::MOST_TRACKS;
-use coordinates::{Axis, Fault};
+use coordinates::line::{LAST_EXPLICIT_LINE, MOST_TRACKS};
+use coordinates::{Axis, Fault, Line};
 use sheet_fields::ends::end;
 use sheet_forms::field::{axis, count};
 use sheet_forms::{AreaRecord, PlaceEnd, Record, both, check_name};
-
-// The last line of an axis with as many explicit tracks as it can have.
-const LAST_LINE: u32 = MOST_TRACKS as u32 + 1;
 
 // The most implicit tracks on one side of the explicit ones.
 const MOST_IMPLICIT: u32 = MOST_TRACKS as u32;
@@ -63,10 +60,10 @@ pub(crate) fn area_line(fields: &Fields<'_>) -> Result<Record, Fault>
     fields.check_count(AREA_FIELDS)?;
     make_area(
         check_name(fields.field(1)),
-        count(fields.field(2), 1, LAST_LINE),
-        count(fields.field(3), 1, LAST_LINE),
-        count(fields.field(4), 1, LAST_LINE),
-        count(fields.field(5), 1, LAST_LINE),
+        count(fields.field(2), 1, LAST_EXPLICIT_LINE),
+        count(fields.field(3), 1, LAST_EXPLICIT_LINE),
+        count(fields.field(4), 1, LAST_EXPLICIT_LINE),
+        count(fields.field(5), 1, LAST_EXPLICIT_LINE),
     )
 }
 
@@ -142,7 +139,7 @@ fn make_place(
     ensures { said_of result ≡ made_place (axis_said axis) (end_said start) (end_said end) }
 {
     let (axis, (start, end)) = both(axis, both(start, end))?;
-    Ok(Record::Place(axis, start, end))
+    Ok(Record::Place(axis, Line { start, end }))
 }
 
 // `place`, axis, then kind, name, number for the start and for the end

@@ -46,7 +46,7 @@ fn name_fields(said: Result<Record, Fault>) -> (usize, usize)
     match said {
         Ok(Record::Area(_)) => (1, FIELDS),
         Ok(Record::Name(_)) => (2, FIELDS),
-        Ok(Record::Place(_, _, _)) => (3, 6),
+        Ok(Record::Place(_, _)) => (3, 6),
         _ => (FIELDS, FIELDS),
     }
 }

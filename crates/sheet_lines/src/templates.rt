@@ -11,7 +11,7 @@ use coordinates::{Axis, Fault};
 use sheet_fields::repetition::repetition;
 use sheet_fields::size::{inner, size};
 use sheet_forms::field::axis;
-use sheet_forms::{AxisRecord, Position, Record, Repetition, both};
+use sheet_forms::{AxisRecord, Position, Record, Repetition, TrackSizes, both};
 use template_rules::AutoRepeatStrategy;
 
 // The rule, `max` or `min`.
@@ -65,17 +65,17 @@ fn make_sizes(
     axis: Result<Axis, Fault>,
     min: Result<u64, Fault>,
     max: Result<u64, Fault>,
-) -> Result<(Axis, u64, u64), Fault>
+) -> Result<(Axis, TrackSizes), Fault>
     ensures track { said_of (track_of result) ≡ made_sizes false (axis_said axis) (size_said min) (size_said max) }
     ensures spare { said_of (spare_of result) ≡ made_sizes true (axis_said axis) (size_said min) (size_said max) }
 {
     let (axis, (min, max)) = both(axis, both(min, max))?;
-    Ok((axis, min, max))
+    Ok((axis, TrackSizes { min, max }))
 }
 
 // Kind, axis, minimum kind, value, maximum kind, value
 #[tactic(auto, unfolding(sheet_forms::specs::Records::sizes_line))]
-fn sizes(fields: &Fields<'_>) -> Result<(Axis, u64, u64), Fault>
+fn sizes(fields: &Fields<'_>) -> Result<(Axis, TrackSizes), Fault>
     ensures track { said_of (track_of result) ≡ sizes_line false (fields_of fields.now) }
     ensures spare { said_of (spare_of result) ≡ sizes_line true (fields_of fields.now) }
 {
@@ -91,16 +91,16 @@ fn sizes(fields: &Fields<'_>) -> Result<(Axis, u64, u64), Fault>
 pub fn track_line(fields: &Fields<'_>) -> Result<Record, Fault>
     ensures { said_of result ≡ sizes_line false (fields_of fields.now) }
 {
-    let (axis, min, max) = sizes(fields)?;
-    Ok(Record::Track(axis, min, max))
+    let (axis, track) = sizes(fields)?;
+    Ok(Record::Track(axis, track))
 }
 
 // `spare`, and the sizes of the track that spare tracks have
 pub fn spare_line(fields: &Fields<'_>) -> Result<Record, Fault>
     ensures { said_of result ≡ sizes_line true (fields_of fields.now) }
 {
-    let (axis, min, max) = sizes(fields)?;
-    Ok(Record::Spare(axis, min, max))
+    let (axis, spare) = sizes(fields)?;
+    Ok(Record::Spare(axis, spare))
 }
 
 // A repeat of these parts: one whose count is outside its range still says its axis.

@@ -30,29 +30,27 @@ use Rattle.picture_rows.specs.Steps.{row_in}
 use Rattle.sheet_rules.specs.Lines.{late_at}
 use Rattle.sheet_rules.specs.Steps.{axis_record, on_held, stayed, of_row, held_row}
 use Rattle.sheet_faults.specs.Parts.{axis_part, part_of as part_written, named, place_in, part_step, named_step}
-use Rattle.sheet_step.specs.Regions.{axis_in, on_axis, parts_back, on_areas, on_placements, picture_back, on_drawing, drawn_read, InPanel, unchanged, drawn_in, on_picture}
+use Rattle.sheet_step.specs.Regions.{axis_in, on_axis, on_axis_after, parts_back, on_areas, on_placements, picture_back, on_drawing, drawn_read, InPanel, unchanged, drawn_in, on_picture}
 
 -- ---- what was written into parts, put back
 
-pub axis_put : (a : Axis) (p : Panel) (r : Reading) (w b store name : List ℕ) (said : Record) (f g j k : ℕ) (s : AxisState) (t : AxisReading) (x : Held)
-    → f ≡ first_word a → g ≡ first_mark a → j ≡ 12480 → k ≡ 30000 → s ≡ state_in p a → t ≡ reading_in r a
+pub axis_put : (a : Axis) (w b store name : List ℕ) (said : Record) (f g j k : ℕ) (s : AxisState) (t : AxisReading) (x : Held)
+    → f ≡ first_word a → g ≡ first_mark a → j ≡ 12480 → k ≡ 30000
     → x ≡ axis_record (record { answer = put 0 s t; words = take j (drop f w); marks = take k (drop g b); bytes = store }) (named name) said
-    → record { answer = x.answer; words = with_part w f j x.words; marks = with_part b g k x.marks; bytes = x.bytes } ≡ on_axis a p r w b store name said
-unfolding on_axis axis_words_in marks_in
-axis_put a p r w b store name said f g j k s t x ef eg ej ek es et e =
+    → record { answer = x.answer; words = with_part w f j x.words; marks = with_part b g k x.marks; bytes = x.bytes } ≡ on_axis_after a s t w b store name said
+unfolding axis_words_in marks_in
+axis_put a w b store name said f g j k s t x ef eg ej ek e =
     ap (back f g j k) e
-    ∙ ap (λ (z : ℕ). made z g j k s t) ef
-    ∙ ap (λ (z : ℕ). made (first_word a) z j k s t) eg
-    ∙ ap (λ (z : ℕ). made (first_word a) (first_mark a) z k s t) ej
-    ∙ ap (λ (z : ℕ). made (first_word a) (first_mark a) 12480 z s t) ek
-    ∙ ap (λ (z : AxisState). made (first_word a) (first_mark a) 12480 30000 z t) es
-    ∙ ap (λ (z : AxisReading). made (first_word a) (first_mark a) 12480 30000 (state_in p a) z) et
+    ∙ ap (λ (z : ℕ). made z g j k) ef
+    ∙ ap (λ (z : ℕ). made (first_word a) z j k) eg
+    ∙ ap (λ (z : ℕ). made (first_word a) (first_mark a) z k) ej
+    ∙ ap (λ (z : ℕ). made (first_word a) (first_mark a) 12480 z) ek
   where
     back : ℕ → ℕ → ℕ → ℕ → Held → Held
     back f g j k y = record { answer = y.answer; words = with_part w f j y.words; marks = with_part b g k y.marks; bytes = y.bytes }
 
-    made : ℕ → ℕ → ℕ → ℕ → AxisState → AxisReading → Held
-    made f g j k s t = back f g j k (axis_record (record { answer = put 0 s t; words = take j (drop f w); marks = take k (drop g b); bytes = store }) (named name) said)
+    made : ℕ → ℕ → ℕ → ℕ → Held
+    made f g j k = back f g j k (axis_record (record { answer = put 0 s t; words = take j (drop f w); marks = take k (drop g b); bytes = store }) (named name) said)
 
 pub parts-put : (f n g m g₀ j k : ℕ) (w b : List ℕ) (op : List ℕ → List ℕ → InAreas) (x : InAreas) → g₀ ≡ g → j ≡ n → k ≡ m → x ≡ op (take j (drop f w)) (take k (drop g₀ b))
     → record { answer = x.answer; words = with_part w f j x.words; bytes = with_part b g₀ k x.bytes } ≡ parts_back f n g m w b (op (part_of w f n) (part_of b g m))

@@ -3,13 +3,17 @@ use Rattle.std.specs.Prelude.{ℕ, ◌+◌, List, cond, leb}
 use Rattle.coordinates.specs.declared.axis.Axis.{Axis}
 use Rattle.sheet_forms.specs.Said.{Record}
 use Rattle.sheet_forms.specs.Said.{PlaceEnd}
+use Rattle.axis_tables.specs.declared.AxisState.{AxisState}
+use Rattle.axis_tables.specs.Readings.{AxisReading}
 use Rattle.axis_tables.specs.Runs.{with_part}
 use Rattle.axis_tables.specs.Store.{put}
 use Rattle.axis_tables.specs.Written.{Held}
 use Rattle.panel_tables.specs.declared.Panel.{Panel}
 use Rattle.panel_tables.specs.Readings.{Reading}
 use Rattle.panel_tables.specs.declared.AreaEdges.{AreaEdges}
+use Rattle.panel_tables.specs.declared.PlacementEnd.{PlacementEnd}
 use Rattle.panel_tables.specs.Areas.{InAreas, put_area}
+use Rattle.panel_tables.specs.Placements.{put_placement}
 use Rattle.panel_tables.specs.Axes.{state_in, reading_in, PanelRead}
 use Rattle.panel_tables.specs.Regions.{first_word, first_mark, axis_words_in, marks_in, area_words_in, area_bytes_in, placement_words_in, placement_bytes_in}
 use Rattle.sheet_forms.specs.Faults.{first_of}
@@ -31,6 +35,11 @@ abbrev pub axis_back : Axis → List ℕ → List ℕ → Held → Held
 axis_back a words bytes x =
     record { answer = x.answer; words = with_part words (first_word a) 12480 x.words; marks = with_part bytes (first_mark a) 30000 x.marks; bytes = x.bytes }
 
+-- a record written to an axis so far
+abbrev pub on_axis_after : Axis → AxisState → AxisReading → List ℕ → List ℕ → List ℕ → List ℕ → Record → Held
+on_axis_after a s t words bytes store name said =
+    axis_back a words bytes (axis_record (record { answer = put 0 s t; words = axis_words_in a words; marks = marks_in a bytes; bytes = store }) (named name) said)
+
 unfoldable pub on_axis : Axis → Panel → Reading → List ℕ → List ℕ → List ℕ → List ℕ → Record → Held
 on_axis a p r words bytes store name said = axis_back a words bytes (axis_record (axis_in a p r words bytes store) (named name) said)
 
@@ -42,6 +51,11 @@ parts_back f n g m words bytes x = record { answer = x.answer; words = with_part
 
 unfoldable pub on_areas : Panel → List ℕ → List ℕ → List ℕ → AreaEdges → InAreas
 on_areas p words bytes name e = parts_back 24960 128 60000 2048 words bytes (put_area p (area_words_in words) (area_bytes_in bytes) name e)
+
+-- a placement by its ends with their names
+abbrev pub on_ends : Panel → List ℕ → List ℕ → Axis → PlacementEnd → List ℕ → PlacementEnd → List ℕ → InAreas
+on_ends p words bytes a s first e second =
+    parts_back 25088 512 62048 16384 words bytes (put_placement p (placement_words_in words) (placement_bytes_in bytes) a s first e second)
 
 unfoldable pub on_placements : Panel → List ℕ → List ℕ → Axis → PlaceEnd → List ℕ → PlaceEnd → List ℕ → InAreas
 on_placements p words bytes a s first e second =

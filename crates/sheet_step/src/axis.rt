@@ -8,7 +8,7 @@ ghost use Rattle.sheet_rules.specs.Steps.{axis_record};
 ghost use Rattle.sheet_faults.specs.Parts.{named};
 
 use axis_tables::name::put_name;
-use axis_tables::{AxisAfter, AxisSpace, TrackSizes};
+use axis_tables::{AxisAfter, AxisSpace};
 use axis_writes::axis::{put_axis, put_extra, put_item};
 use axis_writes::spare::put_spare;
 use axis_writes::template::{close_repeat, open_repeat, put_track};
@@ -41,13 +41,13 @@ pub fn axis_record(
     match said {
         Record::Axis(a) => Ok(put_axis(axis, space_of(a))),
         Record::Name(_) => put_name(axis, words, bytes, name),
-        Record::Track(_, min, max) => put_track(axis, words, TrackSizes { min, max }),
+        Record::Track(_, sizes) => put_track(axis, words, sizes),
         // The line of a count that was not read is refused; it still says that a repeat is open.
         Record::Repeat(_, said) => open_repeat(axis, said.unwrap_or(Repetition::Count(0))),
         Record::End(_) => close_repeat(axis, words),
-        Record::Spare(_, min, max) => put_spare(axis, words, TrackSizes { min, max }),
+        Record::Spare(_, sizes) => put_spare(axis, words, sizes),
         Record::Extra(_, negative, positive) => Ok(put_extra(axis, negative, positive)),
         Record::Item(_, index) => put_item(axis, marks, index),
-        Record::Area(_) | Record::Place(_, _, _) | Record::PictureRow(_) => Ok(axis),
+        Record::Area(_) | Record::Place(_, _) | Record::PictureRow(_) => Ok(axis),
     }
 }

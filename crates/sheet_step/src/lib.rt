@@ -9,14 +9,19 @@ mod picture;
 ghost use Rattle.std.specs.Prelude.{◌≡◌};
 ghost use Rattle.text.specs.Split.{split};
 ghost use Rattle.coordinates.specs.Refusals.{fault_number, refused_by};
+ghost use Rattle.axis_tables.specs.Readings.{axis_reading};
+ghost use Rattle.panel_tables.specs.Axes.{state_in, reading_in};
+ghost use Rattle.panel_tables.specs.Readings.{panel_reading};
 ghost use Rattle.panel_cells.specs.Steps.{area_number_of};
 ghost use Rattle.sheet_forms.specs.Faults.{first_of};
 ghost use Rattle.panel_tables.specs.Regions.{area_words_in, area_bytes_in};
 ghost use Rattle.sheet_faults.specs.Lines.{line_in, line_shared};
 ghost use Rattle.sheet_step.specs.Drafts.{held_of};
 
+use axis_tables::AxisAfter;
 use axis_tables::layout::AXIS_BYTES;
-use coordinates::Fault;
+use coordinates::{Axis, Fault};
+use panel_tables::axis::{reading_in, state_in};
 use panel_tables::region::{PANEL_BYTES, PANEL_WORDS, area_bytes, area_words};
 use panel_tables::{Panel, Reading};
 use sheet_faults::fault::{AreasBefore, fault_before, stage};
@@ -55,6 +60,17 @@ pub fn first_refusal<A: Copy, B: Copy>(
 }
 
 impl Draft {
+    // An axis so far.
+    pub fn axis(&self, axis: Axis) -> AxisAfter
+        ensures state { result.state ≡ state_in self.now.panel axis }
+        ensures reading { axis_reading result.reading ≡ reading_in (panel_reading self.now.reading) axis }
+    {
+        AxisAfter {
+            state: state_in(self.panel, axis),
+            reading: reading_in(self.reading, axis),
+        }
+    }
+
     // The areas so far.
     fn areas(&self) -> AreasBefore<'_>
         ensures count { result.count ≡ self.now.panel.grid.areas }
@@ -77,7 +93,7 @@ pub fn read_line(draft: &mut Draft, line: &[u8]) -> LineRead
     let there = read_record(line);
     let areas = draft.areas();
     let before = fault_before(areas, draft.reading, part_at(line, there.first), there.said);
-    let with = shared(areas.count, areas.words, there.said);
+    let with = shared(areas, there.said);
     let reached = stage(draft.reading.stage, there.said);
     let written = draft.write(line, there).err();
     draft.reading.stage = reached;

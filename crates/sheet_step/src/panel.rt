@@ -4,15 +4,15 @@ ghost use Rattle.text.specs.Split.{split};
 ghost use Rattle.text.specs.Places.{part_at};
 ghost use Rattle.coordinates.specs.Refusals.{refused_by};
 ghost use Rattle.sheet_forms.specs.Answers.{place_end, said_of};
+ghost use Rattle.axis_tables.specs.Readings.{axis_reading};
 ghost use Rattle.axis_tables.specs.Store.{answered_axis};
 ghost use Rattle.panel_tables.specs.Areas.{answered_panel};
-ghost use Rattle.panel_tables.specs.Axes.{state_in, reading_in};
 ghost use Rattle.panel_tables.specs.Placements.{uses_name};
-ghost use Rattle.panel_tables.specs.Readings.{panel_reading};
+ghost use Rattle.sheet_rules.specs.Lines.{placed_end};
 ghost use Rattle.sheet_rules.specs.Steps.{on_held};
 ghost use Rattle.sheet_faults.specs.Parts.{named, named_step};
 ghost use Rattle.sheet_step.specs.Drafts.{held_of};
-ghost use Rattle.sheet_step.specs.Regions.{on_axis, on_areas, on_placements};
+ghost use Rattle.sheet_step.specs.Regions.{on_axis_after, on_areas, on_ends};
 
 use crate::Draft;
 use crate::axis::axis_record;
@@ -20,15 +20,15 @@ use axis_tables::AxisAfter;
 use axis_tables::layout::{AXIS_MARKS, AXIS_WORDS};
 use coordinates::{Axis, Fault};
 use panel_tables::area::{AREA_BYTES, AREA_WORDS};
-use panel_tables::axis::{reading_in, state_in, with_reading, with_state};
+use panel_tables::axis::{with_reading, with_state};
 use panel_tables::placement::{PLACEMENT_BYTES, PLACEMENT_WORDS};
 use panel_tables::region::{
     AREA_NAMES_START, AREAS, PANEL_BYTES, PANEL_WORDS, PLACEMENT_NAMES_START, PLACEMENTS,
     first_mark, first_word,
 };
-use panel_tables::{AreaEdges, Panel, PlacementEnd, Reading};
+use panel_tables::{AreaEdges, Panel, PlacementEnd};
 use panel_writes::area_record::put_area;
-use panel_writes::place_record::put_placement;
+use panel_writes::place_record::{NamedEnd, put_placement};
 use sheet_faults::overlap::edges_of;
 use sheet_forms::{AxisRecord, PlaceEnd, Record};
 use sheet_lines::LineRecord;
@@ -54,28 +54,34 @@ fn used_name(end: PlaceEnd, name: &[u8]) -> &[u8]
     }
 }
 
+// An end as a placement has it, with the name that it uses.
+fn named_end(end: PlaceEnd, name: &[u8]) -> NamedEnd<'_>
+    ensures end { result.end ≡ (placed_end name.now (place_end end)).end }
+    ensures name { result.name.now ≡ (placed_end name.now (place_end end)).name }
+{
+    NamedEnd {
+        end: placed(end),
+        name: used_name(end, name),
+    }
+}
+
 // A record of an axis, written into the axis's parts of the words and of the marks, and into its names.
 fn on_axis(
     axis: Axis,
-    panel: Panel,
-    reading: Reading,
+    before: AxisAfter,
     words: &mut [u64; PANEL_WORDS],
     bytes: &mut [u8; PANEL_BYTES],
     store: &mut [u8],
     name: &[u8],
     said: Record,
 ) -> Result<AxisAfter, Fault>
-    ensures written { record { answer = answered_axis (state_in panel axis) (reading_in (panel_reading reading) axis) result; words = words.new; marks = bytes.new; bytes = store.new } ≡ on_axis axis panel (panel_reading reading) words.old bytes.old store.old name.now (said_of (Ok said)) }
+    ensures written { record { answer = answered_axis before.state (axis_reading before.reading) result; words = words.new; marks = bytes.new; bytes = store.new } ≡ on_axis_after axis before.state (axis_reading before.reading) words.old bytes.old store.old name.now (said_of (Ok said)) }
     ensures lengths { (length words.new ≡ 25600) × (length bytes.new ≡ 78432) }
 {
     let first = first_word(axis);
     let mark = first_mark(axis);
     let end = first + AXIS_WORDS;
     let last = mark + AXIS_MARKS;
-    let before = AxisAfter {
-        state: state_in(panel, axis),
-        reading: reading_in(reading, axis),
-    };
     axis_record(
         before,
         &mut words[first..end],
@@ -102,32 +108,21 @@ fn on_areas(
     put_area(panel, words, bytes, name, edges)
 }
 
-// A placement with its names, written into the placements' parts of the words and of the bytes; an unused name is empty.
+// A placement, written into the placements' parts of the words and of the bytes.
 fn on_placements(
     panel: Panel,
     words: &mut [u64; PANEL_WORDS],
     bytes: &mut [u8; PANEL_BYTES],
     axis: Axis,
-    start: PlaceEnd,
-    first: &[u8],
-    end: PlaceEnd,
-    second: &[u8],
+    start: NamedEnd<'_>,
+    end: NamedEnd<'_>,
 ) -> Result<Panel, Fault>
-    ensures written { record { answer = answered_panel panel result; words = words.new; bytes = bytes.new } ≡ on_placements panel words.old bytes.old axis (place_end start) first.now (place_end end) second.now }
+    ensures written { record { answer = answered_panel panel result; words = words.new; bytes = bytes.new } ≡ on_ends panel words.old bytes.old axis start.entry.end start.entry.name.now end.entry.end end.entry.name.now }
     ensures lengths { (length words.new ≡ 25600) × (length bytes.new ≡ 78432) }
 {
-    let from = placed(start);
-    let to = placed(end);
-    put_placement(
-        panel,
-        &mut words[PLACEMENTS..PLACEMENTS + PLACEMENT_WORDS],
-        &mut bytes[PLACEMENT_NAMES_START..PLACEMENT_NAMES_START + PLACEMENT_BYTES],
-        axis,
-        from,
-        used_name(start, first),
-        to,
-        used_name(end, second),
-    )
+    let words = &mut words[PLACEMENTS..PLACEMENTS + PLACEMENT_WORDS];
+    let bytes = &mut bytes[PLACEMENT_NAMES_START..PLACEMENT_NAMES_START + PLACEMENT_BYTES];
+    put_placement(panel, words, bytes, axis, start, end)
 }
 
 impl Draft {
@@ -135,32 +130,23 @@ impl Draft {
     fn on_own_axis(&mut self, axis: Axis, name: &[u8], said: Record) -> Result<(), Fault>
         ensures { record { fault = refused_by result; held = held_of self.new } ≡ on_held (held_of self.old) axis (named name.now) (said_of (Ok said)) }
     {
-        let (panel, reading) = (self.panel, self.reading);
+        let before = self.axis(axis);
+        let (words, bytes) = (&mut self.words, &mut self.bytes);
         let written = match axis {
             Axis::Column => on_axis(
                 axis,
-                panel,
-                reading,
-                &mut self.words,
-                &mut self.bytes,
+                before,
+                words,
+                bytes,
                 &mut self.column_bytes,
                 name,
                 said,
             ),
-            Axis::Row => on_axis(
-                axis,
-                panel,
-                reading,
-                &mut self.words,
-                &mut self.bytes,
-                &mut self.row_bytes,
-                name,
-                said,
-            ),
+            Axis::Row => on_axis(axis, before, words, bytes, &mut self.row_bytes, name, said),
         };
         let after = written?;
-        self.panel = with_state(panel, axis, after.state);
-        self.reading = with_reading(reading, axis, after.reading);
+        self.panel = with_state(self.panel, axis, after.state);
+        self.reading = with_reading(self.reading, axis, after.reading);
         Ok(())
     }
 
@@ -178,27 +164,21 @@ impl Draft {
                 self.panel = on_areas(self.panel, &mut self.words, &mut self.bytes, first, edges)?;
                 Ok(())
             }
-            Record::Place(axis, start, end) => {
+            Record::Place(axis, ends) => {
                 let second = part_at(line, there.second);
-                self.panel = on_placements(
-                    self.panel,
-                    &mut self.words,
-                    &mut self.bytes,
-                    axis,
-                    start,
-                    first,
-                    end,
-                    second,
-                )?;
+                let (words, bytes) = (&mut self.words, &mut self.bytes);
+                let from = named_end(ends.start, first);
+                let to = named_end(ends.end, second);
+                self.panel = on_placements(self.panel, words, bytes, axis, from, to)?;
                 Ok(())
             }
             Record::PictureRow(width) => self.draw(line, width),
             Record::Axis(AxisRecord { axis, .. })
             | Record::Name(axis)
-            | Record::Track(axis, _, _)
+            | Record::Track(axis, _)
             | Record::Repeat(axis, _)
             | Record::End(axis)
-            | Record::Spare(axis, _, _)
+            | Record::Spare(axis, _)
             | Record::Extra(axis, _, _)
             | Record::Item(axis, _) => self.on_own_axis(axis, first, said),
         }

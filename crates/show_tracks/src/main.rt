@@ -5,10 +5,10 @@
 use sizing::Sizing;
 use std::io;
 use std::io::Write;
-use template_rules::Template;
+use template_rules::{SizeTables, Template};
 use track_counts::TrackCounts;
 use track_record::LentTracks;
-use track_rules::{AxisTracks, GridTrack, GridTrackKind, MOST_RECORDS, SpareSizes, TrackSource};
+use track_rules::{AxisTracks, GridTrack, GridTrackKind, MOST_RECORDS, TrackSource};
 
 // The letter of a source.
 fn letter(source: TrackSource) -> char {
@@ -42,30 +42,17 @@ fn print_records<W: Write>(out: &mut W, records: &[GridTrack], count: u32) -> io
     Ok(())
 }
 
+// Tracks of one size at both ends.
+fn both_ends(words: &[u64]) -> SizeTables {
+    SizeTables {
+        minimums: words,
+        maximums: words,
+    }
+}
+
 // The records of an axis.
-fn show<W: Write>(
-    out: &mut W,
-    components: &[u64],
-    sizes: &[u64],
-    spares: &[u64],
-    items: &[u8],
-    axis: AxisTracks,
-) -> io::Result<()> {
-    let count = track_run::state::fill_count(MOST_RECORDS, items.len(), axis).unwrap_or(0);
-    let template = Template {
-        components,
-        minimums: sizes,
-        maximums: sizes,
-    };
-    let spares = SpareSizes {
-        minimums: spares,
-        maximums: spares,
-    };
-    let lent = LentTracks {
-        template,
-        spares,
-        items,
-    };
+fn show<W: Write>(out: &mut W, lent: LentTracks, axis: AxisTracks) -> io::Result<()> {
+    let count = track_run::state::fill_count(MOST_RECORDS, lent.items.len(), axis).unwrap_or(0);
     let records = track_run::lender::axis_records(lent, axis);
     writeln!(out, "records\t{count}")?;
     print_records(out, &records, count)
@@ -93,28 +80,24 @@ fn main(rt: HostRuntime) -> io::Result<()> {
     let fit = [0x1_0000_0003_0000u64];
     let mixed = [0x2_0000_0000u64, 0x1_0001_0002_0000];
     let items = [0u8, 1, 0, 0];
-    show(
-        &mut out,
-        &fit,
-        &spares,
-        &spares,
-        &items,
-        axis_of(0, 3, 0, 3),
-    )?;
-    show(
-        &mut out,
-        &fit,
-        &spares,
-        &spares,
-        &items,
-        axis_of(2, 0, 0, 0),
-    )?;
-    show(
-        &mut out,
-        &mixed,
-        &spares,
-        &spares,
-        &items,
-        axis_of(0, 3, 1, 0),
-    )
+    let sizes = both_ends(&spares);
+    let alone = LentTracks {
+        template: Template {
+            components: &fit,
+            sizes,
+        },
+        spares: sizes,
+        items: &items,
+    };
+    let after = LentTracks {
+        template: Template {
+            components: &mixed,
+            sizes,
+        },
+        spares: sizes,
+        items: &items,
+    };
+    show(&mut out, alone, axis_of(0, 3, 0, 3))?;
+    show(&mut out, alone, axis_of(2, 0, 0, 0))?;
+    show(&mut out, after, axis_of(0, 3, 1, 0))
 }

@@ -1,4 +1,5 @@
 -- The numbers of a word are small, and so are the sums of 64 components. Assumes nothing.
+use Rattle.std.specs.Coded.{Coded-set, coded_ℕ, le_prop, Unit-prop}
 use Rattle.std.proofs.lemmas.Bool.{or_parts}
 use Rattle.std.proofs.Common.{◌≡◌, ℕ, zero, suc, ◌+◌, ◌*◌, ◌/◌, ◌%◌, ◌^◌, ◌<◌, ◌≤◌, Bool, true, false, cond, ◌||◌, T, eqb, List, length, pos, refl, ap, subst, mul-le-mul, arith, w64, Fits}
 use lib.Ieee.{Float, binary32, in_float}
@@ -13,6 +14,13 @@ use Rattle.template_rules.specs.declared.TrackTotals.{TrackTotals}
 use Rattle.template_rules.specs.declared.TemplateSummary.{TemplateSummary}
 use Rattle.template_rules.proofs.Rounding.{in_float_lem}
 use Rattle.template_rules.proofs.Tests.{above_test}
+
+-- that a count is one of a word is one fact at most, so that a type can hold it
+pub CountOfWord-prop : (k : RepetitionCount) (n : ℕ) → IsProp (CountOfWord k n)
+CountOfWord-prop Single n = Coded-set coded_ℕ n 1
+CountOfWord-prop (Count times) n = le_prop
+CountOfWord-prop AutoFill n = Unit-prop
+CountOfWord-prop AutoFit n = Unit-prop
 
 -- a count of a word
 pub times-small : (k : RepetitionCount) (n times : ℕ) → k ≡ Count times → CountOfWord k n → times ≤ 65535

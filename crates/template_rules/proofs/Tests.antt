@@ -1,6 +1,5 @@
 -- Tests of a number against 0. Assumes nothing.
-use Rattle.std.proofs.Common.{◌≡◌, ℕ, ◌<◌, Bool, true, false, ◌&&◌, ◌||◌, eqb, refl, true≢false, arith, ne_eqb}
-use mathlib.Core.Bool.{false≢true}
+use Rattle.std.proofs.Common.{◌≡◌, ℕ, ◌<◌, false, eqb, arith, ne_eqb}
 use borrow.Author.Tests.{eqb-false}
 
 pub above : (n : ℕ) → (n ≡ 0 → ⊥) → 0 < n

@@ -1,6 +1,5 @@
 -- What the inner functions of layer 3 ask: the numbers that a word can hold, and what so many components can add up to.
 use Rattle.std.specs.Prelude.{◌≡◌, ℕ, ◌*◌, ◌<◌, ◌≤◌, false}
-use Rattle.std.specs.Coded.{Coded-set, coded_ℕ, le_prop, Unit-prop}
 use Rattle.template_rules.specs.declared.RepetitionCount.{RepetitionCount}
 use Rattle.template_rules.specs.declared.RepetitionCount.TheVariants.{Single, Count, AutoFill, AutoFit}
 use Rattle.template_rules.specs.declared.GridTemplateComponent.{GridTemplateComponent}
@@ -12,13 +11,6 @@ CountOfWord Single n = n ≡ 1
 CountOfWord (Count times) n = times ≤ 65535
 CountOfWord AutoFill n = Unit {0}
 CountOfWord AutoFit n = Unit {0}
-
--- which is one fact at most, so that a type can hold it
-pub CountOfWord-prop : (k : RepetitionCount) (n : ℕ) → IsProp (CountOfWord k n)
-CountOfWord-prop Single n = Coded-set coded_ℕ n 1
-CountOfWord-prop (Count times) n = le_prop
-CountOfWord-prop AutoFill n = Unit-prop
-CountOfWord-prop AutoFit n = Unit-prop
 
 -- a component of a word
 pub record OfWord (c : GridTemplateComponent) : Type 0 where

@@ -1,5 +1,5 @@
 -- A template as a list of components (document 01, layer 3; CSS Grid Level 2, 7.2), and the words that hold one.
-use Rattle.std.specs.Prelude.{ℕ, zero, suc, ◌/◌, ◌%◌, cond, List, [], ◌∷◌, map, ◌==◌, slice_index}
+use Rattle.std.specs.Prelude.{ℕ, zero, suc, ◌+◌, ◌*◌, ◌/◌, ◌%◌, cond, List, [], ◌∷◌, map, ◌==◌, slice_index}
 use Rattle.sizing.specs.Words.{min_max_of}
 use Rattle.sizing.specs.declared.MinMax.{MinMax}
 use Rattle.template_rules.specs.declared.Template.{Template}
@@ -28,6 +28,22 @@ component_of w =
       length = length_of (w / 65536 % 4) (w / 281474976710656);
     }
 
+-- the kind and the number of a count in the word of its component
+abbrev pub count_kind : RepetitionCount → ℕ
+count_kind Single = 0
+count_kind (Count n) = 1
+count_kind AutoFill = 2
+count_kind AutoFit = 3
+
+abbrev pub count_number : RepetitionCount → ℕ
+count_number Single = 0
+count_number (Count n) = n
+count_number AutoFill = 0
+count_number AutoFit = 0
+
+unfoldable pub component_word : ℕ → ℕ → ℕ → ℕ → ℕ
+component_word number kind first length = number % 65536 + kind % 4 * 65536 + first % 65536 * 4294967296 + length % 65536 * 281474976710656
+
 -- the track at a place of the tables of minimum and maximum sizes; past their ends a word is 0
 abbrev pub track_at : List ℕ → List ℕ → ℕ → MinMax
 track_at minimums maximums place = min_max_of (slice_index minimums place) (slice_index maximums place)
@@ -48,4 +64,4 @@ template_of words minimums maximums = map (λ (w : ℕ). with_tracks minimums ma
 
 -- the template of a struct of the three
 abbrev pub components_of : Template → List Component
-components_of t = template_of t.components.now t.minimums.now t.maximums.now
+components_of t = template_of t.components.now t.sizes.minimums.now t.sizes.maximums.now

@@ -1,8 +1,9 @@
 // Components and tracks as words of lent tables. Any word gives a component.
-ghost use Rattle.std.specs.Prelude.{◌≡◌, get_or};
-ghost use Rattle.template_rules.specs.Template.{count_of, component_of, track_at};
+ghost use Rattle.std.specs.Prelude.{◌≡◌};
+ghost use Rattle.template_rules.specs.Template.{count_of, component_of, count_kind, count_number, component_word, track_at};
 
-use crate::{GridTemplateComponent, RepetitionCount};
+use crate::{GridTemplateComponent, RepetitionCount, SizeTables};
+use coordinates::word_at;
 use sizing::{MinMax, Sizing};
 
 // The most components of a template.
@@ -42,18 +43,39 @@ impl From<u64> for GridTemplateComponent {
     }
 }
 
-// The word at a place, 0 past the end.
-pub fn word_at(words: &[u64], place: usize) -> u64
-    ensures { result ≡ get_or words.now place 0 }
+// The kind and the number of a count in the word of its component.
+fn count_numbers(count: RepetitionCount) -> (u64, u64)
+    ensures { result ≡ (count_kind count, count_number count) }
 {
-    words.get(place).copied().unwrap_or(0)
+    match count {
+        RepetitionCount::Single => (0, 0),
+        RepetitionCount::Count(number) => (1, number),
+        RepetitionCount::AutoFill => (2, 0),
+        RepetitionCount::AutoFit => (3, 0),
+    }
 }
 
-// The track at a place of the tables of minimum and maximum sizes.
-pub fn track_at(minimums: &[u64], maximums: &[u64], place: u64) -> MinMax
-    ensures { result ≡ track_at minimums.now maximums.now place }
-{
-    let min = Sizing::from(word_at(minimums, place as usize));
-    let max = Sizing::from(word_at(maximums, place as usize));
-    MinMax { min, max }
+impl From<GridTemplateComponent> for u64 {
+    ghost from_gives = { λ component word. word ≡ component_word (count_number component.count) (count_kind component.count) component.first component.length };
+
+    // The word of a component.
+    #[tactic(auto, unfolding(crate::specs::Template::component_word))]
+    fn from(component: GridTemplateComponent) -> u64 {
+        let (kind, number) = count_numbers(component.count);
+        let number = number % 0x1_0000;
+        let first = component.first % 0x1_0000;
+        let length = component.length % 0x1_0000;
+        number + kind % 4 * 0x1_0000 + first * 0x1_0000_0000 + length * 0x1_0000_0000_0000
+    }
+}
+
+impl SizeTables<'_> {
+    // The track at a place.
+    pub fn track_at(self, place: u64) -> MinMax
+        ensures { result ≡ track_at self.entry.minimums.now self.entry.maximums.now place }
+    {
+        let min = Sizing::from(word_at(self.minimums, place as usize));
+        let max = Sizing::from(word_at(self.maximums, place as usize));
+        MinMax { min, max }
+    }
 }

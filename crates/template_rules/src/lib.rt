@@ -9,12 +9,18 @@ pub mod whole;
 
 use sizing::Sizing;
 
-// A template: the words of its components, and those of the axis's tracks, their minimums and their maximums.
+// Tables of the words of sizes: minimums, and at the same places maximums.
+#[derive(Clone, Copy, Debug)]
+pub struct SizeTables<'a> {
+    pub minimums: &'a [u64],
+    pub maximums: &'a [u64],
+}
+
+// A template: the words of its components, and the sizes of the axis's tracks.
 #[derive(Clone, Copy, Debug)]
 pub struct Template<'a> {
     pub components: &'a [u64],
-    pub minimums: &'a [u64],
-    pub maximums: &'a [u64],
+    pub sizes: SizeTables<'a>,
 }
 
 // How often a component is written out: a single track, a counted repeat, or an automatic one.

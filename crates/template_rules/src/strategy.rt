@@ -7,12 +7,9 @@ use crate::AutoRepeatStrategy;
 impl From<AutoRepeatStrategy> for u32 {
     ghost from_gives = { λ rule number. number ≡ rule_number rule };
 
-    // The number of a rule.
+    // The number of a rule, which is its place in the enum.
     fn from(rule: AutoRepeatStrategy) -> u32 {
-        match rule {
-            AutoRepeatStrategy::MaxRepetitionsThatDoNotOverflow => 0,
-            AutoRepeatStrategy::MinRepetitionsThatDoOverflow => 1,
-        }
+        rule as u32
     }
 }
 

@@ -3,7 +3,8 @@ ghost use Rattle.std.specs.Prelude.{◌≡◌, ◌≤◌};
 ghost use Rattle.template_rules.specs.Template.{component_of};
 ghost use Rattle.template_rules.specs.Summary.{steps_inside};
 ghost use Rattle.template_rules.specs.Steps.{cut_after};
-ghost use Rattle.template_rules.specs.Bounds.{CountOfWord, CountOfWord-prop};
+ghost use Rattle.template_rules.specs.Bounds.{CountOfWord};
+ghost use Rattle.template_rules.proofs.Bounds.{CountOfWord-prop};
 
 use template_rules::{GridTemplateComponent, RepetitionCount};
 

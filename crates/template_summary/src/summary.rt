@@ -21,19 +21,18 @@ fn tracks_before(automatic: u64, tracks: u64) -> u64
 fn add_outside(
     summary: TemplateSummary,
     empty: bool,
-    fixed: bool,
     tracks: u64,
-    space: f32,
+    totals: TrackTotals,
 ) -> TemplateSummary
     requires { (summary.outside ≤ 1099511627776) × (summary.before ≤ 1099511627776) × (tracks ≤ 4294967296) }
-    ensures { result ≡ outside_step summary empty fixed tracks space }
+    ensures { result ≡ outside_step summary empty totals.fixed tracks totals.space }
 {
     TemplateSummary {
         empty: summary.empty || empty,
-        fixed: summary.fixed && fixed,
+        fixed: summary.fixed && totals.fixed,
         outside: summary.outside + tracks,
         before: summary.before + tracks_before(summary.automatic, tracks),
-        used: summary.used + space,
+        used: summary.used + totals.space,
         ..summary
     }
 }
@@ -71,12 +70,13 @@ fn add_totals(
     let summary = gathered.summary;
     let length = component.parts.length;
     match component.parts.count {
-        RepetitionCount::Single => add_outside(summary, false, totals.fixed, 1, totals.space),
+        RepetitionCount::Single => add_outside(summary, false, 1, totals),
         RepetitionCount::Count(times) => {
             let factor = times as f32;
             let space = totals.space * factor;
             let empty = length == 0 || times == 0;
-            add_outside(summary, empty, totals.fixed, times * length, space)
+            let totals = TrackTotals { space, ..totals };
+            add_outside(summary, empty, times * length, totals)
         }
         RepetitionCount::AutoFill | RepetitionCount::AutoFit => {
             add_automatic(summary, length, totals)
@@ -91,7 +91,7 @@ fn add_component(
     template: Template<'_>,
     inner: f32,
 ) -> TemplateSummary
-    ensures { result ≡ summary_step inner gathered.summary (with_tracks template.entry.minimums.now template.entry.maximums.now component.parts) }
+    ensures { result ≡ summary_step inner gathered.summary (with_tracks template.entry.sizes.minimums.now template.entry.sizes.maximums.now component.parts) }
 {
     let totals = component_totals(template, component, inner);
     add_totals(gathered, component, totals)

@@ -6,17 +6,17 @@ ghost use Rattle.template_rules.specs.Space.{repeated_space, space_in};
 ghost use Rattle.template_rules.specs.Steps.{no_tracks, of_track, add_totals, track_step, totals_of};
 
 use crate::component::WordComponent;
+use coordinates::word_at;
 use sizing::definite::track_definite_value;
-use template_rules::component::word_at;
 use template_rules::{RepetitionCount, Template, TrackTotals};
 
 // Whether the track at a place has a fixed kind, and what it measures, from one decoding: it has a definite size exactly where its kind is
 // fixed.
 fn track_totals(template: Template<'_>, place: u64, inner: f32) -> TrackTotals
-    ensures { result ≡ of_track inner (track_at template.entry.minimums.now template.entry.maximums.now place) }
+    ensures { result ≡ of_track inner (track_at template.entry.sizes.minimums.now template.entry.sizes.maximums.now place) }
 {
-    let minimum = word_at(template.minimums, place as usize);
-    let maximum = word_at(template.maximums, place as usize);
+    let minimum = word_at(template.sizes.minimums, place as usize);
+    let maximum = word_at(template.sizes.maximums, place as usize);
     let size = track_definite_value(minimum, maximum, inner);
     TrackTotals {
         fixed: size.is_some(),
@@ -54,7 +54,7 @@ fn add_track(totals: TrackTotals, count: RepetitionCount, track: TrackTotals) ->
 
 // The tracks of a repeat, in order.
 fn repeat_totals(template: Template<'_>, component: WordComponent, inner: f32) -> TrackTotals
-    ensures { result ≡ foldl (track_step component.parts.count inner) no_tracks (tracks_from template.entry.minimums.now template.entry.maximums.now component.parts.first component.parts.length) }
+    ensures { result ≡ foldl (track_step component.parts.count inner) no_tracks (tracks_from template.entry.sizes.minimums.now template.entry.sizes.maximums.now component.parts.first component.parts.length) }
 {
     let parts = component.parts;
     let mut totals = TrackTotals {
@@ -74,7 +74,7 @@ pub(crate) fn component_totals(
     component: WordComponent,
     inner: f32,
 ) -> TrackTotals
-    ensures { result ≡ totals_of inner component.parts.count (tracks_from template.entry.minimums.now template.entry.maximums.now component.parts.first component.parts.length) }
+    ensures { result ≡ totals_of inner component.parts.count (tracks_from template.entry.sizes.minimums.now template.entry.sizes.maximums.now component.parts.first component.parts.length) }
 {
     let RepetitionCount::Single = component.parts.count else {
         return repeat_totals(template, component, inner);

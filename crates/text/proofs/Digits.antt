@@ -1,14 +1,15 @@
 -- The decimal digits of a number: one more, and how many there are. Assumes nothing.
 use Prim.Native.Nat.{ℕ, zero, suc, ◌+◌, ◌/◌, ◌%◌, ◌^◌, ◌≤◌, ◌<◌}
-use mathlib.Core.Path.{◌≡◌, refl, ap, ◌∙◌}
-use mathlib.Core.List.{List, [], ◌∷◌, ◌++◌, append_assoc}
+use mathlib.Core.Path.{◌≡◌, refl, sym, ap, ◌∙◌}
+use mathlib.Core.List.{List, [], ◌∷◌, ◌++◌}
 use mathlib.Core.Bool.{Bool, true, false, cond}
 use native.Mathlib.Omega.{arith}
 use native.Mathlib.Nat.{pow-suc}
 use lib.Dec.{ltb}
-use lib.ListN.{length, drop, set, length-append, length-drop}
+use lib.ListN.{length, length-append}
 use borrow.Author.Tests.{ltb-true, ltb-false, lt-ltb, le-ltb}
-use Rattle.std.proofs.lemmas.List.{drop-set}
+use Rattle.std.specs.Fmt as Std
+use Rattle.std.proofs.lemmas.Fmt.{decimal_by_steps}
 use Rattle.text.specs.Decimal.{digit, decimal_up_to, decimal}
 
 -- as many digits as one likes
@@ -60,17 +61,8 @@ few-digits (suc k) n h = go (ltb n 10) refl (few-digits k (n / 10))
 pub digits-few : (n : ℕ) → n < 2 ^ 64 → length (decimal n) ≤ 20
 digits-few n h = few-digits 19 n (omega arith)
 
--- ---- digits that are put at the end of an array, the last one first
-
-module _ (n left start d : ℕ) (bytes : List ℕ) (small : n < 2 ^ 64) (room : start < 20) (size : length bytes ≡ 20) (so_far : decimal n ≡ decimal left ++ drop (start + 1) bytes) where
-  pub digit_room : 10 ≤ left → 1 ≤ start
-  digit_room h =
-      let l = ap length so_far in
-      omega (arith, l, length-append (decimal left) (drop (start + 1) bytes), length-drop (start + 1) bytes, size, digits-few n small, one_digit_more left h, some-digit (left / 10))
-
-  pub digit_put : 10 ≤ left → d ≡ digit (left % 10) → decimal n ≡ decimal (left / 10) ++ drop start (set bytes start d)
-  digit_put h e =
-      so_far ∙ rw (decimal-next left h, append_assoc (decimal (left / 10)) (digit (left % 10) ∷ []) (drop (start + 1) bytes), drop-set bytes start d (omega (arith, size)), e)
-
-  pub digit_first : left < 10 → d ≡ digit left → drop start (set bytes start d) ≡ decimal n
-  digit_first h e = rw (so_far, decimal-one left h, drop-set bytes start d (omega (arith, size)), e)
+-- they are the digits that std writes
+pub decimal_same : (n : ℕ) → n < 2 ^ 64 → Std.decimal n ≡ decimal n
+decimal_same n h =
+    decimal_by_steps (λ m ds. ds ≡ decimal m) (λ m b. sym (decimal-one m b))
+    (λ m ds b e. ap (λ (l : List ℕ). l ++ ((48 + m % 10) ∷ [])) e ∙ sym (decimal-next m b)) n h

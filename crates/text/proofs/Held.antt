@@ -10,7 +10,7 @@ use lib.Dec.{leb, ltb}
 use lib.IntN.{ℤ, pos, negsuc}
 use lib.ListN.{length, get_or, take, drop, drop_of_length-le}
 use lib.Seq.{drop-cons, take_all}
-use mir.Syntax.{w32, w64}
+use mir.Syntax.{w16, w64}
 use mir.Val.{SFits}
 use borrow.Author.Tests.{leb-true, leb-false, ltb-false, eq-eqb, ne_eqb, lt-ltb, le-ltb}
 use Rattle.std.specs.Prelude.{Some, None, Result, Ok, Err}
@@ -224,16 +224,16 @@ count_most least most (whole (pos m)) n e = go (ltb m least) (ltb most m) refl e
     go false false q d = let f : m ≡ n = cc in rw (← f) (ltb-false most m q)
 
 -- a number of 16 bits with its sign
-pub indexed : (w : Written) (z : ℤ) → index_in w ≡ Ok z → SFits w32 z × SFits w64 z
+pub indexed : (w : Written) (z : ℤ) → index_in w ≡ Ok z → SFits w16 z × SFits w64 z
 unfolding index_in
 indexed none z e = absurd (ok_err e)
 indexed (whole (pos m)) z e = go (ltb 32767 m) refl e
   where
-    go : (u : Bool) → ltb 32767 m ≡ u → cond u (Err Outside) (Ok (pos m)) ≡ Ok z → SFits w32 z × SFits w64 z
+    go : (u : Bool) → ltb 32767 m ≡ u → cond u (Err Outside) (Ok (pos m)) ≡ Ok z → SFits w16 z × SFits w64 z
     go true q d = absurd (ok_err d)
     go false q d = let f : pos m ≡ z = cc in let h = ltb-false 32767 m q in rw (← f) (record { sfits = omega arith }, record { sfits = omega arith })
 indexed (whole (negsuc m)) z e = go (ltb 32767 m) refl e
   where
-    go : (u : Bool) → ltb 32767 m ≡ u → cond u (Err Outside) (Ok (negsuc m)) ≡ Ok z → SFits w32 z × SFits w64 z
+    go : (u : Bool) → ltb 32767 m ≡ u → cond u (Err Outside) (Ok (negsuc m)) ≡ Ok z → SFits w16 z × SFits w64 z
     go true q d = absurd (ok_err d)
     go false q d = let f : negsuc m ≡ z = cc in let h = ltb-false 32767 m q in rw (← f) (record { sfits = omega arith }, record { sfits = omega arith })

@@ -1,7 +1,6 @@
 // Numbers as their decimal digits.
-ghost use Rattle.std.specs.Prelude.{◌≡◌, ◌≤◌, ◌<◌, ℕ, List, drop};
+ghost use Rattle.std.specs.Prelude.{◌≡◌, ◌≤◌, ℕ, List, drop};
 ghost use Rattle.text.specs.Decimal.{decimal};
-ghost use Rattle.text.specs.Decimal.{digit as Decimal·digit};
 
 use std::marker::Model;
 
@@ -23,28 +22,14 @@ impl Model for Decimal {
     ghost invariant = { λ digits. digits.start ≤ 20 };
 }
 
-// The byte of a digit.
-fn digit_byte(number: u64) -> u8
-    requires { number < 10 }
-    ensures { result ≡ Decimal·digit number }
-{
-    b'0' + number as u8
-}
-
 impl Decimal {
     // The digits of a number.
+    #[tactic(auto, using(crate::proofs::Digits::decimal_same))]
     pub fn new(number: u64) -> Decimal
         ensures { result ≡ decimal number }
     {
         let mut bytes = [0; MOST_DIGITS];
-        let mut start = MOST_DIGITS - 1;
-        let mut left = number;
-        while 10 <= left {
-            bytes[start] = digit_byte(left % 10);
-            start -= 1;
-            left /= 10;
-        }
-        bytes[start] = digit_byte(left);
+        let start = itoa::write_digits(number, &mut bytes, MOST_DIGITS);
         Decimal { bytes, start }
     }
 

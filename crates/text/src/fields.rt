@@ -1,8 +1,10 @@
 // A line cut once: where its fields start, and the part that each of them is.
-ghost use Rattle.std.specs.Prelude.{◌≡◌, ◌-◌, length, set};
+ghost use Rattle.std.specs.Prelude.{◌≡◌, ◌-◌, length};
 ghost use Rattle.std.proofs.lemmas.List.Edits.{sets};
 ghost use Rattle.text.specs.Split.{split};
 ghost use Rattle.text.specs.Places.{starts_from, part_at, place_by, field_by};
+
+use coordinates::{part_of, set_at};
 
 // The most fields whose places are kept: no line of any form has more.
 pub const FIELDS: usize = 14;
@@ -17,15 +19,6 @@ pub struct Place {
     pub length: usize,
 }
 
-// A start, where there is room for it.
-fn put_start(starts: &mut [usize], k: usize, at: usize)
-    ensures { starts.new ≡ set starts.old k at }
-{
-    if k < starts.len() {
-        starts[k] = at;
-    }
-}
-
 // How many parts the separator b cuts s into; where each of them starts, and the one that would come after the last, as far as there is room.
 pub fn cut_parts(s: &[u8], b: u8, starts: &mut [usize]) -> usize
     ensures { (result ≡ length (split b s.now)) × (starts.new ≡ sets starts.old 0 (starts_from 0 (split b s.now))) }
@@ -33,11 +26,11 @@ pub fn cut_parts(s: &[u8], b: u8, starts: &mut [usize]) -> usize
     let mut count = 0;
     let mut at = 0;
     for part in s.split(|x| *x == b) {
-        put_start(starts, count, at);
+        set_at(starts, count, at);
         at += part.len() + 1;
         count += 1;
     }
-    put_start(starts, count, at);
+    set_at(starts, count, at);
     count
 }
 
@@ -61,8 +54,7 @@ pub fn field_place(starts: &[usize; STARTS], k: usize) -> Place
 pub fn part_at(s: &[u8], place: Place) -> &[u8]
     ensures { result.now ≡ part_at s.now place }
 {
-    let rest = s.get(place.offset..).unwrap_or(&[]);
-    rest.get(..place.length).unwrap_or(rest)
+    part_of(s, place.offset, place.length)
 }
 
 // Field k of a line that is cut at these starts.

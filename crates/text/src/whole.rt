@@ -60,8 +60,8 @@ fn read_within(s: &[u8], least: i64, most: i64) -> Result<i64, NumberFault>
 {
     match read_whole(s) {
         None => Err(NumberFault::Unread),
-        Some(n) if n < least || most < n => Err(NumberFault::Outside),
-        Some(n) => Ok(n),
+        Some(n) if (least..=most).contains(&n) => Ok(n),
+        Some(_) => Err(NumberFault::Outside),
     }
 }
 
@@ -73,8 +73,8 @@ pub fn read_count(s: &[u8], least: u32, most: u32) -> Result<u32, NumberFault>
 }
 
 // A whole number from -32,768 to 32,767.
-pub fn read_index(s: &[u8]) -> Result<i32, NumberFault>
+pub fn read_index(s: &[u8]) -> Result<i16, NumberFault>
     ensures { result ≡ index_in (whole_of s.now) }
 {
-    Ok(read_within(s, i64::from(i16::MIN), i64::from(i16::MAX))? as i32)
+    Ok(read_within(s, i64::from(i16::MIN), i64::from(i16::MAX))? as i16)
 }

@@ -4,7 +4,7 @@ ghost use Rattle.coordinates.specs.Answers.{count_check, answered_line, answered
 ghost use Rattle.track_counts.specs.Counts.{too_many, tracks_of, length_answer, start_answer, end_answer, answered_track, next_track_answer, previous_line_answer, answered_index, vec_index_answer};
 
 use coordinates::line::MOST_TRACKS;
-use coordinates::{Fault, OriginZeroLine};
+use coordinates::{Fault, OriginZeroLine, check_count};
 
 // How many tracks lie before the explicit grid, in it, and after it.
 #[derive(Clone, Copy, Debug, PartialEq, Eq)]
@@ -15,7 +15,7 @@ pub struct TrackCounts {
 }
 
 // The most tracks of an axis: those before the explicit grid, in it, and after it.
-const MOST_AXIS_TRACKS: u16 = 3 * MOST_TRACKS;
+pub const MOST_AXIS_TRACKS: u16 = 3 * MOST_TRACKS;
 
 impl TrackCounts {
     // Whether one of the counts is above 10,000.
@@ -31,10 +31,7 @@ impl TrackCounts {
     pub fn check(self) -> Result<(), Fault>
         ensures { result ≡ count_check (too_many self) }
     {
-        if self.too_many() {
-            return Err(Fault::Count);
-        }
-        Ok(())
+        check_count(self.too_many())
     }
 
     // How many tracks there are.
@@ -89,9 +86,7 @@ impl TrackCounts {
         ensures { answered_line result ≡ previous_line_answer self index }
     {
         self.check()?;
-        if MOST_AXIS_TRACKS < index {
-            return Err(Fault::Count);
-        }
+        check_count(MOST_AXIS_TRACKS < index)?;
         Ok(OriginZeroLine(index as i16 - self.negative_implicit as i16))
     }
 }

@@ -26,22 +26,6 @@ pub open_none : (f : ℕ → Bool) → open_to f 0 ≡ 0
 unfolding open_to
 open_none f = refl
 
--- the last of some tracks holds an item, or none of them does
-module _ (items : List ℕ) where
-  abbrev empty : ℕ → Bool
-  empty j = not (item_at items j)
-
-  pub item-last : (left : ℕ) → (get_or items (left - 1) 0 ≡ 0 → ⊥) → left ≡ open_to empty left
-  item-last left h = sym (open_whole empty left (λ _. rw (ne_eqb _ 0 h)))
-
-  pub item-before : (left : ℕ) → 0 < left → get_or items (left - 1) 0 ≡ 0 → open_to empty (left - 1) ≡ open_to empty left
-  item-before left some h =
-      let s : suc (left - 1) ≡ left = omega arith in
-      sym (open_closed empty (left - 1) (rw (eq-eqb _ 0 h))) ∙ ap (open_to empty) s
-
-  pub item-none : (left : ℕ) → left ≤ 0 → 0 ≡ open_to empty left
-  item-none left h = let z : left ≡ 0 = omega arith in rw z (sym (open_none empty))
-
 -- where none of the last tracks is open, those before them say the end
 shut : (f : ℕ → Bool) (n k : ℕ) → k ≤ n → ((j : ℕ) → k ≤ j → j < n → f j ≡ true) → open_to f k ≡ open_to f n
 shut f zero k le h = ap (open_to f) (omega (arith, le))
@@ -50,6 +34,20 @@ shut f (suc n) k le h =
     (λ (g : k < suc n). shut f n k (omega (arith, g)) (λ j a b. h j a (omega (arith, b))) ∙ sym (open_closed f n (h n (omega (arith, g)) (omega arith))))
     (λ (g : suc n ≤ k). ap (open_to f) (omega (arith, le, g)))
     (cases_lt k (suc n))
+
+-- the last of some items lies at i, or there is none
+module _ (items : List ℕ) where
+  abbrev empty : ℕ → Bool
+  empty j = not (item_at items j)
+
+  zero-empty : (j : ℕ) → get_or items j 0 ≡ 0 → empty j ≡ true
+  zero-empty j h = rw (eq-eqb _ 0 h)
+
+  pub item-last : (i n : ℕ) → i < n → (get_or items i 0 ≡ 0 → ⊥) → ((j : ℕ) → i < j → j < n → get_or items j 0 ≡ 0) → i + 1 ≡ open_to empty n
+  item-last i n less h rest = sym (open_whole empty (i + 1) (λ _. let z : i + 1 - 1 ≡ i = omega arith in rw (z, ne_eqb _ 0 h))) ∙ shut empty n (i + 1) (omega (arith, less)) (λ j a b. zero-empty j (rest j (omega (arith, a)) b))
+
+  pub item-none : (n : ℕ) → ((j : ℕ) → j < n → get_or items j 0 ≡ 0) → 0 ≡ open_to empty n
+  item-none n rest = sym (open_none empty) ∙ shut empty n 0 (omega arith) (λ j a b. zero-empty j (rest j b))
 
 -- the tracks of a component that is no fit are open
 pub count-all : (fit : Bool) (items : List ℕ) (n : ℕ) → fit ≡ false → n ≡ open_to (λ j. fit && not (item_at items j)) n

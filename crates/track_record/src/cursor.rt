@@ -5,7 +5,6 @@ ghost use Rattle.track_rules.specs.Written.{repeats_of, is_fit, source_of, writt
 ghost use Rattle.track_rules.specs.Steps.{word_total, word_totals, settle_of, next_of, written_at};
 
 use sizing::{MinMax, Sizing};
-use template_rules::component::track_at;
 use template_rules::{GridTemplateComponent, RepetitionCount, Template};
 use track_rules::implicit::no_track;
 use track_rules::{Cursor, TrackSource, WrittenTrack};
@@ -99,8 +98,5 @@ pub fn written_at(template: Template, at: Cursor) -> WrittenTrack
         return no_track();
     }
     let place = component.first + at.offset % component.length;
-    written_track(
-        component.count,
-        track_at(template.minimums, template.maximums, place),
-    )
+    written_track(component.count, template.sizes.track_at(place))
 }

@@ -10,8 +10,8 @@ pub mod cursor;
 pub mod plan;
 pub mod rule;
 
-use template_rules::Template;
-use track_rules::{SpareSizes, TrackSource};
+use template_rules::{SizeTables, Template};
+use track_rules::TrackSource;
 
 // Tracks that repeat: the place of the first in the tables of sizes, how many there are, where they come from, and whether `fit` writes them.
 #[derive(Clone, Copy, Debug, PartialEq, Eq)]
@@ -26,6 +26,6 @@ pub struct Repeated {
 #[derive(Clone, Copy, Debug)]
 pub struct LentTracks<'a> {
     pub template: Template<'a>,
-    pub spares: SpareSizes<'a>,
+    pub spares: SizeTables<'a>,
     pub items: &'a [u8],
 }

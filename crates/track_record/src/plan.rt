@@ -2,10 +2,11 @@
 ghost use Rattle.std.specs.Prelude.{◌≡◌, not, ◌&&◌, ◌≤◌, length};
 ghost use Rattle.coordinates.specs.Refusals.{refused_by};
 ghost use Rattle.template_rules.specs.Template.{components_of};
-ghost use Rattle.track_rules.specs.Records.{item_at, tracks_in, open_to, axis_refusal};
+ghost use Rattle.track_rules.specs.Records.{item_at, tracks_in, records_in, open_to, axis_refusal};
 ghost use Rattle.track_rules.specs.Steps.{word_totals, sum_of, written_count, plan_of};
 ghost use Rattle.track_record.specs.Plans.{closed_from};
 
+use crate::LentTracks;
 use crate::component::{has_fit, repeated_of};
 use crate::count::before_end;
 use crate::cursor::total;
@@ -20,6 +21,13 @@ pub fn track_count(axis: AxisTracks) -> u32
     axis.counts.tracks()
 }
 
+// How many records an axis has: 2N + 1.
+pub fn record_count(axis: AxisTracks) -> u32
+    ensures { result ≡ records_in axis }
+{
+    2 * track_count(axis) + 1
+}
+
 // Refuses an axis by a gap out of range, and then by a count above 10,000.
 #[tactic(auto, unfolding(track_rules::specs::Records::axis_refusal))]
 pub fn check_axis(axis: AxisTracks) -> Result<(), Fault>
@@ -28,10 +36,7 @@ pub fn check_axis(axis: AxisTracks) -> Result<(), Fault>
     if !sizing::range::sizing_in_range(axis.gap) {
         return Err(Fault::Value);
     }
-    if axis.counts.too_many() {
-        return Err(Fault::Count);
-    }
-    Ok(())
+    axis.counts.check()
 }
 
 // Whether a track holds an item.
@@ -61,12 +66,8 @@ pub fn written_count(components: &[u64], axis: AxisTracks) -> u32
 fn last_item(items: &[u8]) -> usize
     ensures { result ≡ open_to (λ j. not (item_at items.now j)) (length items.now) }
 {
-    for before in (0..items.len()).rev() {
-        if items[before] != 0 {
-            return before + 1;
-        }
-    }
-    0
+    let last = items.iter().rposition(|item| *item != 0);
+    last.map_or(0, |last| last + 1)
 }
 
 // Of so many tracks of a component, one past the last open one; `items` are those from its first track on.
@@ -102,23 +103,26 @@ fn open_end(template: Template, items: &[u8], repetitions: u32, count: usize) ->
     opened
 }
 
-// The plan of an axis. Only a template that fills the grid to its end, and has a fit repeat, can close the last track.
-pub fn make_plan(template: Template, items: &[u8], axis: AxisTracks) -> Plan
-    ensures { result ≡ plan_of axis (components_of template.entry) (item_at items.now) }
-{
-    let written = written_count(template.components, axis);
-    let before = axis.counts.negative_implicit as usize;
-    let tracks = track_count(axis) as usize;
-    if before + (written as usize) < tracks || !has_fit(template.components) {
-        return Plan {
+impl LentTracks<'_> {
+    // The plan of an axis. Only a template that fills the grid to its end, and has a fit repeat, can close the last track.
+    pub fn make_plan(self, axis: AxisTracks) -> Plan
+        ensures { result ≡ plan_of axis (components_of self.entry.template) (item_at self.entry.items.now) }
+    {
+        let template = self.template;
+        let written = written_count(template.components, axis);
+        let before = axis.counts.negative_implicit as usize;
+        let tracks = track_count(axis) as usize;
+        if before + (written as usize) < tracks || !has_fit(template.components) {
+            return Plan {
+                written,
+                opened: tracks as u64,
+            };
+        }
+        let rest = self.items.get(before..).unwrap_or(&[]);
+        let opened = before + open_end(template, rest, axis.repetitions, written as usize);
+        Plan {
             written,
-            opened: tracks as u64,
-        };
-    }
-    let rest = items.get(before..).unwrap_or(&[]);
-    let opened = before + open_end(template, rest, axis.repetitions, written as usize);
-    Plan {
-        written,
-        opened: opened as u64,
+            opened: opened as u64,
+        }
     }
 }

@@ -2,6 +2,7 @@
 use Rattle.std.specs.Prelude.{ℕ, zero, suc, Bool, true, false, List, [], ◌∷◌, ◌++◌, map, length}
 use Rattle.sizing.specs.declared.MinMax.{MinMax}
 use Rattle.template_rules.specs.Template.{Component, tracks_from}
+use Rattle.template_rules.specs.declared.SizeTables.{SizeTables}
 use Rattle.template_rules.specs.declared.RepetitionCount.{RepetitionCount}
 use Rattle.template_rules.specs.declared.RepetitionCount.TheVariants.{Single, Count, AutoFill, AutoFit}
 use Rattle.track_rules.specs.declared.WrittenTrack.{WrittenTrack}
@@ -49,3 +50,7 @@ written_out (c ∷ cs) r = copies (repeats_of r c.count) (once_of c) ++ written_
 unfoldable pub spares_of : List ℕ → List ℕ → List MinMax
 unfolding tracks_from
 spares_of minimums maximums = tracks_from minimums maximums 0 (length minimums)
+
+-- those of a struct of the two
+abbrev pub spare_sizes : SizeTables → List MinMax
+spare_sizes spares = spares_of spares.minimums.now spares.maximums.now

@@ -8,9 +8,10 @@ pub mod number;
 
 use sizing::{MinMax, Sizing};
 use track_counts::TrackCounts;
+use track_counts::counts::MOST_AXIS_TRACKS;
 
 // The most records of an axis: each of its three counts of tracks is at most 10,000, and a gutter stands before and after each track.
-pub const MOST_RECORDS: usize = 2 * 3 * coordinates::line::MOST_TRACKS as usize + 1;
+pub const MOST_RECORDS: usize = 2 * MOST_AXIS_TRACKS as usize + 1;
 
 // Whether a record is a track or a gutter between tracks.
 #[derive(Clone, Copy, Debug, PartialEq, Eq, Default)]
@@ -55,13 +56,6 @@ pub struct AxisTracks {
     pub counts: TrackCounts,
     pub repetitions: u32,
     pub gap: Sizing,
-}
-
-// The sizes of the implicit tracks, which repeat: their minimums and their maximums.
-#[derive(Clone, Copy, Debug)]
-pub struct SpareSizes<'a> {
-    pub minimums: &'a [u64],
-    pub maximums: &'a [u64],
 }
 
 // A component of a template, and which of the tracks that it writes.

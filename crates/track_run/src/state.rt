@@ -5,7 +5,7 @@ ghost use Rattle.track_run.specs.Run.{answered_fill, fill_answer_of};
 ghost use Rattle.track_run.specs.Steps.{fill_count, advance_of};
 
 use coordinates::Fault;
-use track_record::plan::{check_axis, track_count};
+use track_record::plan::{check_axis, record_count, track_count};
 use track_rules::{AxisTracks, TrackWalk};
 
 // How many records are written: 2N + 1. Refuses a gap out of range by 3, a count out of range by 4, fewer records and fewer than N item bytes
@@ -16,9 +16,8 @@ pub fn fill_count(lent: usize, items: usize, axis: AxisTracks) -> Result<u32, Fa
     ensures counted { (answered_fill result).count ≡ fill_count axis lent items }
 {
     check_axis(axis)?;
-    let tracks = track_count(axis);
-    let count = 2 * tracks + 1;
-    if lent < count as usize || items < tracks as usize {
+    let count = record_count(axis);
+    if lent < count as usize || items < track_count(axis) as usize {
         return Err(Fault::Short);
     }
     Ok(count)

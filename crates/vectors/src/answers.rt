@@ -2,9 +2,11 @@
 use crate::expected::Expected;
 use crate::tables::Shown;
 use coordinates::Axis;
+use coordinates::limit::MOST_PLACEMENTS;
 use panel_answer::AnswerLine;
 use panel_answer::line::{next_line, put_line};
 use panel_text::LINE_BYTES;
+use track_rules::MOST_RECORDS;
 
 // Whether a line stands in the expected text: a cut one has no records.
 fn is_listed(at: AnswerLine, cut: bool) -> bool {
@@ -21,18 +23,21 @@ fn seen_line<'a>(expected: Expected<'a>, shown: Shown, at: AnswerLine) -> Expect
     expected.part(&line[..count])
 }
 
-// All lines, of which there are at most 120,260.
+// The most lines of an answer: the size and the records of each axis, and the placements.
+const MOST_LINES: usize = 2 * (1 + MOST_RECORDS) + MOST_PLACEMENTS;
+
+// All lines.
 pub fn seen_answer<'a>(expected: Expected<'a>, cut: bool, shown: Shown) -> Expected<'a> {
     let mut next = Some(AnswerLine::Size(Axis::Column));
     let mut seen = expected;
-    for _ in 0..120260 {
+    for _ in 0..MOST_LINES {
         let Some(at) = next else {
             break;
         };
         if is_listed(at, cut) {
             seen = seen_line(seen, shown, at);
         }
-        next = next_line(shown.grid, shown.lent.words, shown.lent.bytes, at);
+        next = next_line(shown.grid, shown.lent, at);
     }
     seen
 }

@@ -7,8 +7,7 @@ use crate::marks::seen_marks;
 use crate::names::seen_names;
 use crate::questions::seen_questions;
 use crate::tables::{Shown, StoreLengths, Tables};
-use coordinates::Fault;
-use sheet_rules::SheetFault;
+use sheet_rules::{LineFault, SheetFault};
 
 // The parts of a block: the lengths of the stores where they are given, whether the sheet is only displayed, the sheet, the calls, the
 // questions where there are any, whether the expected text is cut, and that text.
@@ -39,12 +38,11 @@ fn seen_grid<'a>(expected: Expected<'a>, block: Block, shown: Shown) -> Expected
 
 // A sheet that is refused.
 fn seen_fault(expected: Expected, fault: SheetFault) -> Expected {
+    let told = LineFault::from(fault);
+    let refused = expected.refused(told.fault, told.line);
     match fault {
-        SheetFault::Overlap(pair) => expected
-            .refused(Fault::Overlap, pair.line)
-            .overlap(Some(pair)),
-        SheetFault::Line(at) => expected.refused(at.fault, at.line),
-        SheetFault::Whole(fault) => expected.refused(fault, 0),
+        SheetFault::Overlap(pair) => refused.overlap(Some(pair)),
+        _ => refused,
     }
 }
 

@@ -7,6 +7,7 @@ use crate::input::{axis_of, field, number_of};
 use crate::tables::{Entry, StoreLengths, Tables};
 use coordinates::Fault;
 use panel_tables::Panel;
+use text::{LINE_FEED, TAB};
 
 // A panel after calls, and the expected text after their answers.
 #[derive(Clone, Copy)]
@@ -19,7 +20,7 @@ pub struct Called<'a> {
 fn rest_after(line: &[u8], tabs: usize) -> &[u8]
     requires { tabs ≤ 4 }
 {
-    line.splitn(tabs + 1, |byte| *byte == b'\t')
+    line.splitn(tabs + 1, |byte| *byte == TAB)
         .nth(tabs)
         .unwrap_or(&[])
 }
@@ -63,7 +64,7 @@ pub fn seen_calls<'a>(
         panel,
         seen: expected,
     };
-    let lines = block.calls.text.split(|byte| *byte == b'\n');
+    let lines = block.calls.text.split(|byte| *byte == LINE_FEED);
     for line in lines.take(block.calls.count as usize) {
         let answer = call(line, block.lengths.is_some(), called.panel, tables);
         called = Called {

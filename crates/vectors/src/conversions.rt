@@ -1,12 +1,8 @@
 // Rows of conversions: explicit count, grid line, refusal, origin-zero line, the grid line back, and its mark, `y` or `n`; or explicit count, `-`, refusal,
 // origin-zero line, its grid line, and refusal and tracks that it implies before the grid, and after it. Beside a refusal stand zeros and `n`.
-use crate::input::{Lines, field, line_of, number_of};
+use crate::input::{Lines, field, number_of, whole_of};
 use coordinates::{Fault, GridLine, MarkedLine, OriginZeroLine};
-
-// The whole number that a field writes, 0 where it writes none.
-fn whole_of(field: &[u8]) -> i16 {
-    line_of(field).clamp(i16::MIN.into(), i16::MAX.into()) as i16
-}
+use text::LINE_FEED;
 
 // The explicit count of a row.
 fn explicit_of(row: &[u8]) -> u16 {
@@ -85,7 +81,7 @@ fn is_row_right(row: &[u8]) -> bool {
 
 // How many of the rows differ.
 pub fn different_rows(rows: Lines) -> u64 {
-    let lines = rows.text.split(|byte| *byte == b'\n');
+    let lines = rows.text.split(|byte| *byte == LINE_FEED);
     lines
         .take(rows.count as usize)
         .filter(|row| !is_row_right(row))

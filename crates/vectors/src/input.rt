@@ -1,6 +1,7 @@
 // The text of the lists: lines, their first words, and parts that are as long as a number says.
 
 use coordinates::Axis;
+use text::{LINE_FEED, TAB};
 
 // The first word of a line, where it decides what follows.
 #[derive(Clone, Copy, Debug, PartialEq, Eq)]
@@ -35,7 +36,7 @@ pub struct Reader<'a> {
 
 // Field k of a line.
 pub fn field(line: &[u8], k: usize) -> &[u8] {
-    text::part(line, b'\t', k)
+    text::part(line, TAB, k)
 }
 
 // The number that a field writes, 0 where it writes none.
@@ -48,9 +49,14 @@ pub fn bits_of(field: &[u8]) -> u32 {
     text::read_bits(field).unwrap_or(u32::MAX)
 }
 
-// The grid line that a field writes, 0 where it writes none.
-pub fn line_of(field: &[u8]) -> i32 {
+// The whole number that a field writes, 0 where it writes none.
+pub fn whole_of(field: &[u8]) -> i16 {
     text::read_index(field).unwrap_or(0)
+}
+
+// The grid line that a field writes.
+pub fn line_of(field: &[u8]) -> i32 {
+    whole_of(field).into()
 }
 
 // The axis that a field writes.
@@ -91,7 +97,7 @@ impl<'a> Reader<'a> {
 
     // The next line, without its line feed.
     pub fn line(&mut self) -> &'a [u8] {
-        let line = text::part(self.rest, b'\n', 0);
+        let line = text::part(self.rest, LINE_FEED, 0);
         self.bytes(line.len() + 1);
         line
     }

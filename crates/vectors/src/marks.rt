@@ -14,12 +14,10 @@ fn seen_mark(expected: Expected, held: bool) -> Expected {
 }
 
 // The line of a placement that is resolved.
-fn seen_placed<'a>(expected: Expected<'a>, placed: PlacedLine) -> Expected<'a> {
-    let start = seen_mark(
-        expected.part(b"held\t").axis(placed.axis),
-        placed.held.start,
-    );
-    seen_mark(start, placed.held.end).part(b"\n")
+fn seen_placed<'a>(expected: Expected<'a>, answer: PlacedLine) -> Expected<'a> {
+    let held = answer.placed.held;
+    let start = seen_mark(expected.part(b"held\t").axis(answer.axis), held.start);
+    seen_mark(start, held.end).part(b"\n")
 }
 
 // The line of a placement; of one that is refused the columns and no marks.

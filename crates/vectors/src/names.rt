@@ -2,32 +2,23 @@
 use crate::expected::Expected;
 use crate::tables::Shown;
 use coordinates::Axis;
+use coordinates::line::MOST_TRACKS;
+use name_entries::MOST_ENTRIES;
 use panel_calls::size::line_count;
 use panel_names::LentNames;
 use panel_names::naming::line_name;
 
-// The most names of a line that are listed.
-const MOST_NAMES: u32 = 4096;
-
-// The most lists of an axis.
-const MOST_LISTS: u64 = 10001;
-
 impl<'a> Shown<'a> {
     // A name of a line of an axis by its place, empty where there is none.
     fn name(self, axis: Axis, line: u32, place: u32) -> &'a [u8] {
-        let lent = LentNames {
-            words: self.lent.words,
-            columnstore: self.lent.columnstore,
-            rowstore: self.lent.rowstore,
-        };
-        line_name(self.grid, lent, axis, line, place)
+        line_name(self.grid, LentNames::from(self.lent), axis, line, place)
     }
 }
 
 // The names of a line, each after a tab.
 fn seen_list<'a>(expected: Expected<'a>, shown: Shown, axis: Axis, line: u32) -> Expected<'a> {
     let mut seen = expected;
-    for place in 0..MOST_NAMES {
+    for place in 0..MOST_ENTRIES as u32 {
         let name = shown.name(axis, line, place);
         if name.is_empty() {
             break;
@@ -54,7 +45,7 @@ fn seen_line<'a>(
 
 // The lists of an axis.
 fn seen_lists<'a>(expected: Expected<'a>, cut: bool, shown: Shown, axis: Axis) -> Expected<'a> {
-    let count = line_count(shown.grid, axis).min(MOST_LISTS) as u32;
+    let count = line_count(shown.grid, axis).min(u64::from(MOST_TRACKS) + 1) as u32;
     let mut seen = expected;
     for line in 1..=count {
         seen = seen_line(seen, cut, shown, axis, line);

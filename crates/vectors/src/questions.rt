@@ -10,9 +10,10 @@ use crate::tables::{Shown, StoreLengths};
 use coordinates::Axis;
 use line_positions::Span;
 use panel_hits::{Around, AxisSpan};
+use text::LINE_FEED;
 
 // What a line asks: the line nearest to a cursor, the least resize of an axis, or the placements within a span or around a line.
-#[derive(Clone, Copy)]
+#[derive(Clone, Copy, Debug, PartialEq, Eq)]
 enum Question {
     Nearest(Cursor),
     Resize(Axis),
@@ -65,7 +66,7 @@ fn seen_question<'a>(expected: Expected<'a>, question: Question, shown: Shown) -
 // The questions of a block, each a line.
 pub fn seen_questions<'a>(expected: Expected<'a>, questions: Lines, shown: Shown) -> Expected<'a> {
     let mut seen = expected;
-    let lines = questions.text.split(|byte| *byte == b'\n');
+    let lines = questions.text.split(|byte| *byte == LINE_FEED);
     for line in lines.take(questions.count as usize) {
         seen = seen_question(seen, question_of(line), shown);
     }

@@ -54,7 +54,10 @@ fn replay_next<W: Write>(
     Ok(())
 }
 
-// All that standard input holds, at most a million blocks.
+// The most blocks of standard input.
+const MOST_BLOCKS: u32 = 1_000_000;
+
+// All that standard input holds.
 pub fn replay_all<R: Read, W: Write>(
     input: &mut R,
     out: &mut W,
@@ -62,7 +65,7 @@ pub fn replay_all<R: Read, W: Write>(
     tables: &mut Tables,
 ) -> io::Result<Counts> {
     let mut counts = Counts::default();
-    for _ in 0..1000000 {
+    for _ in 0..MOST_BLOCKS {
         window.fill(input)?;
         let mut reader = Reader {
             rest: window.rest(),

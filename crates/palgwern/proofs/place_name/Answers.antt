@@ -1,4 +1,5 @@
-use mathlib.Core.Path.{ap, ◌∙◌}
+use mathlib.Core.Path.{sym, ap, ◌∙◌}
+use borrow.Author.Tests.{ltb-true, ltb-false}
 use lib.ListN.{length}
 use Rattle.std.specs.Prelude.{Option}
 use Rattle.std.specs.Option.{unwrap_or}
@@ -6,7 +7,8 @@ use Rattle.coordinates.specs.Axes.{axis_of}
 use Rattle.name_entries.specs.declared.NameEntry.{NameEntry}
 use Rattle.name_entries.specs.LineEntries.{no_entry}
 use Rattle.std.proofs.lemmas.Result.{err_from_is_err_and}
-use Rattle.panel_rules.specs.Calls.{NameTables, store_in}
+use Rattle.panel_rules.specs.Calls.{NameTables, shorter_store, short_names, store_in}
+use Rattle.panel_resolving.proofs.Placed.{short-told, long-told}
 use Rattle.panel_names.specs.Lent.{lent_tables}
 use Rattle.panel_names.proofs.LineEntries.{shown-entry}
 use Rattle.palgwern.proofs.Parts.{shows-none, shows-short, shows-name}
@@ -18,10 +20,13 @@ returns-in_err-axis c =
     let p = err_from_is_err_and c.from_residual.result c.from_residual.ensures.1 in
     rw (p.1, p.2, c.in_err-axis.ensures.1) (shows-none a.grid (lent_tables a.lent) a.axis a.line a.place c.in_err-axis.ensures.0)
 
-pub returns-then-shorter_store-lt-AXIS_BYTES : goal.returns-then-shorter_store-lt-AXIS_BYTES
-returns-then-shorter_store-lt-AXIS_BYTES c =
+pub returns-in_err-check_stores : goal.returns-in_err-check_stores
+returns-in_err-check_stores c =
     let a = c.args in
-    shows-short a.grid (lent_tables a.lent) a.axis a.line a.place c.in_ok-axis.ensures.0 (rw c.shorter_store.ensures at c.if-shorter_store-lt-AXIS_BYTES.true)
+    let t = lent_tables a.lent in
+    let p = err_from_is_err_and c.from_residual-in_err-check_stores.result c.from_residual-in_err-check_stores.ensures.1 in
+    let told = short-told (short_names t) c.in_err-check_stores.field-0.0 c.in_err-check_stores.ensures in
+    rw (p.1, p.2, told.1) (shows-short a.grid t a.axis a.line a.place c.in_ok-axis.ensures.0 (ltb-true (shorter_store t) 32768 (sym told.0)))
 
 pub returns : goal.returns
 returns c =
@@ -30,6 +35,6 @@ returns c =
     let same = c.in_ok-axis.ensures.1 in
     shows-name a.grid t a.axis a.line a.place
     _ (unwrap_or c.line_entry-entry.result no_entry) c.name_part.result c.in_ok-axis.ensures.0
-    (rw c.shorter_store.ensures at c.if-shorter_store-lt-AXIS_BYTES.false)
+    (ltb-false (shorter_store t) 32768 (sym (long-told (short_names t) c.in_ok-check_stores.ensures)))
     (ap length (c.store.ensures ∙ ap (store_in t) same))
     (ap (λ (e : Option NameEntry). unwrap_or e no_entry) c.line_entry-entry.ensures ∙ rw same (shown-entry a.grid t (axis_of a.axis) a.line a.place)) c.name_part.ensures

@@ -7,7 +7,7 @@ use Rattle.sizing.specs.declared.Sizing.{Sizing}
 use Rattle.template_rules.specs.Template.{Component}
 use Rattle.template_rules.specs.declared.AutoRepeatStrategy.{AutoRepeatStrategy}
 use Rattle.axis_tables.specs.declared.AxisGrid.{AxisGrid}
-use Rattle.sheet_end.specs.End.{strategy_in}
+use Rattle.axis_tables.specs.Reads.{strategy_in}
 use Rattle.panel_rules.specs.Calls.{template_in}
 use Rattle.least_resize.specs.declared.ResizeAnswer.{ResizeAnswer}
 use Rattle.least_resize.specs.Answer.{resize_answer, definite_number, bits_of_inner, inner_by}

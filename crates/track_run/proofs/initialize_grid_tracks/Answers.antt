@@ -14,7 +14,7 @@ use Rattle.track_run.proofs.initialize_grid_tracks.Goals as goal
 pub returns-in_err-count : goal.returns-in_err-count
 returns-in_err-count c =
     let a = c.args.axis in
-    let cs = template_of c.args.lent.template.components.now c.args.lent.template.minimums.now c.args.lent.template.maximums.now in
+    let cs = template_of c.args.lent.template.components.now c.args.lent.template.sizes.minimums.now c.args.lent.template.sizes.maximums.now in
     let sp = spares_of c.args.lent.spares.minimums.now c.args.lent.spares.maximums.now in
     let p = err_from_is_err_and c.from_residual.result c.from_residual.ensures.1 in
     rw (p.1, p.2) (c.in_err-count.ensures.answered, refused-run a cs sp c.args.lent.items.now c.args.records.now _ c.in_err-count.ensures.answered)
@@ -34,7 +34,7 @@ pub loop-index-preserved : goal.loop-index-preserved
 unfolding state_record
 loop-index-preserved c =
     let a = c.args.axis in
-    let cs = template_of c.args.lent.template.components.now c.args.lent.template.minimums.now c.args.lent.template.maximums.now in
+    let cs = template_of c.args.lent.template.components.now c.args.lent.template.sizes.minimums.now c.args.lent.template.sizes.maximums.now in
     let sp = spares_of c.args.lent.spares.minimums.now c.args.lent.spares.maximums.now in
     let item = item_at c.args.lent.items.now in
     let i = c.loop-index.index in
@@ -42,7 +42,7 @@ loop-index-preserved c =
     let e : c.record_with.result ≡ record_of a cs sp item i =
     c.record_with.ensures ∙ ap (λ (s : TrackWalk). state_record cs sp item s i) c.loop-index.invariant.0 ∙ state-record a cs item sp i in (
       c.advance-at.ensures ∙ ap (λ (s : TrackWalk). advance_of (word_totals s.axis.repetitions c.args.lent.template.components.now) s i) c.loop-index.invariant.0
-          ∙ advanced a c.args.lent.template.components.now c.args.lent.template.minimums.now c.args.lent.template.maximums.now item i (omega (arith, c.loop-index-test.true)),
+          ∙ advanced a c.args.lent.template.components.now c.args.lent.template.sizes.minimums.now c.args.lent.template.sizes.maximums.now item i (omega (arith, c.loop-index-test.true)),
       ap (λ (l : List GridTrack). slice_set l i c.record_with.result) c.loop-index.invariant.1
           ∙ ap (λ (r : GridTrack). slice_set (filled_to a cs sp item i run) i r) e ∙ filled_next a cs sp item i run (omega (arith, c.loop-index-test.true)),
     )
@@ -50,7 +50,7 @@ loop-index-preserved c =
 pub returns : goal.returns
 returns c =
     let a = c.args.axis in
-    let cs = template_of c.args.lent.template.components.now c.args.lent.template.minimums.now c.args.lent.template.maximums.now in
+    let cs = template_of c.args.lent.template.components.now c.args.lent.template.sizes.minimums.now c.args.lent.template.sizes.maximums.now in
     let sp = spares_of c.args.lent.spares.minimums.now c.args.lent.spares.maximums.now in
     let item = item_at c.args.lent.items.now in
     let run = c.args.records.now in

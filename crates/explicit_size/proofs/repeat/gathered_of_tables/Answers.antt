@@ -8,4 +8,4 @@ pub returns : goal.returns
 returns c =
     let a = c.args in
     let known : (i : ℕ) → get_or a.components.now i 0 < 2 ^ 64 = λ i. omega (arith, c.type_inv.components i) in
-    whole-gathered a.components.now a.minimums.now a.maximums.now _ _ known c.template_summary.ensures
+    whole-gathered a.components.now a.sizes.minimums.now a.sizes.maximums.now _ _ known c.template_summary.ensures

@@ -40,13 +40,13 @@ module _ (words minimums maximums : List ℕ) where
 pub returns-then-template-gt-MOST_COMPONENTS : goal.returns-then-template-gt-MOST_COMPONENTS
 returns-then-template-gt-MOST_COMPONENTS c =
     let t = c.args.template in
-    inside t.components.now t.minimums.now t.maximums.now _ _ _ _ _ (sym c.space_in_range.ensures ∙ c.if-not-space_in_range.false)
-    (crowds t.components.now t.minimums.now t.maximums.now _ _ _ _ _ c.if-template-gt-MOST_COMPONENTS.true c.crowded_by.ensures)
+    inside t.components.now t.sizes.minimums.now t.sizes.maximums.now _ _ _ _ _ (sym c.space_in_range.ensures ∙ c.if-not-space_in_range.false)
+    (crowds t.components.now t.sizes.minimums.now t.sizes.maximums.now _ _ _ _ _ c.if-template-gt-MOST_COMPONENTS.true c.crowded_by.ensures)
 
 pub returns : goal.returns
 returns c =
     let t = c.args.template in
     let value : c.unwrap_or.result ≡ inner_value c.args.space.inner = search rules in
-    inside t.components.now t.minimums.now t.maximums.now _ _ _ _ _ (sym c.space_in_range.ensures ∙ c.if-not-space_in_range.false)
-    (counts t.components.now t.minimums.now t.maximums.now _ _ _ _ _ _ _ _ c.if-template-gt-MOST_COMPONENTS.false value c.gathered-summary.ensures
+    inside t.components.now t.sizes.minimums.now t.sizes.maximums.now _ _ _ _ _ (sym c.space_in_range.ensures ∙ c.if-not-space_in_range.false)
+    (counts t.components.now t.sizes.minimums.now t.sizes.maximums.now _ _ _ _ _ _ _ _ c.if-template-gt-MOST_COMPONENTS.false value c.gathered-summary.ensures
     c.template_size-size.ensures c.size_with_areas.ensures)

@@ -12,7 +12,7 @@ use Rattle.library_records.proofs.SizedTracks.write_part.Goals as goal
 pub returns-then-tracks-eq0 : goal.returns-then-tracks-eq0
 returns-then-tracks-eq0 c =
     let a = c.args in
-    put-none (part_pair a.self.minimums.now a.self.maximums.now a.self.items.now a.part a.offset a.tracks.first a.self.gutters) a.words.now a.tracks.place a.tracks.first a.tracks.count c.if-tracks-eq0.true
+    put-none (part_pair a.self.sizes.minimums.now a.self.sizes.maximums.now a.self.items.now a.part a.offset a.tracks.first a.self.gutters) a.words.now a.tracks.place a.tracks.first a.tracks.count c.if-tracks-eq0.true
 
 pub inner_of-inner-requires : goal.inner_of-inner-requires
 inner_of-inner-requires c = c.requires.length_nonzero (omega (arith, c.if-tracks-eq0.false))
@@ -20,7 +20,7 @@ inner_of-inner-requires c = c.requires.length_nonzero (omega (arith, c.if-tracks
 pub loop-done-init : goal.loop-done-init
 loop-done-init c =
     let a = c.args in
-    (omega arith, c.inner_of-inner.ensures ∙ ap (λ (n : ℕ). n % a.part.length) (sym (add-zero a.offset)), refl, written_none (part_pair a.self.minimums.now a.self.maximums.now a.self.items.now a.part a.offset a.tracks.first a.self.gutters) a.words.now a.tracks.place a.tracks.first a.tracks.count)
+    (omega arith, c.inner_of-inner.ensures ∙ ap (λ (n : ℕ). n % a.part.length) (sym (add-zero a.offset)), refl, written_none (part_pair a.self.sizes.minimums.now a.self.sizes.maximums.now a.self.items.now a.part a.offset a.tracks.first a.self.gutters) a.words.now a.tracks.place a.tracks.first a.tracks.count)
 
 pub overflow_add-track-in-loop-done : goal.overflow_add-track-in-loop-done
 overflow_add-track-in-loop-done c =
@@ -40,7 +40,7 @@ next_of-inner-requires c =
 pub loop-done-preserved : goal.loop-done-preserved
 loop-done-preserved c =
     let a = c.args in
-    let pair = part_pair a.self.minimums.now a.self.maximums.now a.self.items.now a.part a.offset a.tracks.first a.self.gutters in
+    let pair = part_pair a.self.sizes.minimums.now a.self.sizes.maximums.now a.self.items.now a.part a.offset a.tracks.first a.self.gutters in
     let l = c.loop-done in
     let less = c.loop-done-test.true in
     let put = c.put_pair.ensures in (
@@ -49,11 +49,11 @@ loop-done-preserved c =
       ap length put ∙ simp length-sets l.invariant.2,
       written-more pair (λ u. refl) l.words c.put_pair.new.words a.tracks.place a.tracks.first a.tracks.count l.done 1 (omega (arith, less))
           (put ∙ ap (sets l.words (a.tracks.place + 6 * l.done))
-          (part_at_lem a.self.minimums.now a.self.maximums.now a.self.items.now a.part a.offset a.tracks.first a.self.gutters l.done l.inner l.invariant.1 ∙ sym (joined-one pair (a.tracks.first + l.done)))) ∙ l.invariant.3,
+          (part_at_lem a.self.sizes.minimums.now a.self.sizes.maximums.now a.self.items.now a.part a.offset a.tracks.first a.self.gutters l.done l.inner l.invariant.1 ∙ sym (joined-one pair (a.tracks.first + l.done)))) ∙ l.invariant.3,
     )
 
 pub returns : goal.returns
 returns c =
     let a = c.args in
     let l = c.loop-done in
-    sym (written_all (part_pair a.self.minimums.now a.self.maximums.now a.self.items.now a.part a.offset a.tracks.first a.self.gutters) l.words a.tracks.place a.tracks.first a.tracks.count l.done c.loop-done-test.false) ∙ l.invariant.3
+    sym (written_all (part_pair a.self.sizes.minimums.now a.self.sizes.maximums.now a.self.items.now a.part a.offset a.tracks.first a.self.gutters) l.words a.tracks.place a.tracks.first a.tracks.count l.done c.loop-done-test.false) ∙ l.invariant.3

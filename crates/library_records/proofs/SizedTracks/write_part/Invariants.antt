@@ -9,5 +9,5 @@ use Rattle.library_records.proofs.SizedTracks.write_part.Given as goal
 abbrev pub invariant-loop-done : goal.invariant-loop-done
 invariant-loop-done l =
     (l.done ≤ l.tracks.count) × (l.inner ≡ (l.offset + l.done) % l.part.length) × (length l.words ≡ length l.initial.words)
-    × (written (part_pair l.self.minimums.now l.self.maximums.now l.self.items.now l.part l.offset l.tracks.first l.self.gutters) l.words l.tracks.place l.tracks.first l.tracks.count l.done
-    ≡ sets l.initial.words l.tracks.place (joined (part_pair l.self.minimums.now l.self.maximums.now l.self.items.now l.part l.offset l.tracks.first l.self.gutters) l.tracks.first l.tracks.count))
+    × (written (part_pair l.self.sizes.minimums.now l.self.sizes.maximums.now l.self.items.now l.part l.offset l.tracks.first l.self.gutters) l.words l.tracks.place l.tracks.first l.tracks.count l.done
+    ≡ sets l.initial.words l.tracks.place (joined (part_pair l.self.sizes.minimums.now l.self.sizes.maximums.now l.self.items.now l.part l.offset l.tracks.first l.self.gutters) l.tracks.first l.tracks.count))

@@ -3,11 +3,12 @@ use native.Mathlib.Omega.{arith}
 use mathlib.Core.Path.{◌≡◌, refl, sym, ap, subst, ◌∙◌}
 use lib.ListN.{length}
 use lib.Seq.{length-sets}
-use Rattle.track_rules.specs.Records.{item_at}
-use Rattle.axis_tables.specs.Runs.{part_of}
 use Rattle.panel_rules.specs.Calls.{axis_tracks, template_in, spares_in}
-use Rattle.library_records.proofs.Running.{head_fits, head_one, pairs_room, tail_one, tail_room, planned_count, axis-words}
+use Rattle.library_records.proofs.Running.{head_fits, head_one, pairs_room, tail_one, tail_room, axis-words}
 use Rattle.library_records.proofs.edge.write_axis.Goals as goal
+
+pub invariant_of-planned : goal.invariant_of-planned
+invariant_of-planned c = record { worked_out = c.plan-plan.ensures }
 
 pub returns : goal.returns
 returns c =
@@ -25,7 +26,6 @@ write_edge-requires-2 c =
     let done = head + 2 * ((a.count - head) / 2) in
     let kept : length c.write_pairs.new.words ≡ length a.words.now =
     ap length c.write_pairs.ensures ∙ simp length-sets (ap length c.write_edge.ensures ∙ simp length-sets) in record {
-      plan_value = c.plan-plan.ensures;
       count_bound = tail_one a.count head fits;
       count_in_bounds = subst (λ (n : ℕ). 3 * done + 3 * (a.count - done) ≤ n) (sym kept) (tail_room (length a.words.now) a.count head fits p.count_in_bounds);
     }
@@ -36,9 +36,7 @@ write_pairs-requires c =
     let p = c.requires in
     let head = c.head_count-head.result in
     let fits = head_fits a.first a.count head c.head_count-head.ensures in
-    let s = c.args.lent.grid in
     let kept : length c.write_edge.new.words ≡ length a.words.now = ap length c.write_edge.ensures ∙ simp length-sets in record {
-      written_value = planned_count (axis_tracks s) (part_of a.lent.tables.now 0 s.template.components) (part_of a.lent.tables.now 64 s.template.tracks) (part_of a.lent.tables.now 2112 s.template.tracks) (item_at a.lent.items.now) c.plan-plan.result c.plan-plan.ensures;
       count_in_bounds = subst (λ (n : ℕ). 3 * head + 6 * ((a.count - head) / 2) ≤ n) (sym kept) (pairs_room (length a.words.now) a.count head fits p.count_in_bounds);
     }
 
@@ -48,4 +46,4 @@ write_edge-requires c =
     let p = c.requires in
     let head = c.head_count-head.result in
     let fits = head_fits a.first a.count head c.head_count-head.ensures in
-    record { plan_value = c.plan-plan.ensures; count_bound = head_one a.first a.count head c.head_count-head.ensures; count_in_bounds = omega (arith, fits, p.count_in_bounds) }
+    record { count_bound = head_one a.first a.count head c.head_count-head.ensures; count_in_bounds = omega (arith, fits, p.count_in_bounds) }

@@ -7,5 +7,5 @@ pub returns : goal.returns
 returns c =
     let a = c.args in
     let r = c.carried-track.result in
-    record_written a.lent.grid a.lent.tables.now a.lent.items.now a.plan a.index c.axis_tracks-axis.result c.template_on-template.result.components.now c.cursor_at-cursor.result r (kind_number r.kind) (source_number r.source) c.size_word.result c.size_word-2.result
-    a.words.now c.put_record.new.words a.place c.requires.plan_value c.axis_tracks-axis.ensures c.template_on-template.ensures.components c.cursor_at-cursor.ensures c.carried-track.ensures refl refl c.size_word.ensures c.size_word-2.ensures c.put_record.ensures
+    record_written a.planned.lent.grid a.planned.lent.tables.now a.planned.lent.items.now a.planned.plan a.index c.axis_tracks-axis.result c.template-template.result.components.now c.cursor_at-cursor.result r (kind_number r.kind) (source_number r.source) c.from.result c.from-2.result
+    a.words.now c.put_record.new.words a.place a.planned.worked_out c.axis_tracks-axis.ensures c.template-template.ensures.components c.cursor_at-cursor.ensures c.carried-track.ensures refl refl c.from.ensures c.from-2.ensures c.put_record.ensures

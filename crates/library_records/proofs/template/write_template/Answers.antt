@@ -15,26 +15,26 @@ use Rattle.library_records.proofs.template.write_template.Goals.{After-part_at-p
 
 -- the part that is taken next
 part-taken : (c : After-part_at-part) →
-    Taken c.args.lent.grid.size.repetitions c.template_on-template.result.components.now c.template_on-template.result.minimums.now c.template_on-template.result.maximums.now c.args.offset c.loop-done.done c.args.tracks.count c.loop-done.at.component c.part_at-part.result
+    Taken c.args.lent.grid.size.repetitions c.template-template.result.components.now c.template-template.result.sizes.minimums.now c.template-template.result.sizes.maximums.now c.args.offset c.loop-done.done c.args.tracks.count c.loop-done.at.component c.part_at-part.result
 part-taken c =
     let a = c.args in
-    let ws = c.template_on-template.result.components.now in
+    let ws = c.template-template.result.components.now in
     let l = c.loop-done in
     let less = c.loop-done-test.true in
     let small : l.at.component < length ws = component-left a.lent.grid.size.repetitions ws l.at.component l.at.offset (a.tracks.count - l.done) (l.invariant.1 (omega (arith, less))) (omega (arith, less)) in
-    taken a.lent.grid.size.repetitions ws c.template_on-template.result.minimums.now c.template_on-template.result.maximums.now a.offset l.done a.tracks.count l.at.component l.at.offset small l.invariant.1 l.invariant.2 c.part_at-part.result c.part_at-part.ensures.value
+    taken a.lent.grid.size.repetitions ws c.template-template.result.sizes.minimums.now c.template-template.result.sizes.maximums.now a.offset l.done a.tracks.count l.at.component l.at.offset small l.invariant.1 l.invariant.2 c.part_at-part.result c.part_at-part.ensures.value
 
 pub loop-done-init : goal.loop-done-init
 loop-done-init c =
     let a = c.args in
     let p = c.requires in
-    let ws = c.template_on-template.result.components.now in
+    let ws = c.template-template.result.components.now in
     let r = c.args.lent.grid.size.repetitions in (
       omega arith,
-      λ h. let g : a.offset + a.tracks.count ≤ sum_of (totals r ws) = subst (λ (x : List ℕ). a.offset + a.tracks.count ≤ sum_of (word_totals r x)) (sym c.template_on-template.ensures.components) (p.count_bound (omega arith)) in omega arith,
+      λ h. let g : a.offset + a.tracks.count ≤ sum_of (totals r ws) = subst (λ (x : List ℕ). a.offset + a.tracks.count ≤ sum_of (word_totals r x)) (sym c.template-template.ensures.components) (p.count_bound (omega arith)) in omega arith,
       runs_first r ws a.offset (a.tracks.count - 0),
       refl,
-      written_none (template_pair (totals a.lent.grid.size.repetitions ws) (template_of ws c.template_on-template.result.minimums.now c.template_on-template.result.maximums.now) a.lent.items.now a.offset a.tracks.first a.gutters) a.words.now a.tracks.place a.tracks.first a.tracks.count,
+      written_none (template_pair (totals a.lent.grid.size.repetitions ws) (template_of ws c.template-template.result.sizes.minimums.now c.template-template.result.sizes.maximums.now) a.lent.items.now a.offset a.tracks.first a.gutters) a.words.now a.tracks.place a.tracks.first a.tracks.count,
     )
 
 pub overflow_add-done : goal.overflow_add-done
@@ -59,35 +59,35 @@ shape_of-words c =
 pub returns : goal.returns
 returns c =
     let a = c.args in
-    let ws = c.template_on-template.result.components.now in
+    let ws = c.template-template.result.components.now in
     let l = c.loop-done in
-    let mi = c.template_on-template.result.minimums.now in
-    let ma = c.template_on-template.result.maximums.now in
+    let mi = c.template-template.result.sizes.minimums.now in
+    let ma = c.template-template.result.sizes.maximums.now in
     let pair = template_pair (totals a.lent.grid.size.repetitions ws) (template_of ws mi ma) a.lent.items.now a.offset a.tracks.first a.gutters in
     sym (written_all pair l.words a.tracks.place a.tracks.first a.tracks.count l.done c.loop-done-test.false) ∙ l.invariant.4
     ∙ ap (sets a.words.now a.tracks.place)
-    (in_parts a.lent.grid a.lent.tables.now ws mi ma c.template_on-template.ensures.components c.template_on-template.ensures.minimums c.template_on-template.ensures.maximums a.lent.items.now a.offset a.tracks.first a.tracks.count a.gutters)
+    (in_parts a.lent.grid a.lent.tables.now ws mi ma c.template-template.ensures.components c.template-template.ensures.minimums c.template-template.ensures.maximums a.lent.items.now a.offset a.tracks.first a.tracks.count a.gutters)
 
 pub part_at-part-requires : goal.part_at-part-requires
 part_at-part-requires c =
     let a = c.args in
     let p = c.requires in
-    let ws = c.template_on-template.result.components.now in
+    let ws = c.template-template.result.components.now in
     let l = c.loop-done in
     let less = c.loop-done-test.true in
     let small : l.at.component < length ws = component-left a.lent.grid.size.repetitions ws l.at.component l.at.offset (a.tracks.count - l.done) (l.invariant.1 (omega (arith, less))) (omega (arith, less)) in
-    let few : length ws ≤ a.lent.grid.template.components = subst (λ (x : List ℕ). length x ≤ a.lent.grid.template.components) (sym c.template_on-template.ensures.components) (part_few a.lent.tables.now 0 a.lent.grid.template.components) in
-    record { component_in_bounds = small; components_len_bound = omega (arith, few, c.well_formed); left_bound = omega arith }
+    let few : length ws ≤ a.lent.grid.template.components = subst (λ (x : List ℕ). length x ≤ a.lent.grid.template.components) (sym c.template-template.ensures.components) (part_few a.lent.tables.now 0 a.lent.grid.template.components) in
+    record { component_in_bounds = small; components_len_bound = omega (arith, few, c.well_formed) }
 
 pub loop-done-preserved : goal.loop-done-preserved
 loop-done-preserved c =
     let a = c.args in
-    let ws = c.template_on-template.result.components.now in
+    let ws = c.template-template.result.components.now in
     let l = c.loop-done in
     let less = c.loop-done-test.true in
     let x = c.part_at-part.result in
-    let mi = c.template_on-template.result.minimums.now in
-    let ma = c.template_on-template.result.maximums.now in
+    let mi = c.template-template.result.sizes.minimums.now in
+    let ma = c.template-template.result.sizes.maximums.now in
     let t = part-taken (goal.at.loop-done-preserved c).After-part_at-part in
     let small : l.at.component < length ws = omega (arith, t.on, t.held) in
     let pair = template_pair (totals a.lent.grid.size.repetitions ws) (template_of ws mi ma) a.lent.items.now a.offset a.tracks.first a.gutters in

@@ -13,8 +13,8 @@ abbrev pub invariant-loop-done : goal.invariant-loop-done
 invariant-loop-done l =
     (l.done ≤ l.tracks.count) × (0 < l.tracks.count - l.done → l.at.offset + (l.tracks.count - l.done) ≤ sum_of (drop l.at.component (totals l.lent.grid.size.repetitions l.template.components.now)))
     × Runs l.lent.grid.size.repetitions l.template.components.now (l.offset + l.done) l.at.component l.at.offset (l.tracks.count - l.done) × (length l.words ≡ length l.initial.words)
-    × (written (template_pair (totals l.lent.grid.size.repetitions l.template.components.now) (template_of l.template.components.now l.template.minimums.now l.template.maximums.now) l.lent.items.now l.offset l.tracks.first l.fn.gutters) l.words l.tracks.place l.tracks.first l.tracks.count l.done
-    ≡ sets l.initial.words l.tracks.place (joined (template_pair (totals l.lent.grid.size.repetitions l.template.components.now) (template_of l.template.components.now l.template.minimums.now l.template.maximums.now) l.lent.items.now l.offset l.tracks.first l.fn.gutters) l.tracks.first l.tracks.count))
+    × (written (template_pair (totals l.lent.grid.size.repetitions l.template.components.now) (template_of l.template.components.now l.template.sizes.minimums.now l.template.sizes.maximums.now) l.lent.items.now l.offset l.tracks.first l.fn.gutters) l.words l.tracks.place l.tracks.first l.tracks.count l.done
+    ≡ sets l.initial.words l.tracks.place (joined (template_pair (totals l.lent.grid.size.repetitions l.template.components.now) (template_of l.template.components.now l.template.sizes.minimums.now l.template.sizes.maximums.now) l.lent.items.now l.offset l.tracks.first l.fn.gutters) l.tracks.first l.tracks.count))
 
 abbrev pub decreases-loop-done : goal.decreases-loop-done
 decreases-loop-done l =

@@ -1,27 +1,21 @@
-use lib.ListN.{length}
-use Prim.Native.Nat.{◌<◌}
+use mathlib.Core.Path.{sym, ◌∙◌}
 use native.Mathlib.Omega.{arith}
-use Rattle.name_lists.specs.Lists.{line_words, entry_words}
-use Rattle.name_lists.proofs.Writing.{rests-next, rests-fit, rests-none, words-next, words-end}
+use Rattle.name_lists.specs.Lists.{line_words}
+use Rattle.name_lists.proofs.Writing.{rests-none, words-end, line-shown, line-room, line-passed}
 use Rattle.name_lists.proofs.line.write_line.Goals as goal
+use Rattle.name_lists.proofs.line.write_line.Goals.{then-is_shown, else-is_shown}
 
-pub write_entry-n-requires : goal.write_entry-n-requires
-write_entry-n-requires c = let a = c.args in
-    let l = c.loop-i in
-    let less : l.i < length a.names.entries.now = omega arith in record {
-      place_in_bounds = less;
-      place_in_bounds_2 = rests-fit a.words.now a.count (line_words a.names.entries.now a.names.store.now a.line) l.words l.n (entry_words a.names.entries.now a.names.store.now a.line l.i) _ _ l.invariant
-          (words-next a.names.entries.now a.names.store.now a.line l.i less) c.requires;
-    }
+pub bounds-words-count : goal.bounds-words-count
+bounds-words-count c = let a = c.args in let l = c.loop-place in
+    line-room a.names.entries.now a.names.store.now a.line a.words.now l.words l.count l.place c.loop-place-test.true l.invariant (sym (rw c.from.ensures at c.is_shown.ensures) ∙ c.if-is_shown.true) c.requires
 
-pub loop-i-preserved : goal.loop-i-preserved
-loop-i-preserved c = let a = c.args in
-    let l = c.loop-i in
-    let less : l.i < length a.names.entries.now = omega arith in
-    rests-next a.words.now a.count (line_words a.names.entries.now a.names.store.now a.line) l.words _ l.n c.write_entry-n.result _ _ _ l.invariant
-    (words-next a.names.entries.now a.names.store.now a.line l.i less) c.write_entry-n.ensures
+pub loop-place-preserved : goal.loop-place-preserved
+loop-place-preserved c = let a = c.args in let l = c.loop-place in let s = rw c.from.ensures at c.is_shown.ensures in
+    elim c.if-is_shown.branch [
+      | then-is_shown w ↦ rw (w.words-is, w.count-is, w.part_word.ensures) (line-shown a.names.entries.now a.names.store.now a.line a.words.now l.words l.count l.place c.loop-place-test.true l.invariant (sym s ∙ w.if-is_shown.true))
+      | else-is_shown w ↦ rw (w.words-is, w.count-is) (line-passed a.names.entries.now a.names.store.now a.line a.words.now l.words l.count l.place c.loop-place-test.true l.invariant (sym s ∙ w.if-is_shown.false))
+    ]
 
 pub returns : goal.returns
-returns c = let a = c.args in
-    let l = c.loop-i in
-    rests-none a.words.now a.count (line_words a.names.entries.now a.names.store.now a.line) l.words l.n _ l.invariant (words-end a.names.entries.now a.names.store.now a.line l.i (omega arith))
+returns c = let a = c.args in let l = c.loop-place in
+    rests-none a.words.now (line_words a.names.entries.now a.names.store.now a.line) l.words l.count _ l.invariant (words-end a.names.entries.now a.names.store.now a.line l.place (omega arith))

@@ -9,8 +9,8 @@ use Rattle.name_search.proofs.Search.nearest_sought.Goals as goal
 
 pub returns-in-Some : goal.returns-in-Some
 returns-in-Some c = let a = c.args in
-    near_joined (entries_of a.self.names.entries.now a.self.names.store.now) (areas_of a.self.sought.axis a.self.areas.edges.now a.self.areas.names.now a.self.areas.store.now) a.self.stem.now a.self.sought.edge (λ d. number_at a.self.sought.way a.self.sought.from d) a.limit c.nearest_entries-best.result c.nearest_areas.result c.nearest_entries-best.ensures (rw c.in-Some.is c.nearest_areas.ensures)
+    near_joined (entries_of a.self.names.entries.now a.self.names.store.now) (areas_of a.self.sought.axis a.self.areas.edges.now a.self.areas.names.now a.self.areas.store.now) a.self.name.stem.now a.self.name.edge (λ d. number_at a.self.sought.nth.way a.self.sought.nth.from d) a.limit c.nearest_entries-best.result c.nearest_areas.result c.nearest_entries-best.ensures (rw c.in-Some.is c.nearest_areas.ensures)
 
 pub returns-in-None : goal.returns-in-None
 returns-in-None c = let a = c.args in
-    near_joined (entries_of a.self.names.entries.now a.self.names.store.now) (areas_of a.self.sought.axis a.self.areas.edges.now a.self.areas.names.now a.self.areas.store.now) a.self.stem.now a.self.sought.edge (λ d. number_at a.self.sought.way a.self.sought.from d) a.limit c.nearest_entries-best.result c.nearest_entries-best.result c.nearest_entries-best.ensures (rw c.in-None.is (nearest_none (λ d. false) c.nearest_entries-best.result (λ d l. refl)))
+    near_joined (entries_of a.self.names.entries.now a.self.names.store.now) (areas_of a.self.sought.axis a.self.areas.edges.now a.self.areas.names.now a.self.areas.store.now) a.self.name.stem.now a.self.name.edge (λ d. number_at a.self.sought.nth.way a.self.sought.nth.from d) a.limit c.nearest_entries-best.result c.nearest_entries-best.result c.nearest_entries-best.ensures (rw c.in-None.is (nearest_none (λ d. false) c.nearest_entries-best.result (λ d l. refl)))

@@ -6,7 +6,7 @@ use Rattle.name_search.proofs.Scanning.{scan_in}
 use Rattle.name_search.proofs.Search.nth_by_marks.Given as goal
 
 abbrev pub invariant-loop-lines : goal.invariant-loop-lines
-invariant-loop-lines l = scan_in l.self.sought.way (marks_in l.self) l.lines l.m ≡ walk l.self.sought.way (marks_in l.self) l.self.sought.from l.self.sought.over
+invariant-loop-lines l = scan_in l.self.sought.nth.way (marks_in l.self) l.lines l.m ≡ walk l.self.sought.nth.way (marks_in l.self) l.self.sought.nth.from l.self.sought.nth.over
 
 abbrev pub decreases-loop-lines : goal.decreases-loop-lines
 decreases-loop-lines l = l.lines.end - l.lines.low

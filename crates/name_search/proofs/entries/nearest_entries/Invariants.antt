@@ -8,4 +8,4 @@ use Rattle.name_search.proofs.Passes.{Rest}
 use Rattle.name_search.proofs.entries.nearest_entries.Given as goal
 
 abbrev pub invariant-loop-word : goal.invariant-loop-word
-invariant-loop-word l = Rest (λ d. any (written? (l.stem ++ tail_of l.sought.edge) (number_at l.sought.way l.sought.from d)) (entries_of (drop l.word-index l.names.entries.now) l.names.store.now)) (λ d. any (written? (l.stem ++ tail_of l.sought.edge) (number_at l.sought.way l.sought.from d)) (entries_of l.names.entries.now l.names.store.now)) l.limit l.best
+invariant-loop-word l = Rest (λ d. any (written? (l.name.stem.now ++ tail_of l.name.edge) (number_at l.sought.nth.way l.sought.nth.from d)) (entries_of (drop l.word-index l.names.entries.now) l.names.store.now)) (λ d. any (written? (l.name.stem.now ++ tail_of l.name.edge) (number_at l.sought.nth.way l.sought.nth.from d)) (entries_of l.names.entries.now l.names.store.now)) l.limit l.best

@@ -2,35 +2,45 @@ use native.Mathlib.Omega.{arith}
 use native.Mathlib.Numerals.{add-one}
 use mathlib.Core.Path.{◌≡◌, sym, ◌∙◌}
 use mathlib.Core.Bool.{false}
-use mathlib.Core.List.{◌∷◌}
+use mathlib.Core.List.{◌∷◌, map}
 use Prim.Native.Nat.{ℕ, ◌+◌, ◌-◌, ◌≤◌, min}
-use lib.ListN.{length, get_or, drop}
+use lib.ListN.{length, get_or, take, drop}
 use lib.Seq.{drop-cons, length-sets}
 use Rattle.name_template.specs.Records.{leading}
-use Rattle.name_template.specs.Steps.{component_count}
+use Rattle.name_template.specs.Writing.{entries_on, entry_word}
+use Rattle.name_template.specs.Steps.{component_count, component_entries}
 use Rattle.name_template.proofs.Walking.{stands-next, met-length, met-placed, writable, last-length, last_written, ends_within}
-use Rattle.name_template.proofs.Placing.{part_length}
+use Rattle.name_template.proofs.Placing.{part_length, sets_part}
 use Rattle.name_template.proofs.TemplateNames.write_all.Goals as goal
 
-pub write_component-o-requires : goal.write_component-o-requires
-write_component-o-requires c = let l = c.loop-k in let a = c.args in
+pub write_component-count-requires : goal.write_component-count-requires
+write_component-count-requires c = let l = c.loop-k in let a = c.args in
     let w : ℕ = get_or a.self.components.now l.k 0 in
     let rest = drop (l.k + 1) a.self.components.now in
     let d : drop l.k a.self.components.now ≡ w ∷ rest = rw (add-one l.k) (drop-cons a.self.components.now l.k 0 (omega arith)) in
     let n : component_count l.at c.component_names-c.result + _ ≡ _ = sym (met-length a.self.names.now l.at (get_or a.self.components.now l.k 0) l.k l.line a.self.repetitions c.component_names-c.result c.component_names-c.ensures.value l.invariant.0.placed rest) in
     let q = rw d at l.invariant.2 in
-    writable a.self.names.now l.at (get_or a.self.components.now l.k 0) l.k l.line a.self.repetitions c.component_names-c.result c.component_names-c.ensures.value c.component_names-c.ensures.few l.invariant.0 (omega arith) _ l.o (omega (arith, n, q, c.requires))
+    writable a.self.names.now l.at (get_or a.self.components.now l.k 0) l.k l.line a.self.repetitions c.component_names-c.result c.component_names-c.ensures.value c.component_names-c.ensures.few l.invariant.0 (omega arith) _ (omega (arith, n, q, c.requires))
+
+pub overflow_add-count : goal.overflow_add-count
+overflow_add-count c = let l = c.loop-k in let a = c.args in
+    let w : ℕ = get_or a.self.components.now l.k 0 in
+    let rest = drop (l.k + 1) a.self.components.now in
+    let d : drop l.k a.self.components.now ≡ w ∷ rest = rw (add-one l.k) (drop-cons a.self.components.now l.k 0 (omega arith)) in
+    omega (arith, c.write_component-count.ensures.0, c.ranges, c.requires, met-length a.self.names.now l.at (get_or a.self.components.now l.k 0) l.k l.line a.self.repetitions c.component_names-c.result c.component_names-c.ensures.value l.invariant.0.placed rest, rw d at l.invariant.2)
 
 pub loop-k-preserved : goal.loop-k-preserved
 loop-k-preserved c = let l = c.loop-k in let a = c.args in
     let w : ℕ = get_or a.self.components.now l.k 0 in
     let rest = drop (l.k + 1) a.self.components.now in
     let d : drop l.k a.self.components.now ≡ w ∷ rest = rw (add-one l.k) (drop-cons a.self.components.now l.k 0 (omega arith)) in
-    let x = c.write_component-o in (
+    let x = c.write_component-count in
+    let all = map entry_word (component_entries a.self.names.now l.at c.component_names-c.result l.line) in
+    let e = sets_part l.entries all l.count (omega arith) in (
       stands-next a.self.names.now l.at (get_or a.self.components.now l.k 0) l.k l.line a.self.repetitions c.component_names-c.result c.component_names-c.ensures.value c.component_names-c.ensures.few l.invariant.0,
-      rw x.ensures.1 (simp length-sets l.invariant.1),
+      rw (x.ensures.1, e) (simp length-sets l.invariant.1),
       omega (arith, x.ensures.0, met-length a.self.names.now l.at (get_or a.self.components.now l.k 0) l.k l.line a.self.repetitions c.component_names-c.result c.component_names-c.ensures.value l.invariant.0.placed rest, rw d at l.invariant.2),
-      rw (x.ensures.1, x.ensures.0) ((rw d at l.invariant.3) ∙ met-placed a.self.names.now l.at (get_or a.self.components.now l.k 0) l.k l.line a.self.repetitions c.component_names-c.result c.component_names-c.ensures.value l.invariant.0.placed rest l.entries l.o),
+      rw (x.ensures.1, e, x.ensures.0) ((rw d at l.invariant.3) ∙ met-placed a.self.names.now l.at (get_or a.self.components.now l.k 0) l.k l.line a.self.repetitions c.component_names-c.result c.component_names-c.ensures.value l.invariant.0.placed rest l.entries l.count),
     )
 
 pub slice_bounds-write_once-end : goal.slice_bounds-write_once-end
@@ -55,4 +65,5 @@ returns c = let l = c.loop-k in let a = c.args in
     let f = rw z at c.end_of_names-end.ensures in
     let e : l.k ≡ min 256 (length a.self.components.now) = omega (arith, c.min-last.ensures) in
     let s : c.end_of_names-end.result - l.at ≡ leading false l.k (drop l.at a.self.names.now) = omega (arith, f) in
-    c.write_once.ensures ∙ sym (l.invariant.3 ∙ rw (last_written a.self.repetitions l.k l.line (drop l.at a.self.names.now) a.self.components.now e, s))
+    let part = sets_part l.entries (map entry_word (entries_on l.line (take (c.end_of_names-end.result - l.at) (drop l.at a.self.names.now)))) l.count (omega arith) in
+    rw c.write_once.ensures (part ∙ sym (l.invariant.3 ∙ rw (last_written a.self.repetitions l.k l.line (drop l.at a.self.names.now) a.self.components.now e, s)))

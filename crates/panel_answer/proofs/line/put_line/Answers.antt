@@ -2,14 +2,6 @@ use Rattle.sheet_rules.specs.Panels.{tables_in}
 use Rattle.panel_rules.proofs.Lent.{words_of, marks_of_lem}
 use Rattle.panel_answer.proofs.line.put_line.Goals as goal
 
-pub returns-in-Refused : goal.returns-in-Refused
-unfolding tables_in
-returns-in-Refused c = rw c.in-Refused.is c.put_refused.ensures
-
-pub returns-in-Size : goal.returns-in-Size
-unfolding tables_in
-returns-in-Size c = rw c.in-Size.is c.put_size.ensures
-
 pub returns-in-Record : goal.returns-in-Record
 unfolding tables_in
 returns-in-Record c =

@@ -1,4 +1,5 @@
 use mathlib.Core.Path.{refl}
+use Rattle.std.proofs.Math.Nat.{min-eq_left}
 use Rattle.std.proofs.lemmas.Result.{err_from_is_err_and}
 use Rattle.coordinates.proofs.Faults.{fault_some}
 use Rattle.panel_positions.proofs.Places.{handed_on}
@@ -14,9 +15,7 @@ returns-in_err-sought c =
 pub grid_line_at-requires : goal.grid_line_at-requires
 grid_line_at-requires c =
     let a = c.args in
-    let e = rw c.at.ensures at c.in_ok-sought.ensures in
-    let small = counts-small a.lent.grid a.lent.tables.now a.lent.items.now a.cursor _ e refl in
-    record { place_bound = place-small a.lent.grid a.lent.tables.now a.lent.items.now a.cursor _ e refl; negative_bound = small.1; explicit_bound = small.0 }
+    place-small a.lent.grid a.lent.tables.now a.lent.items.now a.cursor _ (rw c.at.ensures at c.in_ok-sought.ensures) refl
 
 pub returns : goal.returns
 returns c =
@@ -24,5 +23,6 @@ returns c =
     let e = rw c.at.ensures at c.in_ok-sought.ensures in
     let small = counts-small a.lent.grid a.lent.tables.now a.lent.items.now a.cursor _ e refl in
     let place = place-small a.lent.grid a.lent.tables.now a.lent.items.now a.cursor _ e refl in
+    let line = rw (c.axis_tracks.ensures, min-eq_left small.0, min-eq_left small.1) at c.grid_line_at.ensures in
     nearest-found a.lent.grid a.lent.tables.now a.lent.items.now a.cursor _ e _ refl
-    (handed_on c.in_ok-sought.sought.nearest a.lent.grid.implicit.negative a.lent.grid.size.explicit c.grid_line_at.result place small.1 small.0 c.grid_line_at.ensures)
+    (handed_on c.in_ok-sought.sought.nearest a.lent.grid.implicit.negative a.lent.grid.size.explicit c.grid_line_at.result place small.1 small.0 line)

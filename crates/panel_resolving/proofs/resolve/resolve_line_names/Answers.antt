@@ -1,21 +1,26 @@
--- The loop's invariant: for the last end, the first is resolved.
+-- The loop's invariant: what is resolved is the first end.
+use mathlib.Core.Path.{◌≡◌, sym, ◌∙◌}
+use Prim.Native.Nat.{ℕ}
 use native.Mathlib.Omega.{arith}
-use borrow.Author.Tests.{le-leb}
-use Rattle.name_lines.proofs.Suffixes.{never}
+use Rattle.std.proofs.Common.{rules, ◌≤◌}
+use borrow.Author.Tests.{le-leb, tests}
 use Rattle.name_resolver.specs.Questions.{answered_line}
 use Rattle.panel_resolving.specs.Names.{resolution_by}
 use Rattle.panel_resolving.proofs.resolve.resolve_line_names.Goals as goal
 
-pub loop-last-init : goal.loop-last-init
-loop-last-init c = λ h. never h
+pub loop-first-init : goal.loop-first-init
+loop-first-init c = λ r e. absurd (let z : ◌≡◌ {A = ℕ} 0 1 = cc in omega arith)
 
-pub returns-then-last : goal.returns-then-last
+pub returns-in-Some : goal.returns-in-Some
 unfolding resolution_by answered_line
-returns-then-last c = let a = c.args in let l = c.loop-last in let second = c.resolve_end-resolved in
-    rw (le-leb a.beside.around.explicit 10000 c.if-beside-gt-MOST_TRACKS.false, c.resolved_ends.ensures, second.ensures, c.next_end.ensures, c.if-last.true, l.invariant c.if-last.true)
+returns-in-Some c = let a = c.args in let l = c.loop-first in let second = c.resolve_end-resolved in
+    let few : a.beside.around.explicit ≤ 10000 = search (rules, tests) in
+    rw (le-leb a.beside.around.explicit 10000 few, c.resolved_ends.ensures, second.ensures, c.next_end.ensures, c.in-Some.is, l.invariant c.in-Some.first c.in-Some.is)
 
-pub loop-last-smaller : goal.loop-last-smaller
-loop-last-smaller c = rw c.if-last.false (omega arith)
+pub loop-first-smaller : goal.loop-first-smaller
+loop-first-smaller c = rw c.in-None.is (omega arith)
 
-pub loop-last-preserved : goal.loop-last-preserved
-loop-last-preserved c = λ h. rw (c.next_end.ensures, c.if-last.false) at c.resolve_end-resolved.ensures
+pub loop-first-preserved : goal.loop-first-preserved
+loop-first-preserved c = λ r e.
+    let q : c.resolve_end-resolved.result ≡ r = cc in
+    sym q ∙ (rw (c.next_end.ensures, c.in-None.is) at c.resolve_end-resolved.ensures)

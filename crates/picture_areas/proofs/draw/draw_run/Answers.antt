@@ -1,6 +1,6 @@
 -- `picture_areas::draw_run` meets its contract. Assumes nothing.
 use Rattle.std.proofs.Common.{rules, ◌≡◌, None, Err, sym, ◌∙◌}
-use Rattle.picture_areas.specs.Places.{area_place_in}
+use Rattle.panel_tables.specs.Places.{area_place_in}
 use Rattle.picture_areas.proofs.Runs.{draw_refused, draw_put}
 use Rattle.picture_areas.proofs.draw.draw_run.Goals as goal
 

@@ -1,12 +1,7 @@
 -- `picture_rows::run_step` meets its contract. Assumes nothing.
 use Rattle.std.proofs.Common.{rules, ◌≡◌, Err, sym, ◌∙◌}
-use Rattle.picture_rows.proofs.Settled.{dots_step, drawn_step, refused_step, either_broken}
+use Rattle.picture_rows.proofs.Settled.{drawn_step, refused_step, either_broken}
 use Rattle.picture_rows.proofs.draw.run_step.Goals as goal
-
-pub returns-then-is_dots : goal.returns-then-is_dots
-returns-then-is_dots c =
-    let a = c.args in
-    dots_step a.before a.word.now a.edges a.words.now a.bytes.now (sym c.is_dots.ensures ∙ c.if-is_dots.true)
 
 pub returns-in_err-drawn : goal.returns-in_err-drawn
 returns-in_err-drawn c =

@@ -1,21 +1,8 @@
 -- `picture_rows::draw_row` meets its contract. Assumes nothing.
-use Rattle.std.proofs.Common.{rules, ◌≡◌, refl, Err}
+use Rattle.std.proofs.Common.{rules, ◌≡◌, Err}
 use Rattle.picture_words.specs.Words.{words_of}
-use Rattle.picture_rows.proofs.Counts.{row-wide, row-far}
 use Rattle.picture_rows.proofs.Settled.{row_taken, row_refused}
 use Rattle.picture_rows.proofs.row.draw_row.Goals as goal
-use Rattle.picture_rows.proofs.row.draw_row.Goals.{then-width-gt-MOST_WORDS-via-then-width-gt-MOST_WORDS, then-width-gt-MOST_WORDS-via-else-width-gt-MOST_WORDS+then-row-gt-MOST_ROWS}
-
-pub returns-then-width-gt-MOST_WORDS : goal.returns-then-width-gt-MOST_WORDS
-returns-then-width-gt-MOST_WORDS c =
-    let a = c.args in
-    let words = c.words_in-width in
-    elim c.then-width-gt-MOST_WORDS.branch [
-      | then-width-gt-MOST_WORDS-via-then-width-gt-MOST_WORDS w ↦
-          row-wide a.panel a.words.now a.bytes.now (words_of a.line.now) a.row words.result words.ensures w.if-width-gt-MOST_WORDS.true _ refl
-      | then-width-gt-MOST_WORDS-via-else-width-gt-MOST_WORDS+then-row-gt-MOST_ROWS w ↦
-          row-far a.panel a.words.now a.bytes.now (words_of a.line.now) a.row words.result words.ensures w.if-width-gt-MOST_WORDS.false w.if-row-gt-MOST_ROWS.true _ refl
-    ]
 
 pub returns-in_err-drawn : goal.returns-in_err-drawn
 returns-in_err-drawn c =

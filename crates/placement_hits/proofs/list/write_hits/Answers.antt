@@ -1,14 +1,61 @@
-use mathlib.Core.Path.{sym, ap, ◌∙◌}
-use Prim.Native.Nat.{ℕ}
-use Rattle.placement_hits.specs.Steps.{Listed, is_hit, listed_of, passing}
+use mathlib.Core.Path.{◌≡◌, refl, sym, ◌∙◌}
+use mathlib.Core.List.{◌++◌, ◌∷◌, []}
+use mathlib.Core.Logic.{⊎_elim}
+use Prim.Native.Nat.{◌+◌, ◌-◌, ◌≤◌, min}
+use native.Mathlib.Omega.{arith}
+use lib.ListN.{length, length-append}
+use Rattle.placement_hits.specs.Steps.{Listed, is_hit}
 use Rattle.placement_hits.proofs.Listing.{listed-turn, listed-done, listed-first, few-listed}
+use Rattle.placement_hits.proofs.Chunks.{listed_here, rest-next, one-held, all-held}
 use Rattle.placement_hits.proofs.list.write_hits.Goals as goal
 
+pub loop-index-init : goal.loop-index-init
+loop-index-init c =
+    let e = c.into_iter-index-iterator.ensures.into_iter_gives in
+    let z = c.zip-index-items.ensures in
+    let k = min c.args.count 256 in
+    let w : k - 0 ≡ k = omega arith in (
+      omega arith,
+      omega arith,
+      rw (e, z.first) refl,
+      rw (e, z.first) refl,
+      rw (e, z.second) c.chunks_exact.ensures.size,
+      rw (e, z.second) c.chunks_exact.ensures.rest,
+      rw w refl,
+    )
+
+pub put_hit-written-requires : goal.put_hit-written-requires
+put_hit-written-requires c =
+    let a = c.args in let l = c.loop-index in
+    let s = rw c.in-Some.is at c.next.ensures.steps in
+    omega (arith, l.invariant.0, one-held a.numbers.now (length l.yielded) c.in-Some.chunk.now _ (sym l.invariant.5 ∙ s.1.1.0) (s.1.1.1 ∙ l.invariant.4) c.told-numbers)
+
 pub loop-index-preserved : goal.loop-index-preserved
-loop-index-preserved c = let a = c.args in let l = c.loop-index in let t = is_hit a.asked a.numbers.now in
+loop-index-preserved c =
+    let a = c.args in let l = c.loop-index in let t = is_hit a.asked a.numbers.now in let k = length l.yielded in
+    let s = rw c.in-Some.is at c.next.ensures.steps in
     let before : Listed = record { count = l.written; hits = l.hits } in
-    (few-listed (t l.index) l.index before _ c.put_hit-written.ensures l.invariant.0, listed-turn t l.index c.min-held.result before _ _ c.loop-index-test.true c.put_hit-written.ensures l.invariant.1)
+    let cut = sym l.invariant.5 ∙ s.1.1.0 in
+    let whole = s.1.1.1 ∙ l.invariant.4 in
+    let few = one-held a.numbers.now k c.in-Some.chunk.now _ cut whole c.told-numbers in
+    let put = listed_here a.numbers.now k c.in-Some.chunk.now _ cut whole a.asked c.in-Some.index before _ (s.0.1.1 ∙ l.invariant.2) c.put_hit-written.ensures in
+    let n : length (l.yielded ++ ((c.in-Some.index, c.in-Some.chunk) ∷ [])) ≡ k + 1 = length-append l.yielded ((c.in-Some.index, c.in-Some.chunk) ∷ []) in
+    rw n (
+      few-listed (t k) k before _ put l.invariant.0,
+      omega (arith, few, s.0.1.0, l.invariant.2, l.invariant.3),
+      omega (arith, s.0.1.2, l.invariant.2),
+      s.0.0 ∙ l.invariant.3,
+      s.1.0 ∙ l.invariant.4,
+      rest-next a.numbers.now k c.in-Some.chunk.now _ cut whole,
+      listed-turn t k (min a.count 256) before _ _ (omega (arith, few, s.0.1.0, l.invariant.2, l.invariant.3)) put l.invariant.6,
+    )
 
 pub returns : goal.returns
-returns c = let a = c.args in let l = c.loop-index in let t = is_hit a.asked a.numbers.now in let n = c.min-held.result in
-    sym (listed-done t l.index n (record { count = l.written; hits = l.hits }) c.loop-index-test.false) ∙ l.invariant.1 ∙ listed-first t n a.hits.now ∙ ap (λ (k : ℕ). listed_of (passing t 0 k) a.hits.now) c.min-held.ensures
+returns c =
+    let a = c.args in let l = c.loop-index in let t = is_hit a.asked a.numbers.now in let k = min a.count 256 in
+    let ended : k ≤ length l.yielded =
+    ⊎_elim
+    (λ h. omega (arith, h.1.1, l.invariant.2, l.invariant.3))
+    (λ h. omega (arith, all-held a.numbers.now (length l.yielded) c.told-numbers (rw (l.invariant.5, l.invariant.4) at h.1.1.0)))
+    (rw c.in-None.is at c.next.ensures.steps) in
+    sym (listed-done t (length l.yielded) k (record { count = l.written; hits = l.hits }) ended) ∙ l.invariant.6 ∙ listed-first t k a.hits.now

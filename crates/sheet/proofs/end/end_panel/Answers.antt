@@ -19,7 +19,7 @@ returns c =
     let y : EndedAxis = record { answer = answered_end (state_in d.panel Row) n.result; words = n.new.words } in
     let l : length d.words ≡ 25600 = omega arith in
     let m : length x.words ≡ 25600 = omega arith in
-    let e : x ≡ ended_in Column (state_in d.panel Column) (panel_reading d.reading).columns d.words = rw c.state_in-columns.ensures at k.ensures.ended in
-    let f : y ≡ ended_in Row (state_in d.panel Row) (panel_reading d.reading).rows x.words = rw c.state_in-rows.ensures at n.ensures.ended in
-    rw (c.first_refusal.ensures, c.with_state-draft.ensures, c.with_state-columns_ended.ensures, c.unwrap_or.ensures, c.unwrap_or-2.ensures, c.state_in-columns.ensures, c.state_in-rows.ensures)
+    let e : x ≡ ended_in Column (state_in d.panel Column) (panel_reading d.reading).columns d.words = rw (c.axis-columns.ensures.state, c.axis-columns.ensures.reading) at k.ensures.ended in
+    let f : y ≡ ended_in Row (state_in d.panel Row) (panel_reading d.reading).rows x.words = rw (c.axis-rows.ensures.state, c.axis-rows.ensures.reading) at n.ensures.ended in
+    rw (c.first_refusal.ensures, c.with_state-draft.ensures, c.with_state-columns_ended.ensures, c.unwrap_or.ensures, c.unwrap_or-2.ensures, c.axis-columns.ensures.state, c.axis-rows.ensures.state)
     (ends-with d k.result n.result _ (both-ended d.panel (panel_reading d.reading) d.words l x y m e f) (areas-kept d.panel (panel_reading d.reading) d.words l x y m e f) (placements-kept d.panel (panel_reading d.reading) d.words l x y m e f))

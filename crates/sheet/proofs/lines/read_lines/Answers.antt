@@ -3,7 +3,8 @@ use Prim.Native.Nat.{ℕ, ◌+◌, ◌-◌}
 use mathlib.Core.Path.{◌≡◌, refl, sym, ap, ◌∙◌}
 use mathlib.Core.List.{List}
 use native.Mathlib.Omega.{arith}
-use lib.ListN.{take, drop, length-take, length-drop}
+use lib.ListN.{length, take, drop, length-take, length-drop}
+use lib.Seq.{take_all}
 use Rattle.text.specs.Split.{split}
 use Rattle.text.proofs.Laws.{find-le, split-more, split-no-more, split-end}
 use Rattle.coordinates.specs.declared.refusal.Fault.{Fault}
@@ -27,7 +28,7 @@ returns-then-end-sheet c =
     let l = c.loop-at in
     let h : PanelHeld = held_of l.draft in
     let f = c.part_end-end in
-    let parts = split-no-more 10 s l.at f.result (omega arith) f.ensures c.if-end-sheet.true in record {
+    let parts = split-no-more 10 s l.at f.result (omega arith) f.ensures c.if-end-sheet.true in rw c.refused_at.ensures record {
       lines = sym
           (l.invariant.lines
           ∙ ap (λ (ps : List (List ℕ)). held_run l.line ps h) parts
@@ -67,7 +68,7 @@ returns-in-Some c =
     let z = has_number c.in-Some.fault in
     let note : noted c.or-overlap.result ≡ or_else (noted l.overlap) (noted_at (area_number_of k.result.shared) l.draft.panel.grid.areas l.line) =
     noted-after l.overlap c.overlap_at.result l.invariant.numbered c.or-overlap.result c.or-overlap.ensures _ c.overlap_at.ensures.overlap in
-    let numbered : NumberedPair c.or-overlap.result = numbered-after l.overlap c.overlap_at.result l.invariant.numbered c.or-overlap.result c.or-overlap.ensures c.overlap_at.ensures.numbered in record {
+    let numbered : NumberedPair c.or-overlap.result = numbered-after l.overlap c.overlap_at.result l.invariant.numbered c.or-overlap.result c.or-overlap.ensures c.overlap_at.ensures.numbered in rw c.refused_at-in-Some.ensures record {
       lines = sym
           (l.invariant.lines
           ∙ ap (λ (ps : List (List ℕ)). held_run l.line ps h) parts
@@ -97,6 +98,7 @@ loop-at-preserved c =
     let parts = split-more 10 s l.at f.result (omega arith) f.ensures c.if-end-sheet.false in
     let first = take (f.result - l.at) (drop l.at s) in
     let rest = drop (f.result + 1) s in
+    let tail : take (length s - (f.result + 1)) rest ≡ rest = take_all (length s - (f.result + 1)) rest (omega (arith, length-drop (f.result + 1) s)) in
     let e : x ≡ line_in h (split 9 first) = ap (λ (o : Option Fault). record { fault = fault_number o; held = held_of k.new.draft }) (sym c.in_default.is) ∙ k.ensures.read in
     let note : noted c.or-overlap.result ≡ or_else (noted l.overlap) (noted_at (area_number_of k.result.shared) l.draft.panel.grid.areas l.line) =
     noted-after l.overlap c.overlap_at.result l.invariant.numbered c.or-overlap.result c.or-overlap.ensures _ c.overlap_at.ensures.overlap in record {
@@ -116,7 +118,7 @@ loop-at-preserved c =
           ∙ ap (λ (ps : List (List ℕ)). or_line (line_or_none l.broken) (held_broken l.line ps h)) parts
           ∙ broken-next l.line first h (line_or_none l.broken) 10 rest x e refl
           ∙ ap (λ (n : ℕ). or_line n (held_broken (l.line + 1) (split 10 rest) x.held))
-          (held_note k.new.draft (line_or_none l.broken) (split 9 first) (lines_from (split 10 rest)) l.line ∙ sym c.broken_line-broken.ensures.line);
+          (held_note k.new.draft (line_or_none l.broken) (split 9 first) (lines_from (split 10 rest)) l.line ∙ sym (rw tail at c.broken_line-broken.ensures.line));
       positive = c.broken_line-broken.ensures.positive;
     }
 

@@ -8,7 +8,8 @@ use Rattle.sizing.proofs.Words.{length_in_range_lem, sizing_in_range_lem}
 use Rattle.template_rules.specs.Explicit.{inner_in_range, space_in_range}
 use Rattle.template_rules.proofs.Answer.{answer-in-range}
 use Rattle.axis_tables.specs.declared.AxisSpace.{AxisSpace}
-use Rattle.sheet_end.specs.End.{inner_in, size_in}
+use Rattle.axis_tables.specs.Reads.{inner_in}
+use Rattle.sheet_end.specs.End.{size_in}
 use Rattle.sheet_end.proofs.size.size_in.Goals as goal
 
 -- whatever the state holds, its inner size and its gap are read as sizes in range
@@ -24,5 +25,5 @@ ranged s = and_i (inner_in_range (inner_in s)) (sizing_in_range (sizing_of s.gap
 
 pub returns : goal.returns
 unfolding size_in
-returns c = rw (c.compute_explicit_grid_size_in_axis.ensures, c.from-2.ensures, c.from.ensures, c.inner_in.ensures, c.template_in.ensures.maximums, c.template_in.ensures.minimums, c.template_in.ensures.components)
+returns c = rw (c.compute_explicit_grid_size_in_axis.ensures, c.from.ensures, c.template_in.ensures.maximums, c.template_in.ensures.minimums, c.template_in.ensures.components)
     (answer-in-range _ _ _ _ _ (ranged c.args.state.grid.space))

@@ -2,23 +2,20 @@ use Prim.Native.Nat.{ℕ}
 use mathlib.Core.Path.{refl}
 use mathlib.Core.List.{List}
 use native.Mathlib.Omega.{arith}
-use Rattle.sheet_forms.specs.Answers.{place_end}
 use Rattle.panel_tables.specs.Areas.{answered_panel}
+use Rattle.panel_tables.specs.Placements.{put_placement}
 use Rattle.panel_tables.specs.Regions.{placement_words_in, placement_bytes_in}
-use Rattle.sheet_faults.specs.Parts.{place_in}
-use Rattle.sheet_step.specs.Regions.{on_placements}
 use Rattle.sheet_step.proofs.Back.{part_stays, parts-put}
 use Rattle.sheet_step.proofs.panel.on_placements.Goals as goal
 
 pub returns : goal.returns
-unfolding on_placements placement_words_in placement_bytes_in
+unfolding placement_words_in placement_bytes_in
 returns c =
     let a = c.args in
     let k = c.put_placement in record {
       written = parts-put 25088 512 62048 16384 62048 512 16384 a.words.now a.bytes.now
-          (λ (w : List ℕ) (b : List ℕ). place_in a.panel w b a.axis (place_end a.start) a.first.now (place_end a.end) a.second.now)
-          (record { answer = answered_panel a.panel k.result; words = k.new.words; bytes = k.new.bytes }) refl refl refl
-          (rw (c.used_name.ensures, c.used_name-2.ensures, c.placed-from.ensures, c.placed-to.ensures) at k.ensures);
+          (λ (w : List ℕ) (b : List ℕ). put_placement a.panel w b a.axis a.start.end a.start.name.now a.end.end a.end.name.now)
+          (record { answer = answered_panel a.panel k.result; words = k.new.words; bytes = k.new.bytes }) refl refl refl k.ensures;
       lengths = (
         omega (arith, part_stays a.words.now k.new.words 25088 512 (omega arith) k.auto.words),
         omega (arith, part_stays a.bytes.now k.new.bytes 62048 16384 (omega arith) k.auto.bytes),

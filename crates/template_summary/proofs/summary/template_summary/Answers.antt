@@ -59,7 +59,7 @@ pub returns-then-left-eq0 : goal.returns-then-left-eq0
 returns-then-left-eq0 c =
     let t = c.args.template in
     rw (le-leb (length t.components.now) 64 c.if-template-gt-MOST_COMPONENTS.false)
-    (stopped t.minimums.now t.maximums.now c.args.inner t.components.now c.loop-word.word-index c.loop-word.left c.loop-word.summary _ c.if-left-eq0.true c.loop-word.invariant.1
+    (stopped t.sizes.minimums.now t.sizes.maximums.now c.args.inner t.components.now c.loop-word.word-index c.loop-word.left c.loop-word.summary _ c.if-left-eq0.true c.loop-word.invariant.1
     ∙ gathered_first_part c.args.inner c.args.steps (components_of t))
 
 pub loop-word-preserved : goal.loop-word-preserved
@@ -67,7 +67,7 @@ loop-word-preserved c =
     let t = c.args.template in
     let k = c.component_after-component.result in (
       next-gathered _ _ _ _ _ _ k.parts k.counted k.small.1 c.loop-word.invariant.0 c.add_component-summary.ensures,
-      turn t.minimums.now t.maximums.now c.args.inner t.components.now c.loop-word.word-index c.loop-word.left c.steps_inside.result k.parts c.loop-word.summary
+      turn t.sizes.minimums.now t.sizes.maximums.now c.args.inner t.components.now c.loop-word.word-index c.loop-word.left c.steps_inside.result k.parts c.loop-word.summary
           c.add_component-summary.result _ c.loop-word-test.true c.if-left-eq0.false c.component_after-component.ensures c.steps_inside.ensures c.add_component-summary.ensures
           c.loop-word.invariant.1,
     )
@@ -76,5 +76,5 @@ pub returns : goal.returns
 returns c =
     let t = c.args.template in
     rw (le-leb (length t.components.now) 64 c.if-template-gt-MOST_COMPONENTS.false)
-    (done t.minimums.now t.maximums.now c.args.inner t.components.now c.loop-word.word-index c.loop-word.left c.loop-word.summary _ c.loop-word-test.false c.loop-word.invariant.1
+    (done t.sizes.minimums.now t.sizes.maximums.now c.args.inner t.components.now c.loop-word.word-index c.loop-word.left c.loop-word.summary _ c.loop-word-test.false c.loop-word.invariant.1
     ∙ gathered_first_part c.args.inner c.args.steps (components_of t))

@@ -10,5 +10,5 @@ use Rattle.template_summary.proofs.summary.template_summary.Given as goal
 abbrev pub invariant-loop-word : goal.invariant-loop-word
 invariant-loop-word l =
     Gathered l.word-index l.summary
-    × (foldl (summary_step l.inner) l.summary (first_part l.left (template_of (drop l.word-index l.template.components.now) l.template.minimums.now l.template.maximums.now))
+    × (foldl (summary_step l.inner) l.summary (first_part l.left (template_of (drop l.word-index l.template.components.now) l.template.sizes.minimums.now l.template.sizes.maximums.now))
     ≡ summary_of l.inner (first_part l.fn.steps (components_of l.template)))

@@ -21,4 +21,4 @@ single minimums maximums inner k first n t e h r = rw (single_one k n e h, e, r,
 pub returns : goal.returns
 returns c =
     let k = c.args.component.parts in
-    single c.args.template.minimums.now c.args.template.maximums.now c.args.inner k.count k.first k.length c.track_totals.result c.in-Single.is c.args.component.counted c.track_totals.ensures
+    single c.args.template.sizes.minimums.now c.args.template.sizes.maximums.now c.args.inner k.count k.first k.length c.track_totals.result c.in-Single.is c.args.component.counted c.track_totals.ensures

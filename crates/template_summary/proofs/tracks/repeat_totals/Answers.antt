@@ -26,10 +26,10 @@ module _ (minimums maximums : List ℕ) (count : RepetitionCount) (inner : Float
 pub loop-place-preserved : goal.loop-place-preserved
 loop-place-preserved c =
     let t = c.args.template in
-    turn t.minimums.now t.maximums.now c.args.component.parts.count c.args.inner c.loop-place.place _ c.loop-place.totals c.add_track-totals.result c.track_totals-track.result _
+    turn t.sizes.minimums.now t.sizes.maximums.now c.args.component.parts.count c.args.inner c.loop-place.place _ c.loop-place.totals c.add_track-totals.result c.track_totals-track.result _
     c.loop-place-test.true c.track_totals-track.ensures c.add_track-totals.ensures c.loop-place.invariant
 
 pub returns : goal.returns
 returns c =
     let t = c.args.template in
-    done t.minimums.now t.maximums.now c.args.component.parts.count c.args.inner c.loop-place.place _ c.loop-place.totals _ c.loop-place-test.false c.loop-place.invariant
+    done t.sizes.minimums.now t.sizes.maximums.now c.args.component.parts.count c.args.inner c.loop-place.place _ c.loop-place.totals _ c.loop-place-test.false c.loop-place.invariant

@@ -7,5 +7,5 @@ use Rattle.template_summary.proofs.tracks.repeat_totals.Given as goal
 
 abbrev pub invariant-loop-place : goal.invariant-loop-place
 invariant-loop-place l =
-    foldl (track_step l.parts.count l.inner) l.totals (tracks_from l.template.minimums.now l.template.maximums.now l.place (l.place-end - l.place))
-    ≡ foldl (track_step l.parts.count l.inner) no_tracks (tracks_from l.template.minimums.now l.template.maximums.now l.parts.first l.parts.length)
+    foldl (track_step l.parts.count l.inner) l.totals (tracks_from l.template.sizes.minimums.now l.template.sizes.maximums.now l.place (l.place-end - l.place))
+    ≡ foldl (track_step l.parts.count l.inner) no_tracks (tracks_from l.template.sizes.minimums.now l.template.sizes.maximums.now l.parts.first l.parts.length)

@@ -32,7 +32,7 @@ loop-part-preserved c =
       omega (arith, l.invariant.0, length_push l.yielded c.in-Some.part),
       omega (arith, l.invariant.1),
       omega (arith, reach_next _ _ _ u.0 u.1, l.invariant.2),
-      l.invariant.3 ∙ sets_next _ _ _ u.0 u.1 _ _ _ c.put_start.ensures,
+      l.invariant.3 ∙ sets_next _ _ _ u.0 u.1 _ _ _ c.set_at.ensures,
     )
 
 pub returns : goal.returns
@@ -42,4 +42,4 @@ returns c =
     let parts = slice_split (λ x. eqb x a.b) a.s.now in
     let t = YieldsList-end (YieldsList-at c.into_iter-part-iterator.ensures.into_iter_gives (YieldsList-from_slice_split _ (λ x. eqb x a.b) a.s.now c.split-part-items.ensures.rest c.split-part-items.ensures.done c.split-part-items.ensures.closure (λ x r q k. search (rules, tests)))) l.yielded _ l.yielded_by _ _ c.in-None.is c.next.ensures.steps in
     let n : l.count ≡ length (split a.b a.s.now) = l.invariant.0 ∙ t.1 ∙ ap length (split_parts a.b a.s.now) in
-    (n, sym (l.invariant.3 ∙ sets_last _ _ _ _ _ (omega (arith, n)) c.put_start-2.ensures))
+    (n, sym (l.invariant.3 ∙ sets_last _ _ _ _ _ (omega (arith, n)) c.set_at-2.ensures))

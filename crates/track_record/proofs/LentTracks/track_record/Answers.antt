@@ -15,16 +15,16 @@ returns-in_err-check_axis c =
     let p = err_from_is_err_and c.from_residual.result c.from_residual.ensures.1 in
     rw (p.1, p.2) (ap refused_record e ∙ sym (answer-refused _ _ _ _ _ (λ z. fault_some _ (e ∙ z))))
 
-pub returns-then-tracks-index : goal.returns-then-tracks-index
-returns-then-tracks-index c = sym (answer-past _ _ _ _ _ (sym c.in_ok-check_axis.ensures) (omega (arith, c.track_count-tracks.ensures)))
+pub returns-then-record_count-index : goal.returns-then-record_count-index
+returns-then-record_count-index c = sym (answer-past _ _ _ _ _ (sym c.in_ok-check_axis.ensures) (omega (arith, c.record_count.ensures)))
 
-pub returns-then-self-tracks : goal.returns-then-self-tracks
-returns-then-self-tracks c =
-    let n = c.track_count-tracks.ensures in
-    sym (answer-short _ _ _ _ _ (sym c.in_ok-check_axis.ensures) (omega (arith, n)) (omega (arith, n)))
+pub returns-then-self-track_count : goal.returns-then-self-track_count
+returns-then-self-track_count c =
+    let n = c.track_count.ensures in
+    sym (answer-short _ _ _ _ _ (sym c.in_ok-check_axis.ensures) (omega (arith, c.record_count.ensures)) (omega (arith, n)))
 
 pub returns : goal.returns
 returns c =
-    let n = c.track_count-tracks.ensures in
-    answer-held c.args.axis _ _ _ _ (sym c.in_ok-check_axis.ensures) (omega (arith, n)) (omega (arith, n)) no_refusal c.record_with.result refl
+    let n = c.track_count.ensures in
+    answer-held c.args.axis _ _ _ _ (sym c.in_ok-check_axis.ensures) (omega (arith, c.record_count.ensures)) (omega (arith, n)) no_refusal c.record_with.result refl
     (c.record_with.ensures ∙ carried-record c.args.axis _ _ (item_at c.args.self.items.now) c.args.index _ c.begin_at-at.ensures)

@@ -3,7 +3,7 @@ use native.Mathlib.Omega.{arith}
 use mathlib.Core.Path.{◌≡◌, refl, sym, ap, ◌∙◌}
 use mathlib.Core.List.{List, [], ◌∷◌}
 use lib.ListN.{length, get_or, drop, drop_of_length-le}
-use Rattle.std.proofs.Common.{add-zero, add-one}
+use Rattle.std.proofs.Common.{add-one}
 use Rattle.std.proofs.lemmas.Grind.{common_steps}
 use Rattle.track_rules.specs.Steps.{word_total, word_totals, cursor, settle_of}
 use Rattle.track_rules.proofs.Words.{words_drop, words_length}
@@ -40,9 +40,6 @@ module _ (r : ℕ) (ws rest : List ℕ) (first start : ℕ) (e : rest ≡ drop f
   past i o h g s =
       let e : length rest ≡ i = omega arith in
       rw e (sym (ap (λ (l : List ℕ). settle_of l (first + i) o) (drop_of_length-le all (omega (arith, words_length r rest, h))) ∙ settle-end (first + i) o) ∙ s ∙ whole)
-
-pub loop-passed-init : goal.loop-passed-init
-loop-passed-init c = rw (add-zero c.args.at.component) refl
 
 pub returns-then-offset-tracks : goal.returns-then-offset-tracks
 returns-then-offset-tracks c =

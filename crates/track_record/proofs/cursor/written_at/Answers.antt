@@ -16,7 +16,7 @@ returns-in_default c =
     let t = c.args.template in
     let u = c.args.at in
     let h : length t.components.now ≤ u.component = search rules in
-    c.no_track.ensures ∙ sym (ap (λ (x : Component). written_in x u.offset) (template-past t.components.now t.minimums.now t.maximums.now u.component h))
+    c.no_track.ensures ∙ sym (ap (λ (x : Component). written_in x u.offset) (template-past t.components.now t.sizes.minimums.now t.sizes.maximums.now u.component h))
 
 pub returns-then-component-eq0 : goal.returns-then-component-eq0
 returns-then-component-eq0 c =
@@ -28,8 +28,8 @@ returns-then-component-eq0 c =
     let e : c.from-component.result ≡ component_of w = c.from-component.ensures ∙ ap component_of v in
     let z : (component_of w).length ≡ 0 = rw (sym e) c.if-component-eq0.true in
     c.no_track-then-component-eq0.ensures
-    ∙ sym (ap (λ (y : Component). written_in y u.offset) (template-get t.components.now t.minimums.now t.maximums.now u.component no_component h)
-    ∙ no-tracks t.minimums.now t.maximums.now w u.offset z)
+    ∙ sym (ap (λ (y : Component). written_in y u.offset) (template-get t.components.now t.sizes.minimums.now t.sizes.maximums.now u.component no_component h)
+    ∙ no-tracks t.sizes.minimums.now t.sizes.maximums.now w u.offset z)
 
 pub overflow_add-place : goal.overflow_add-place
 overflow_add-place c =
@@ -53,6 +53,6 @@ returns c =
     let z : (component_of w).length ≡ 0 → ⊥ = rw (sym e) c.if-component-eq0.false in
     c.written_track.ensures
     ∙ ap (written x.count) c.track_at.ensures
-    ∙ ap (λ (y : GridTemplateComponent). written y.count (track_at t.minimums.now t.maximums.now (y.first + u.offset % y.length))) e
-    ∙ sym (ap (λ (y : Component). written_in y u.offset) (template-get t.components.now t.minimums.now t.maximums.now u.component no_component h)
-    ∙ track_in t.minimums.now t.maximums.now w u.offset z)
+    ∙ ap (λ (y : GridTemplateComponent). written y.count (track_at t.sizes.minimums.now t.sizes.maximums.now (y.first + u.offset % y.length))) e
+    ∙ sym (ap (λ (y : Component). written_in y u.offset) (template-get t.components.now t.sizes.minimums.now t.sizes.maximums.now u.component no_component h)
+    ∙ track_in t.sizes.minimums.now t.sizes.maximums.now w u.offset z)

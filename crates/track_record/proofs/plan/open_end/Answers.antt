@@ -23,11 +23,8 @@ loop-word-init c =
       omega arith,
       λ h. omega (arith, c.requires),
       runs_first r t.components.now 0 (c.args.count - 0),
-      open-first r t.components.now t.minimums.now t.maximums.now c.args.items.now,
+      open-first r t.components.now t.sizes.minimums.now t.sizes.maximums.now c.args.items.now,
     )
-
-pub overflow_sub-count : goal.overflow_sub-count
-overflow_sub-count c = omega (arith, c.loop-word.invariant.0)
 
 pub overflow_add-opened : goal.overflow_add-opened
 overflow_add-opened c = omega (arith, c.loop-word.invariant.0, c.before_end-taken.ensures, c.open_count-last.ensures, open_le (λ j. c.repeated_of.result.fit && not (item_at c.unwrap_or-rest.result.now j)) c.before_end-taken.result)
@@ -54,13 +51,10 @@ loop-word-preserved c =
       on.0,
       on.1,
       elim c.if-last-ne0.branch [
-        | then-last-ne0 w ↦ w.opened-is ∙ turn-some r ws t.minimums.now t.maximums.now a.items.now l.done l.word-index (a.count - l.done) m c.open_count-last.result fit l.invariant.2 small e told l.opened l.invariant.3 last w.if-last-ne0.true
-        | else-last-ne0 w ↦ w.opened-is ∙ turn-none r ws t.minimums.now t.maximums.now a.items.now l.done l.word-index (a.count - l.done) m c.open_count-last.result fit l.invariant.2 small e told l.opened l.invariant.3 last w.if-last-ne0.false
+        | then-last-ne0 w ↦ w.opened-is ∙ turn-some r ws t.sizes.minimums.now t.sizes.maximums.now a.items.now l.done l.word-index (a.count - l.done) m c.open_count-last.result fit l.invariant.2 small e told l.opened l.invariant.3 last w.if-last-ne0.true
+        | else-last-ne0 w ↦ w.opened-is ∙ turn-none r ws t.sizes.minimums.now t.sizes.maximums.now a.items.now l.done l.word-index (a.count - l.done) m c.open_count-last.result fit l.invariant.2 small e told l.opened l.invariant.3 last w.if-last-ne0.false
       ],
     )
-
-pub returns-then-done-count : goal.returns-then-done-count
-returns-then-done-count c = rw (← c.if-done-count.true) c.loop-word.invariant.3
 
 pub returns : goal.returns
 returns c =

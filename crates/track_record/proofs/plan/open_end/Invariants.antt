@@ -12,4 +12,4 @@ abbrev pub invariant-loop-word : goal.invariant-loop-word
 invariant-loop-word l =
     (l.done ≤ l.count) × (0 < l.count - l.done → 0 + (l.count - l.done) ≤ sum_of (drop l.word-index (totals l.repetitions l.template.components.now)))
     × Runs l.repetitions l.template.components.now (0 + l.done) l.word-index 0 (l.count - l.done)
-    × (l.opened ≡ open_to (closed_from (word_totals l.repetitions l.template.components.now) (template_of l.template.components.now l.template.minimums.now l.template.maximums.now) (item_at l.items) 0) l.done)
+    × (l.opened ≡ open_to (closed_from (word_totals l.repetitions l.template.components.now) (template_of l.template.components.now l.template.sizes.minimums.now l.template.sizes.maximums.now) (item_at l.items) 0) l.done)

@@ -1,11 +1,11 @@
 use native.Mathlib.Omega.{arith}
-use mathlib.Core.Path.{◌≡◌, ◌∙◌, ap}
+use mathlib.Core.Path.{◌≡◌, refl, ◌∙◌, ap}
 use Prim.Native.Nat.{ℕ, ◌+◌}
 use lib.ListN.{drop}
 use Rattle.name_lists.specs.Ascending.{count_up_to}
 use Rattle.name_lists.proofs.Boundary.{Boundary, boundary-begin, boundary-next, between-words}
 use Rattle.name_template.proofs.Leading.{rest_all}
-use Rattle.name_lists.proofs.Lines.{lines-begin, lines-room, lines-turn, lines-done, lines-last}
+use Rattle.name_lists.proofs.Lines.{lines-begin, lines_part, lines_sum, lines-turn, lines-done, lines-last}
 use Rattle.name_lists.proofs.explicit.ExplicitNames.write_ascending.Goals as goal
 use Rattle.name_lists.proofs.explicit.ExplicitNames.write_ascending.Goals.{After-entries_up_to}
 
@@ -32,13 +32,13 @@ pub write_line-count-requires : goal.write_line-count-requires
 write_line-count-requires c = let a = c.args in let l = c.loop-line in
     let d = (goal.at.write_line-count-requires c).After-entries_up_to in
     rw (between-words a.self.names.entries.now l.at l.line (l.at + c.entries_up_to.result) (passed d) l.invariant.0 a.self.names.store.now)
-    (lines-room a.self.explicit a.self.names.entries.now a.self.names.store.now a.words.now l.words l.count l.line l.invariant.1 (omega arith) (omega arith))
+    (lines_part a.self.explicit a.self.names.entries.now a.self.names.store.now a.words.now l.words l.count l.line l.invariant.1 _ (omega arith) (omega arith) (omega arith))
 
 pub loop-line-preserved : goal.loop-line-preserved
 loop-line-preserved c = let a = c.args in let l = c.loop-line in let w = c.write_line-count in
     let d = (goal.at.loop-line-preserved c).After-entries_up_to in (
       next d,
-      lines-turn a.self.explicit a.self.names.entries.now a.self.names.store.now a.words.now l.words l.count l.line l.invariant.1 (omega arith) _ w.result
+      lines-turn a.self.explicit a.self.names.entries.now a.self.names.store.now a.words.now l.words l.count l.line l.invariant.1 _ (omega arith) (omega arith) (omega arith) _ w.result
           (rw (← between-words a.self.names.entries.now l.at l.line (l.at + c.entries_up_to.result) (passed d) l.invariant.0 a.self.names.store.now) w.ensures),
     )
 
@@ -49,5 +49,11 @@ returns c = let a = c.args in let l = c.loop-line in
 pub returns-2 : goal.returns-2
 returns-2 c = let a = c.args in let l = c.loop-line in
     let d = (goal.at.returns-2 c).After-entries_up_to in
-    lines-last a.self.explicit a.self.names.entries.now a.self.names.store.now a.words.now l.words l.count l.line l.invariant.1 (omega arith) _ _
+    lines-last a.self.explicit a.self.names.entries.now a.self.names.store.now a.words.now l.words l.count l.line l.invariant.1 _ (omega arith) (omega arith) (omega arith) _ _
     (rw (← between-words a.self.names.entries.now l.at l.line (l.at + c.entries_up_to.result) (passed d) l.invariant.0 a.self.names.store.now) c.write_line-count.ensures)
+
+pub overflow_add-count : goal.overflow_add-count
+overflow_add-count c = let a = c.args in let l = c.loop-line in
+    let d = (goal.at.overflow_add-count c).After-entries_up_to in
+    let w = rw (between-words a.self.names.entries.now l.at l.line (l.at + c.entries_up_to.result) (passed d) l.invariant.0 a.self.names.store.now) at c.write_line-count.ensures in
+    let f = lines_sum a.self.explicit a.self.names.entries.now a.self.names.store.now a.words.now l.words l.count l.line l.invariant.1 _ refl (omega arith) (omega arith) c.write_line-count.result w.counted in omega (arith, f)
