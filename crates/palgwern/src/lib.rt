@@ -30,7 +30,7 @@ use library_records::write_run;
 use panel_calls::size::{explicit_size, line_count};
 use panel_calls::track::record_count;
 use panel_names::LentNames;
-use panel_names::entering::enter_name;
+use panel_names::entering::enter_in_place;
 use panel_names::naming::line_entry;
 use panel_resolving::placing::resolve_placement;
 use panel_resolving::run::write_placements;
@@ -65,14 +65,15 @@ pub extern "C" fn palgwern_enter_name(
     ensures rowstore_after { record { answer = result; tables = name_tables_in words.new columnstore.new rowstore.new } ≡ name_entered panel (name_tables_in words.old columnstore.old rowstore.old) axis line name.now }
     ensures others { (area_words_in words.new ≡ area_words_in words.old) × (placement_words_in words.new ≡ placement_words_in words.old) }
 {
+    let mut after = panel;
     let entered = match axis_in(axis) {
-        Ok(axis) => enter_name(panel, words, columnstore, rowstore, axis, line, name),
+        Ok(axis) => enter_in_place(&mut after, words, columnstore, rowstore, axis, line, name),
         Err(_) => Err(entry_in_no_axis(name)),
     };
     PanelAnswer {
         number: entered.err().map_or(0, u32::from),
         line: 0,
-        panel: entered.unwrap_or(panel),
+        panel: after,
     }
 }
 

@@ -3,13 +3,15 @@ use Prim.Native.Nat.{ℕ, ◌+◌, ◌-◌, ◌≤◌, ◌<◌}
 use native.Mathlib.Omega.{arith}
 use mathlib.Core.Path.{◌≡◌, ap, ap₂, ◌∙◌}
 use mathlib.Core.List.{List}
+use mathlib.Core.Bool.{Bool, true, false, cond}
+use lib.Dec.{eqb}
 use lib.ListN.{length, set}
 use lib.Seq.{sets}
 use borrow.Author.Tests.{le-ltb, eq-eqb, ne_eqb}
 use Rattle.coordinates.specs.declared.axis.Axis.{Axis}
 use Rattle.coordinates.specs.declared.axis.Axis.TheVariants.{Column, Row}
 use Rattle.coordinates.specs.declared.refusal.Fault.{Fault}
-use Rattle.coordinates.specs.Refusals.{number_of}
+use Rattle.coordinates.specs.Refusals.{number_of, no_refusal, refusal_of}
 use Rattle.std.specs.Prelude.{Ok, Err}
 use Rattle.coordinates.proofs.Faults.{fault_some}
 use Rattle.name_entries.specs.Enter.{entry_refusal}
@@ -22,7 +24,7 @@ use Rattle.axis_tables.proofs.Regions.{set-inside, set_before, set_after}
 use Rattle.panel_tables.specs.declared.Panel.{Panel}
 use Rattle.panel_tables.specs.Axes.{state_in, with_state}
 use Rattle.panel_tables.specs.Regions.{first_word, axis_words_in, area_words_in, placement_words_in}
-use Rattle.panel_rules.specs.Calls.{name_tables_in, entered_in, NameTables, shorter_store, store_in, enter_refusal, enter_name, answered_entry}
+use Rattle.panel_rules.specs.Calls.{name_tables_in, entered_in, NameTables, shorter_store, store_in, with_entry, enter_refusal, enter_name, answered_entry, EnteredName}
 use Rattle.panel_names.specs.Entered.{Roomy, EnteredAxis, entered_on, entered_name}
 
 -- bytes that have room are written
@@ -87,6 +89,28 @@ module _ (p : Panel) (t : NameTables) (line : ℕ) (name : List ℕ) where
         record { answer = answered_entry p (Err fault); tables = t } ≡ enter_name p t a line name
     unfolding enter_name
     refused fault e = rw (← e, ne_eqb (number_of fault) 0 (fault_some fault))
+
+    -- what it leaves of a panel that is lent is the panel as it came
+    pub kept : (fault : Fault) (after : Panel) (left : NameTables) →
+        record { answer = record { refusal = refusal_of (number_of fault); panel = after }; tables = left } ≡ enter_name p t a line name →
+        record { answer = answered_entry p (Err fault); tables = left } ≡ enter_name p t a line name
+    unfolding enter_name
+    kept fault after left e = go (eqb (enter_refusal p t a line name) 0) e
+      where
+        entered-answer : EnteredName
+        entered-answer =
+            record {
+              answer = record { refusal = no_refusal; panel = with_state p a (with_entry (state_in p a) (length name)) };
+              tables = entered_in t a (state_in p a) line name;
+            }
+
+        refused-answer : EnteredName
+        refused-answer = record { answer = record { refusal = refusal_of (enter_refusal p t a line name); panel = p }; tables = t }
+
+        go : (accepted : Bool) → record { answer = record { refusal = refusal_of (number_of fault); panel = after }; tables = left } ≡ cond accepted entered-answer refused-answer →
+            record { answer = answered_entry p (Err fault); tables = left } ≡ cond accepted entered-answer refused-answer
+        go true h = absurd (fault_some fault (ap (λ (x : EnteredName). x.answer.refusal.number) h))
+        go false h = ap (λ (x : EnteredName). record { answer = record { refusal = x.answer.refusal; panel = p }; tables = x.tables }) h
 
     -- an accepted one enters
     pub made : enter_refusal p t a line name ≡ 0 → entered_name p t a line name ≡ enter_name p t a line name

@@ -1,20 +1,18 @@
 -- Where the conditions of the third demand hold, what layers 3 and 4 make of a sheet is what the book says. Assumes nothing.
 use Rattle.std.specs.Prelude.{Float, Option}
-use Prim.Native.Nat.{ℕ, zero, suc, ◌+◌, ◌*◌, ◌≤◌, ◌<◌, max}
+use Prim.Native.Nat.{ℕ, zero, suc, ◌+◌, ◌*◌, ◌≤◌, ◌<◌}
 use mathlib.Core.Path.{◌≡◌, refl, sym, ap, ◌∙◌, subst}
-use mathlib.Core.Logic.{◌⊎◌, inl, inr, ⊎_elim}
-use mathlib.Core.Bool.{Bool, true, false, cond}
-use mathlib.Core.List.{List, [], ◌∷◌, ◌++◌, map}
-use native.Mathlib.Nat.{mul_comm}
+use mathlib.Core.Logic.{⊎_elim}
+use mathlib.Core.Bool.{cond}
+use mathlib.Core.List.{List, [], ◌∷◌, map}
 use native.Mathlib.Omega.{arith}
-use borrow.Author.Tests.{eqb-true, eqb-false}
 use lib.Dec.{eqb}
 use lib.ListN.{length, length-map}
 use Rattle.coordinates.specs.declared.axis.Axis.{Axis}
 use Rattle.sizing.specs.Words.{sizing_of}
 use Rattle.sizing.specs.declared.Sizing.{Sizing}
 use Rattle.template_rules.specs.Template.{Component, count_of}
-use Rattle.template_rules.specs.Counts.{is_automatic, outside_of, outside_count, automatic_count, automatic_tracks}
+use Rattle.template_rules.specs.Counts.{is_automatic, outside_count, automatic_count, automatic_tracks}
 use Rattle.template_rules.specs.declared.AutoRepeatStrategy.{AutoRepeatStrategy}
 use Rattle.template_rules.specs.declared.TemplateSize.{TemplateSize}
 use Rattle.template_rules.specs.Css.{Valid, Repetitions}
@@ -23,7 +21,7 @@ use Rattle.template_rules.specs.declared.RepetitionCount.TheVariants.{Single, Co
 use Rattle.template_rules.proofs.Answer.{size-counted, size-repeated, valid_repetitions_css}
 use Rattle.template_rules.proofs.Valid.{one_at_most, automatic_component, in_count}
 use Rattle.template_rules.proofs.Css.{repetitions_unique}
-use Rattle.name_rules.specs.Css.{Entry, AxisNames}
+use Rattle.name_rules.specs.Css.{Entry}
 use Rattle.name_rules.specs.Template as Css
 use Rattle.name_rules.proofs.Written.{rule_book, tracks-append, tracks-copies}
 use Rattle.track_rules.specs.Written.{repeats_of, written_out}
@@ -37,7 +35,7 @@ use Rattle.sheet_rules.specs.Valid.{CssCounted}
 use Rattle.sheet_rules.proofs.Counted.{counted_css, counted_unique}
 use Rattle.sheet_rules.specs.Sheet.{inner_of, strategy_of, size_of, counted, explicit_of, times_of, pieces_of, items_of, entries_of}
 use Rattle.panel_rules.specs.Runs.{Call}
-use Rattle.panel_rules.specs.Views.{entries_after, names_after, areas_in}
+use Rattle.panel_rules.specs.Views.{entries_after, names_after}
 use Rattle.panel_rules.specs.Book.{CssTemplate, as_written, sheet_book, sheet_tracks, added_from, book, book_explicit, book_names, CssRepetitions, RegularTemplate}
 use Rattle.panel_rules.specs.Added.{found_in}
 use Rattle.panel_rules.proofs.Counted.{size_for, counted-components, counted-size, counted-small}

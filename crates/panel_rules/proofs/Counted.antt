@@ -1,6 +1,6 @@
 -- The size of an axis, and whatever is read of its template, is that of what counts as the template. Assumes nothing.
 use mathlib.Core.Path.{◌≡◌, refl, sym, ap, ◌∙◌, subst}
-use mathlib.Core.Logic.{◌⊎◌, inl, ⊎_elim}
+use mathlib.Core.Logic.{inl, ⊎_elim}
 use mathlib.Core.List.{List, []}
 use Rattle.sizing.specs.Words.{zero32, sizing_of}
 use Rattle.template_rules.specs.Summary.{meaning_of}

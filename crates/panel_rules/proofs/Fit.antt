@@ -1,5 +1,5 @@
 -- Further entries of an axis that fit its table and its store, as the table's refusals leave them.
-use Prim.Native.Nat.{ℕ, ◌+◌, ◌≤◌}
+use Prim.Native.Nat.{◌+◌, ◌≤◌}
 use mathlib.Core.List.{List, [], ◌∷◌}
 use lib.ListN.{length}
 use Rattle.name_rules.specs.Css.{Entry}

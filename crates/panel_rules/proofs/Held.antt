@@ -17,7 +17,7 @@ use Rattle.panel_tables.specs.View.{PanelView}
 use Rattle.sheet_rules.specs.Sheet.{sheet_of}
 use Rattle.sheet_rules.specs.Panels.{Tables, entry_words}
 use Rattle.sheet_rules.specs.Read.{short_stores}
-use Rattle.panel_rules.specs.Runs.{Held, Call, refusal_in, after, after_calls, Accepted, run_of}
+use Rattle.panel_rules.specs.Runs.{Held, Call, refusal_in, after_calls, Accepted, run_of}
 use Rattle.panel_rules.specs.Views.{bytes_after, held_after, both}
 use Rattle.panel_rules.specs.Book.{same_axis, added_from}
 use Rattle.panel_rules.specs.Added.{sheet_axis, added, call_entry, refusal_after, entries_with}

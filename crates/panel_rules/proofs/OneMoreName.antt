@@ -1,36 +1,33 @@
 -- One more accepted entry call after any run moves little. Assumes nothing.
-use Prim.Native.Nat.{ℕ, suc, ◌+◌, ◌≤◌, ◌<◌}
+use Prim.Native.Nat.{ℕ, ◌<◌}
 use mathlib.Core.Path.{◌≡◌, refl, sym, ap, ap₂, ◌∙◌}
 use mathlib.Core.Logic.{⊎_elim}
-use mathlib.Core.Bool.{Bool, true, false, cond, ◌&&◌}
+use mathlib.Core.Bool.{Bool, true, false, cond}
 use mathlib.Core.List.Memᴰ
-use mathlib.Core.List.{List, [], ◌∷◌, ◌++◌, map, Memᴰ, append_assoc}
+use mathlib.Core.List.{List, [], ◌∷◌, ◌++◌, Memᴰ, append_assoc}
 use native.Mathlib.Omega.{arith}
-use lib.Dec.{eqb, ltb}
-use lib.IntN.{ℤ}
+use lib.Dec.{ltb}
 use lib.ListN.{length}
 use borrow.Author.Tests.{lt-ltb, eq-eqb}
 use Rattle.coordinates.specs.declared.axis.Axis.{Axis}
 use Rattle.coordinates.specs.declared.axis.Axis.TheVariants.{Column, Row}
-use Rattle.coordinates.specs.Refusals.{Refusal, no_refusal, refusal_of, count}
-use Rattle.name_rules.specs.Css.{Bytes, Entry, AxisNames, named, ResolvedEnds}
-use Rattle.name_rules.specs.Css as Css
+use Rattle.coordinates.specs.Refusals.{Refusal, count}
+use Rattle.name_rules.specs.Css.{Entry, AxisNames, ResolvedEnds}
 use Rattle.name_rules.specs.OneMore.{OneMoreEntry}
 use Rattle.name_rules.specs.CssMarks.{HeldEnds}
 use Rattle.name_rules.specs.Rule.{named?, resolve, held_ends}
 use Rattle.name_rules.proofs.OneMore.{moves-little}
-use Rattle.name_resolver.specs.Placements.{resolved_ends, ends_of}
+use Rattle.name_resolver.specs.Placements.{resolved_ends}
 use Rattle.name_resolver.proofs.Theorems.{ends_back}
 use Rattle.panel_tables.specs.View.{Placement, PanelView}
-use Rattle.panel_tables.specs.Axes.{view_in}
-use Rattle.sheet_rules.specs.Sheet.{entries_of, sheet_of, explicit_of}
+use Rattle.sheet_rules.specs.Sheet.{entries_of, sheet_of}
 use Rattle.sheet_rules.specs.Panels.{Tables}
 use Rattle.panel_rules.specs.Placing.{PlacementAnswer}
 use Rattle.panel_rules.specs.Placing.{refused_placement}
 use Rattle.panel_rules.specs.Runs.{Call, Accepted, run_of, placement_of}
-use Rattle.panel_rules.specs.Views.{entries_after, names_after, css_end, placement_at, answer_at, placement_after}
+use Rattle.panel_rules.specs.Views.{names_after, css_end, placement_at, answer_at, placement_after}
 use Rattle.panel_rules.specs.Book.{same_axis}
-use Rattle.panel_rules.specs.Added.{sheet_axis, added, call_entry, refusal_after, entries_with}
+use Rattle.panel_rules.specs.Added.{sheet_axis, added, call_entry, refusal_after}
 use Rattle.panel_rules.specs.OneMoreName.{names_at, with_call, Unused, elsewhere, unnamed, OneMoreCall, AnswersIndexes, OneMoreName}
 use Rattle.panel_rules.proofs.AxisEntry.{table_accepted}
 use Rattle.panel_rules.proofs.Sheets.{accepted_sheet}

@@ -1,22 +1,21 @@
 -- Names may arrive in any order: two panels that are the same but for that, with the same accepted entries, resolve every placement alike. Assumes nothing.
-use Prim.Native.Nat.{ℕ, ◌-◌, ◌≤◌, ◌<◌, max}
+use Prim.Native.Nat.{ℕ, ◌-◌, ◌≤◌}
 use mathlib.Core.Path.{◌≡◌, refl, sym, ap, ap₂, ◌∙◌}
-use mathlib.Core.Logic.{◌⊎◌, ⊎_elim}
-use mathlib.Core.Bool.{Bool, true, false, cond}
+use mathlib.Core.Logic.{⊎_elim}
+use mathlib.Core.Bool.{cond}
 use mathlib.Core.List.Memᴰ
-use mathlib.Core.List.{List, [], ◌∷◌, map, Memᴰ}
+use mathlib.Core.List.{List, [], ◌∷◌, Memᴰ}
 use native.Mathlib.Omega.{arith}
 use lib.Dec.{ltb}
 use lib.ListN.{length, get_or}
 use Rattle.coordinates.specs.declared.axis.Axis.{Axis}
 use Rattle.coordinates.specs.Refusals.{count}
-use Rattle.template_rules.specs.Template.{Component}
-use Rattle.name_rules.specs.Css.{Entry, AxisNames, Area as CssArea, Placement as CssPlacement, ResolvedEnds}
+use Rattle.name_rules.specs.Css.{AxisNames, Area as CssArea, ResolvedEnds}
 use Rattle.name_rules.specs.CssMarks.{HeldEnds}
 use Rattle.name_rules.specs.Conditions.{SameMembers, SameNames}
 use Rattle.name_rules.specs.Rule.{named?, resolve, held_ends}
 use Rattle.name_rules.proofs.Order.{resolve_same, marks-same}
-use Rattle.axis_tables.specs.View.{AxisView, AxisLine, components_of}
+use Rattle.axis_tables.specs.View.{AxisView, components_of}
 use Rattle.axis_tables.proofs.Fits.{Fits}
 use Rattle.panel_tables.specs.View.{Area, Placement, PanelView, no_placement}
 use Rattle.panel_tables.specs.Areas.{edges_in}
@@ -25,8 +24,8 @@ use Rattle.sheet_rules.specs.Sheet.{size_of, explicit_of}
 use Rattle.panel_rules.specs.Placing.{PlacementAnswer}
 use Rattle.panel_rules.specs.Placing.{refused_placement}
 use Rattle.panel_rules.specs.Runs.{Call}
-use Rattle.panel_rules.specs.Views.{area_in, areas_in, css_end, placement_at, names_after, answer_at, placement_after}
-use Rattle.panel_rules.specs.Book.{CssTemplate, book, book_names, AllCounted, Regular}
+use Rattle.panel_rules.specs.Views.{area_in, areas_in, css_end, names_after, answer_at, placement_after}
+use Rattle.panel_rules.specs.Book.{CssTemplate, AllCounted, Regular}
 use Rattle.panel_rules.specs.Order.{SamePanel, SameEntries}
 use Rattle.panel_rules.specs.Ranges.{largest, spanned}
 use Rattle.panel_rules.proofs.Book as Book

@@ -1,23 +1,21 @@
 -- Tests of the third demand's conditions, and of "the same accepted entries": where they say yes, it is so. Assumes nothing.
-use Prim.Native.Nat.{ℕ, zero, suc, ◌+◌, ◌≤◌, ◌<◌}
+use Prim.Native.Nat.{ℕ, zero, suc, ◌≤◌}
 use mathlib.Core.Path.{◌≡◌, refl, sym, ap, ◌∙◌}
-use mathlib.Core.Logic.{◌⊎◌, ⊎_elim}
+use mathlib.Core.Logic.{⊎_elim}
 use mathlib.Core.Bool.{Bool, true, false, cond, ◌&&◌, false≢true}
 use mathlib.Core.List.Memᴰ
-use mathlib.Core.List.{List, [], ◌∷◌, ◌++◌, Memᴰ, cons≢nil}
+use mathlib.Core.List.{List, [], ◌∷◌, Memᴰ, cons≢nil}
 use native.Mathlib.Omega.{arith}
 use borrow.Author.Tests.{leb-true, eqb-true}
 use lib.Dec.{eqb, leb}
 use lib.IntN.{ℤ, pos, negsuc}
-use lib.ListN.{length}
 use Rattle.coordinates.specs.declared.axis.Axis.{Axis}
-use Rattle.coordinates.specs.declared.axis.Axis.TheVariants.{Column, Row}
 use Rattle.sizing.specs.Words.{zero32}
 use Rattle.template_rules.specs.Template.{Component}
 use Rattle.template_rules.specs.Summary.{meaning_of}
 use Rattle.template_rules.specs.Explicit.{valid_of}
 use Rattle.template_rules.proofs.Valid.{valid_css}
-use Rattle.name_rules.specs.Css.{Bytes, Entry, Area, Side, start, end, edge, AxisNames, Placement as CssPlacement, auto, line, named, span, nspan}
+use Rattle.name_rules.specs.Css.{Entry, Area, Side, start, end, edge, AxisNames, Placement as CssPlacement, auto, line, named, span, nspan}
 use Rattle.name_rules.specs.Conditions.{NoZero}
 use Rattle.name_rules.specs.Rule.{eq_bytes}
 use Rattle.name_rules.specs.Template as Css

@@ -6,12 +6,11 @@ use mathlib.Core.Path.{◌≡◌, refl, sym, ap, ap₂, ◌∙◌, subst}
 use mathlib.Core.List.{List, [], ◌∷◌, Memᴰ}
 use borrow.Author.Tests.{lt-ltb}
 use lib.ListN.{length, get_or}
-use lib.Dec.{ltb}
 use Rattle.coordinates.specs.declared.axis.Axis.{Axis}
 use Rattle.name_rules.specs.Css.{Bytes, start, end, Entry, AxisNames, Placement as CssPlacement, Resolved, free, at_line, spanning, ResolvedEnds, CssEnds}
 use Rattle.name_rules.specs.CssMarks.{HeldEnds, CssMarks}
 use Rattle.name_rules.specs.Css as Css
-use Rattle.name_rules.specs.Conditions.{UsedNamesLie, NoZero}
+use Rattle.name_rules.specs.Conditions.{UsedNamesLie}
 use Rattle.name_rules.specs.Rule.{named?, resolve, held_ends}
 use Rattle.name_rules.proofs.Resolve.{resolve-css, resolve_css_all}
 use Rattle.name_rules.proofs.Unique.{ends_unique}

@@ -1,5 +1,5 @@
 -- After an accepted sheet and any entry calls each call answers by the sheet's view and the entries that the table accepts. Assumes nothing.
-use Prim.Native.Nat.{ℕ, ◌≤◌, ◌<◌}
+use Prim.Native.Nat.{ℕ, ◌≤◌}
 use mathlib.Core.Path.{◌≡◌, refl, sym, ap, ◌∙◌}
 use mathlib.Core.List.{List, [], ◌++◌, map, append_assoc}
 use native.Mathlib.Omega.{arith}
@@ -7,7 +7,7 @@ use lib.ListN.{length, take, drop, length-map}
 use lib.Seq.{take_at}
 use Rattle.coordinates.specs.declared.axis.Axis.{Axis}
 use Rattle.coordinates.specs.declared.axis.Axis.TheVariants.{Column, Row}
-use Rattle.name_rules.specs.Css.{Bytes, Entry}
+use Rattle.name_rules.specs.Css.{Entry}
 use Rattle.name_entries.specs.Entries.{entry_of, named_entry}
 use Rattle.name_entries.specs.Entries as Store
 use Rattle.name_entries.specs.LineNames.{of_axis}
@@ -20,7 +20,7 @@ use Rattle.axis_tables.specs.Runs.{bytes_of}
 use Rattle.axis_tables.specs.View.{AxisView, sizes_of, components_of, axis_bytes}
 use Rattle.axis_tables.proofs.Fits.{Fits}
 use Rattle.panel_tables.specs.View.{PanelView}
-use Rattle.panel_tables.specs.Axes.{grid_in, room_in, view_in}
+use Rattle.panel_tables.specs.Axes.{grid_in, room_in}
 use Rattle.panel_tables.proofs.Axes.{axis_in_fits}
 use Rattle.sheet_rules.specs.Sheet.{counted, explicit_of, entries_of, sheet_of}
 use Rattle.sheet_rules.specs.Panels.{Tables, entry_words}

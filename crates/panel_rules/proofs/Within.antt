@@ -1,18 +1,18 @@
 -- The areas of a picture lie within its rows and its width, broken or not. Assumes nothing.
-use Prim.Native.Nat.{ℕ, ◌+◌, ◌-◌, ◌≤◌, max}
-use mathlib.Core.Path.{◌≡◌, refl, sym, ap, subst, ◌∙◌}
-use mathlib.Core.List.{List, [], ◌∷◌, ◌++◌}
+use Prim.Native.Nat.{ℕ, ◌+◌, ◌≤◌}
+use mathlib.Core.Path.{◌≡◌, refl, sym, ap, subst}
+use mathlib.Core.List.{List, [], ◌∷◌}
 use mathlib.Core.Bool.{Bool, true, false, cond, not, true≢false}
 use native.Mathlib.Omega.{arith}
 use lib.Dec.{eqb}
-use lib.ListN.{length, get_or, replicate, length-append, length-replicate}
+use lib.ListN.{length, replicate, length-append, length-replicate}
 use borrow.Author.Tests.{eqb-true}
 use Rattle.coordinates.specs.declared.axis.Axis.{Axis}
 use Rattle.coordinates.specs.declared.axis.Axis.TheVariants.{Column, Row}
 use Rattle.text.specs.Split.{same}
 use Rattle.axis_tables.proofs.Runs.{All, all_append}
 use Rattle.picture_rules.specs.Picture.{Word, Picture, PictureArea, is_dots, width_of}
-use Rattle.picture_rules.specs.Steps.{EqualRun, runs_of, run_box, continues, longer, grown, drawn, PictureState, no_rows, name_run_step, run_step, runs_from, row_step, rows_from, taken_of}
+use Rattle.picture_rules.specs.Steps.{EqualRun, runs_of, run_box, continues, longer, drawn, PictureState, no_rows, name_run_step, run_step, runs_from, row_step, rows_from, taken_of}
 use Rattle.picture_rules.proofs.Runs.{written, runs_written}
 use Rattle.picture_rules.proofs.Taken.{row_counts}
 use Rattle.picture_areas.specs.Runs.{table_of}

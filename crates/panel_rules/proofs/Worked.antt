@@ -46,7 +46,7 @@ use Rattle.panel_cells.specs.Steps.{shares, sharing_from}
 use Rattle.sheet_rules.specs.Lines.{record_step, record_fault, strict_fault, line_fault, shared_at, line_step}
 use Rattle.sheet_rules.specs.Valid.{ValidTemplate}
 use Rattle.sheet_rules.proofs.Counted.{counted-valid}
-use Rattle.sheet_rules.specs.Sheet.{size_of as template_size, counted, entries_of, end_fault, ended, run, fold_of, broken_at, broken_from, broken_of, display_of, no_overlap, overlap_from, overlap_of, sheet_of}
+use Rattle.sheet_rules.specs.Sheet.{size_of as template_size, counted, entries_of, end_fault, ended, run, fold_of, broken_at, broken_from, broken_of, display_of, overlap_from, overlap_of, sheet_of}
 use Rattle.sheet_rules.specs.Kinds.{is_kind}
 use Rattle.sheet_rules.specs.Contents.{drawn_in}
 use Rattle.sheet_rules.proofs.Chosen.{accepted_former}

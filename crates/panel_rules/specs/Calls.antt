@@ -1,5 +1,5 @@
 -- The calls on a panel: what each answers and leaves, whatever the state, the tables and the stores hold (document 01, layers 3 to 5).
-use Rattle.std.specs.Prelude.{ℕ, ◌+◌, min, Bool, cond, ◌||◌, List, [], eqb, ltb, length, get_or, set, Result, Ok, Err}
+use Rattle.std.specs.Prelude.{ℕ, ◌+◌, min, Bool, cond, List, [], eqb, ltb, length, get_or, set, Result, Ok, Err}
 use Rattle.std.proofs.lemmas.List.Edits.{sets}
 use Rattle.coordinates.specs.declared.axis.Axis.{Axis}
 use Rattle.coordinates.specs.declared.axis.Axis.TheVariants.{Column, Row}

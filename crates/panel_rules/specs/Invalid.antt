@@ -1,7 +1,6 @@
 -- A panel without the template of an axis, and two runs of which one has an invalid template there and the other none (document 02, request 04).
 use Rattle.std.specs.Prelude.{ℕ, ◌≡◌, List, []}
 use Rattle.coordinates.specs.declared.axis.Axis.{Axis}
-use Rattle.name_rules.specs.Css.{Entry}
 use Rattle.track_rules.specs.declared.GridTrack.{GridTrack}
 use Rattle.axis_tables.specs.View.{AxisView}
 use Rattle.panel_tables.specs.View.{PanelView}

@@ -1,5 +1,5 @@
 -- `resolve_placement`: a placement of the table as layer 4 reads it, and the answer (document 01, layer 4).
-use Rattle.std.specs.Prelude.{ℕ, zero, suc, min, Bool, cond, List, eqb, ltb, ℤ, pos, negsuc, Result, Ok, Err}
+use Rattle.std.specs.Prelude.{ℕ, zero, suc, min, Bool, cond, eqb, ltb, ℤ, pos, negsuc, Result, Ok, Err}
 use Rattle.coordinates.specs.declared.axis.Axis.{Axis}
 use Rattle.coordinates.specs.declared.axis.Axis.TheVariants.{Column}
 use Rattle.coordinates.specs.declared.refusal.Fault.{Fault}

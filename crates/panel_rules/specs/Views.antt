@@ -1,10 +1,8 @@
 -- What is held, and what the calls answer, after an accepted sheet and accepted entries, from the sheet's view and those entries alone.
-use Rattle.std.specs.Prelude.{ℕ, zero, suc, ◌+◌, ◌≡◌, false, cond, List, [], ◌∷◌, ◌++◌, map, ℤ, pos, negsuc, ltb, length, get_or, drop}
+use Rattle.std.specs.Prelude.{ℕ, zero, suc, ◌+◌, ◌≡◌, false, cond, List, [], ◌++◌, map, ℤ, pos, negsuc, ltb, length, get_or, drop}
 use Rattle.coordinates.specs.declared.axis.Axis.{Axis}
-use Rattle.coordinates.specs.declared.axis.Axis.TheVariants.{Column, Row}
 use Rattle.coordinates.specs.Refusals.{no_refusal, count}
 use Rattle.sizing.specs.Words.{sizing_of}
-use Rattle.sizing.specs.declared.MinMax.{MinMax}
 use Rattle.name_rules.specs.Css as Css
 use Rattle.name_rules.specs.Css.{Bytes, Entry, AxisNames}
 use Rattle.name_rules.specs.CssMarks.{HeldEnds}
@@ -20,7 +18,6 @@ use Rattle.axis_tables.specs.declared.AxisState.{AxisState}
 use Rattle.axis_tables.specs.Runs.{bytes_of, words_from}
 use Rattle.axis_tables.specs.View.{AxisView, sizes_of, components_of, axis_bytes}
 use Rattle.axis_tables.specs.Written.{words_with}
-use Rattle.panel_tables.specs.declared.AreaEdges.{AreaEdges}
 use Rattle.panel_tables.specs.View.{Area, End, Placement, PanelView, no_placement}
 use Rattle.panel_tables.specs.Areas.{edges_in}
 use Rattle.panel_tables.specs.Axes.{view_in}

@@ -3,7 +3,7 @@ use Rattle.template_rules.specs.Explicit.{SizeAnswer}
 use Prim.Native.Nat.{ℕ, ◌+◌, ◌≤◌}
 use mathlib.Core.Path.{◌≡◌, refl, sym, ap, ◌∙◌}
 use mathlib.Core.Bool.{Bool, true, false, cond}
-use mathlib.Core.List.{List, [], ◌∷◌, map}
+use mathlib.Core.List.{List, map}
 use Rattle.std.specs.Prelude.{Ok, Err}
 use Rattle.coordinates.specs.declared.refusal.Fault.{Fault}
 use Rattle.coordinates.specs.Refusals.{no_refusal, refusal_of, number_of}

@@ -1,5 +1,5 @@
 -- The line after the last (document 01, panel sheet): an axis's open repeat, explicit size and name entries, whatever its state and words hold.
-use Rattle.std.specs.Prelude.{ℕ, List, [], map, cond, eqb, ltb, length, Float, Option, Some, None, Result, Ok, Err}
+use Rattle.std.specs.Prelude.{ℕ, List, [], map, cond, eqb, ltb, length, Option, Some, None, Result, Ok, Err}
 use Rattle.std.proofs.lemmas.List.Edits.{sets}
 use Rattle.coordinates.specs.declared.refusal.Fault.{Fault}
 use Rattle.coordinates.specs.Refusals.{number_of}

@@ -1,8 +1,8 @@
 -- A fault that is not an overlap has another number. Assumes nothing.
-use Rattle.std.specs.Prelude.{ℕ, ◌≡◌, false, eqb, Option, Some, None, refl}
+use Rattle.std.specs.Prelude.{◌≡◌, false, eqb, Option, Some, None, refl}
 use Rattle.coordinates.specs.declared.refusal.Fault.{Fault}
 use Rattle.coordinates.specs.declared.refusal.Fault.TheVariants.{Unread, Name, Value, Count, Area, Twice, Late, Crowded, ZeroLine, Short, Indefinite, Overlap, Unequal, Broken, Unplaced}
-use Rattle.coordinates.specs.Refusals.{number_of, fault_number}
+use Rattle.coordinates.specs.Refusals.{fault_number}
 
 pub other_fault : (f : Option Fault) → (f ≡ Some Overlap → ⊥) → eqb (fault_number f) 12 ≡ false
 other_fault None h = refl

@@ -3,7 +3,7 @@ use Prim.Native.Nat.{ℕ, ◌+◌}
 use mathlib.Core.Path.{◌≡◌, refl, sym, ap, ◌∙◌, subst}
 use mathlib.Core.List.{List, [], ◌∷◌}
 use mathlib.Core.Bool.{Bool, true, false, cond}
-use mathlib.Core.Logic.{◌⊎◌, inl, inr, ⊎_elim}
+use mathlib.Core.Logic.{inl, inr, ⊎_elim}
 use native.Mathlib.Omega.{arith}
 use lib.Dec.{eqb, ltb}
 use lib.ListN.{length}
@@ -19,11 +19,11 @@ use Rattle.axis_tables.specs.View.{Unended, none, inside, AxisView}
 use Rattle.panel_tables.specs.View.{PanelView, has_area, empty_view}
 use Rattle.panel_tables.specs.Axes.{view_in}
 use Rattle.sheet_forms.specs.Words.{at}
-use Rattle.sheet_rules.specs.Lines.{late_at, stage_of, record_step, twice_fault, late_fault, record_fault, line_step}
+use Rattle.sheet_rules.specs.Lines.{late_at, stage_of, record_step, twice_fault, record_fault, line_step}
 use Rattle.sheet_rules.specs.Rows.{Row, unread, bad_name, bad_value, bad_count, bad_area, twice, late, crowded, overlap, unequal, broken, number_of, First}
-use Rattle.sheet_rules.specs.Sheet.{Outcome, outcome, ended, run, fold_of, broken_of, display_of, end_fault, axis_fault, open_fault, count_fault, entries_fault, explicit_of, entries_of}
+use Rattle.sheet_rules.specs.Sheet.{Outcome, outcome, ended, run, fold_of, broken_of, display_of, end_fault, axis_fault, open_fault, explicit_of, entries_of}
 use Rattle.sheet_rules.proofs.Says.{Says, record_says}
-use Rattle.sheet_rules.proofs.Only.{OwnRows, own_first}
+use Rattle.sheet_rules.proofs.Only.{own_first}
 use Rattle.sheet_rules.proofs.LineRows.{IsRecord, StepRow, step-first}
 use Rattle.sheet_rules.proofs.LineTheorem.{outcome-fault}
 

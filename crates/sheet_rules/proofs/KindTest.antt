@@ -1,8 +1,8 @@
 -- The test of a line's kind is right. Assumes nothing.
 use Prim.Native.Nat.{ℕ}
-use mathlib.Core.Path.{◌≡◌, refl}
+use mathlib.Core.Path.{◌≡◌}
 use mathlib.Core.List.{List, []}
-use mathlib.Core.Bool.{Bool, true, false, ◌&&◌, false≢true}
+use mathlib.Core.Bool.{true}
 use mathlib.Core.Logic.{◌↔◌}
 use lib.ListN.{length, get_or}
 use Rattle.std.proofs.lemmas.Bool.{and_parts, and_from}

@@ -21,7 +21,7 @@ use Rattle.panel_tables.specs.declared.Panel.{Panel}
 use Rattle.panel_tables.specs.Readings.{Reading}
 use Rattle.panel_tables.specs.declared.AreaEdges.{AreaEdges}
 use Rattle.panel_tables.specs.Areas.{InAreas, put_area}
-use Rattle.panel_tables.specs.Axes.{state_in, reading_in, with_state, with_reading}
+use Rattle.panel_tables.specs.Axes.{with_state, with_reading}
 use Rattle.panel_tables.specs.Regions.{first_word, first_mark, axis_words_in, marks_in, area_words_in, area_bytes_in, placement_words_in, placement_bytes_in}
 use Rattle.panel_tables.specs.Written.{PanelHeld, PanelStepped, panel_held_of, of_areas, of_placements}
 use Rattle.picture_rules.specs.Picture.{Word}

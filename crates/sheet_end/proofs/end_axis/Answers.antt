@@ -1,6 +1,6 @@
 use Rattle.std.proofs.lemmas.Result.{err_from_is_err_and}
 use mathlib.Core.Path.{ap}
-use Rattle.axis_tables.specs.Readings.{unended_numbers, axis_reading, repeat_numbers}
+use Rattle.axis_tables.specs.Readings.{unended_numbers, axis_reading}
 use Rattle.sheet_end.proofs.Faults.{open_end, unsized_end, crowded_end, accepted-end}
 use Rattle.sheet_end.proofs.end_axis.Goals as goal
 

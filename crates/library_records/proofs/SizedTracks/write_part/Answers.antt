@@ -1,41 +1,17 @@
-use Prim.Native.Nat.{ℕ, ◌+◌, ◌*◌, ◌%◌, ◌<◌}
+use Prim.Native.Nat.{◌+◌, ◌*◌}
 use native.Mathlib.Omega.{arith}
-use native.Mathlib.Nat.{add-zero, mod-lt}
 use mathlib.Core.Path.{refl, sym, ap, ◌∙◌}
 use lib.ListN.{length}
 use lib.Seq.{sets, length-sets}
 use Rattle.library_records.specs.Pairs.{part_pair}
 use Rattle.library_records.proofs.Sizes.{further}
-use Rattle.library_records.proofs.Pairs.{put-none, joined-one, written_none, written_all, written-more, part_at_lem}
+use Rattle.library_records.proofs.Pairs.{put-none, joined-one, written_all, written-more, part_at_lem}
 use Rattle.library_records.proofs.SizedTracks.write_part.Goals as goal
 
 pub returns-then-tracks-eq0 : goal.returns-then-tracks-eq0
 returns-then-tracks-eq0 c =
     let a = c.args in
     put-none (part_pair a.self.sizes.minimums.now a.self.sizes.maximums.now a.self.items.now a.part a.offset a.tracks.first a.self.gutters) a.words.now a.tracks.place a.tracks.first a.tracks.count c.if-tracks-eq0.true
-
-pub inner_of-inner-requires : goal.inner_of-inner-requires
-inner_of-inner-requires c = c.requires.length_nonzero (omega (arith, c.if-tracks-eq0.false))
-
-pub loop-done-init : goal.loop-done-init
-loop-done-init c =
-    let a = c.args in
-    (omega arith, c.inner_of-inner.ensures ∙ ap (λ (n : ℕ). n % a.part.length) (sym (add-zero a.offset)), refl, written_none (part_pair a.self.sizes.minimums.now a.self.sizes.maximums.now a.self.items.now a.part a.offset a.tracks.first a.self.gutters) a.words.now a.tracks.place a.tracks.first a.tracks.count)
-
-pub overflow_add-track-in-loop-done : goal.overflow_add-track-in-loop-done
-overflow_add-track-in-loop-done c =
-    let a = c.args in
-    let p = c.requires in
-    let pos : 0 < a.part.length = p.length_nonzero (omega (arith, c.if-tracks-eq0.false)) in
-    let l = c.loop-done in
-    omega (arith, l.invariant.1, mod-lt (a.offset + l.done) pos, p.length_bound)
-
-pub next_of-inner-requires : goal.next_of-inner-requires
-next_of-inner-requires c =
-    let a = c.args in
-    let pos : 0 < a.part.length = c.requires.length_nonzero (omega (arith, c.if-tracks-eq0.false)) in
-    let l = c.loop-done in
-    omega (arith, l.invariant.1, mod-lt (a.offset + l.done) pos)
 
 pub loop-done-preserved : goal.loop-done-preserved
 loop-done-preserved c =

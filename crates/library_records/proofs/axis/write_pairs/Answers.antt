@@ -25,12 +25,6 @@ returns c =
     c.before_end-before.ensures c.before_end-written.ensures c.saturating_sub-offset.ensures c.saturating_sub-passed.ensures
     c.write_negative.ensures c.write_template.ensures c.write_positive.ensures
 
-pub write_positive-requires : goal.write_positive-requires
-write_positive-requires c =
-    let kept : length c.write_template.new.words ≡ length c.args.words.now =
-    ap length c.write_template.ensures ∙ simp length-sets (ap length c.write_negative.ensures ∙ simp length-sets) in
-    record { offset_bound = omega (arith, c.args.tracks.numbered); count_in_bounds = omega (arith, kept) }
-
 pub write_template-requires : goal.write_template-requires
 write_template-requires c =
     let a = c.args in

@@ -37,11 +37,6 @@ loop-done-init c =
       written_none (template_pair (totals a.lent.grid.size.repetitions ws) (template_of ws c.template-template.result.sizes.minimums.now c.template-template.result.sizes.maximums.now) a.lent.items.now a.offset a.tracks.first a.gutters) a.words.now a.tracks.place a.tracks.first a.tracks.count,
     )
 
-pub overflow_add-done : goal.overflow_add-done
-overflow_add-done c =
-    let t = part-taken (goal.at.overflow_add-done c).After-part_at-part in
-    omega (arith, c.args.tracks.numbered, c.loop-done-test.true, t.fits)
-
 pub invariant_of-stretch : goal.invariant_of-stretch
 invariant_of-stretch c =
     let t = part-taken (goal.at.invariant_of-stretch c).After-part_at-part in
@@ -51,10 +46,6 @@ pub loop-done-smaller : goal.loop-done-smaller
 loop-done-smaller c =
     let t = part-taken (goal.at.loop-done-smaller c).After-part_at-part in
     omega (arith, t.on, t.held)
-
-pub shape_of-words : goal.shape_of-words
-shape_of-words c =
-    c.loop-done.invariant.3
 
 pub returns : goal.returns
 returns c =

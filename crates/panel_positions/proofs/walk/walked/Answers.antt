@@ -13,12 +13,6 @@ use Rattle.panel_positions.specs.Cursor.{records_on}
 use Rattle.panel_positions.proofs.Carrying.{few-count, first_on, pair-on}
 use Rattle.panel_positions.proofs.walk.walked.Goals as goal
 
-pub overflow_mul-count : goal.overflow_mul-count
-overflow_mul-count c =
-    let a = c.args in
-    let h = few-count a.lent.grid a.lent.tables.now a.lent.items.now _ _ c.track_count-count.ensures c.axis_tracks-tracks.ensures in
-    omega arith
-
 pub loop-done-init : goal.loop-done-init
 loop-done-init c =
     let a = c.args in

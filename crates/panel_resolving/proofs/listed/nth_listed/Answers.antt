@@ -5,9 +5,6 @@ use Rattle.panel_resolving.proofs.listed.nth_listed.Goals as goal
 pub overflow_sub-rest : goal.overflow_sub-rest
 overflow_sub-rest c = count-within c.args.words.now c.requires c.args.nth.from c.lines_up_to-below.result c.lines_up_to-below.ensures
 
-pub overflow_sub-result : goal.overflow_sub-result
-overflow_sub-result c = line_first c.args.words.now c.requires c.from-entry.result _ c.from-entry.ensures (omega (arith, c.if-passed-rest.true, count-within c.args.words.now c.requires c.args.nth.from c.lines_up_to-below.result c.lines_up_to-below.ensures))
-
 pub returns-then-passed-rest : goal.returns-then-passed-rest
 returns-then-passed-rest c = rw c.in-Up.is (ahead-at c.args.words.now c.requires c.args.nth.from c.args.nth.over c.lines_up_to-below.result c.lines_up_to-below.ensures c.from-entry.result c.from-entry.ensures c.if-passed-rest.true)
 

@@ -1,34 +1,13 @@
-use mathlib.Core.Path.{◌≡◌, refl, sym, ◌∙◌}
+use mathlib.Core.Path.{◌≡◌, sym, ◌∙◌}
 use mathlib.Core.List.{◌++◌, ◌∷◌, []}
 use mathlib.Core.Logic.{⊎_elim}
-use Prim.Native.Nat.{◌+◌, ◌-◌, ◌≤◌, min}
+use Prim.Native.Nat.{◌+◌, ◌≤◌, min}
 use native.Mathlib.Omega.{arith}
 use lib.ListN.{length, length-append}
 use Rattle.placement_hits.specs.Steps.{Listed, is_hit}
 use Rattle.placement_hits.proofs.Listing.{listed-turn, listed-done, listed-first, few-listed}
 use Rattle.placement_hits.proofs.Chunks.{listed_here, rest-next, one-held, all-held}
 use Rattle.placement_hits.proofs.list.write_hits.Goals as goal
-
-pub loop-index-init : goal.loop-index-init
-loop-index-init c =
-    let e = c.into_iter-index-iterator.ensures.into_iter_gives in
-    let z = c.zip-index-items.ensures in
-    let k = min c.args.count 256 in
-    let w : k - 0 ≡ k = omega arith in (
-      omega arith,
-      omega arith,
-      rw (e, z.first) refl,
-      rw (e, z.first) refl,
-      rw (e, z.second) c.chunks_exact.ensures.size,
-      rw (e, z.second) c.chunks_exact.ensures.rest,
-      rw w refl,
-    )
-
-pub put_hit-written-requires : goal.put_hit-written-requires
-put_hit-written-requires c =
-    let a = c.args in let l = c.loop-index in
-    let s = rw c.in-Some.is at c.next.ensures.steps in
-    omega (arith, l.invariant.0, one-held a.numbers.now (length l.yielded) c.in-Some.chunk.now _ (sym l.invariant.5 ∙ s.1.1.0) (s.1.1.1 ∙ l.invariant.4) c.told-numbers)
 
 pub loop-index-preserved : goal.loop-index-preserved
 loop-index-preserved c =

@@ -5,7 +5,7 @@ use lib.ListN.{drop}
 use Rattle.name_lists.specs.Ascending.{count_up_to}
 use Rattle.name_lists.proofs.Boundary.{Boundary, boundary-begin, boundary-next, between-words}
 use Rattle.name_template.proofs.Leading.{rest_all}
-use Rattle.name_lists.proofs.Lines.{lines-begin, lines_part, lines_sum, lines-turn, lines-done, lines-last}
+use Rattle.name_lists.proofs.Lines.{lines-begin, lines_part, lines_sum, lines-turn, lines-last}
 use Rattle.name_lists.proofs.explicit.ExplicitNames.write_ascending.Goals as goal
 use Rattle.name_lists.proofs.explicit.ExplicitNames.write_ascending.Goals.{After-entries_up_to}
 
@@ -41,10 +41,6 @@ loop-line-preserved c = let a = c.args in let l = c.loop-line in let w = c.write
       lines-turn a.self.explicit a.self.names.entries.now a.self.names.store.now a.words.now l.words l.count l.line l.invariant.1 _ (omega arith) (omega arith) (omega arith) _ w.result
           (rw (← between-words a.self.names.entries.now l.at l.line (l.at + c.entries_up_to.result) (passed d) l.invariant.0 a.self.names.store.now) w.ensures),
     )
-
-pub returns : goal.returns
-returns c = let a = c.args in let l = c.loop-line in
-    lines-done a.self.explicit a.self.names.entries.now a.self.names.store.now a.words.now l.words l.count l.line l.invariant.1 (omega arith)
 
 pub returns-2 : goal.returns-2
 returns-2 c = let a = c.args in let l = c.loop-line in

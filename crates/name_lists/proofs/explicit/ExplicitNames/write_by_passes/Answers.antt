@@ -1,7 +1,7 @@
 use mathlib.Core.Path.{refl}
 use Prim.Native.Nat.{◌+◌, ◌≤◌}
 use native.Mathlib.Omega.{arith}
-use Rattle.name_lists.proofs.Lines.{lines-begin, lines_part, lines_sum, lines-turn, lines-done, lines-last}
+use Rattle.name_lists.proofs.Lines.{lines-begin, lines_part, lines_sum, lines-turn, lines-last}
 use Rattle.name_lists.proofs.explicit.ExplicitNames.write_by_passes.Goals as goal
 
 pub loop-line-init : goal.loop-line-init
@@ -11,10 +11,6 @@ pub loop-line-preserved : goal.loop-line-preserved
 loop-line-preserved c = let a = c.args in let l = c.loop-line in
     let less : l.line ≤ a.self.explicit + 1 = omega arith in
     lines-turn a.self.explicit a.self.names.entries.now a.self.names.store.now a.words.now l.words l.count l.line l.invariant _ (omega arith) less (omega arith) _ c.write_line-count.result c.write_line-count.ensures
-
-pub returns : goal.returns
-returns c = let a = c.args in let l = c.loop-line in
-    lines-done a.self.explicit a.self.names.entries.now a.self.names.store.now a.words.now l.words l.count l.line l.invariant (omega arith)
 
 pub write_line-count-requires : goal.write_line-count-requires
 write_line-count-requires c = let a = c.args in let l = c.loop-line in
