@@ -18,8 +18,8 @@ pub(crate) struct Ours {
 
 /// The names of a panel, each with its axis and line.
 fn entries(panel: &Panel) -> Vec<(Axis, u32, Vec<u8>)> {
-    let lines = AXES.into_iter().flat_map(|axis| (1..=panel.lists(axis)).map(move |line| (axis, line)));
-    lines.flat_map(|(axis, line)| panel.names(axis, line).map(move |name| (axis, line, name.to_vec()))).collect()
+    let named = |axis| panel.line_names(axis).map(move |(line, name)| (axis, line, name.as_bytes().to_vec()));
+    AXES.into_iter().flat_map(named).collect()
 }
 
 fn end(end: PanelEnd) -> End {
@@ -108,11 +108,15 @@ fn without_sources(mut words: Vec<u64>) -> Vec<u64> {
 }
 
 fn answers(panel: &Panel, records: &[Vec<u64>; 2]) -> Answers {
-    let lists = |axis| panel.line_names(axis).into_iter().map(|names| names.into_iter().map(<[u8]>::to_vec).collect()).collect();
+    let lists = |axis| {
+        let mut lists = vec![vec![]; panel.lists(axis) as usize];
+        panel.line_names(axis).for_each(|(line, name)| lists[line as usize - 1].push(name.as_bytes().to_vec()));
+        lists
+    };
     Answers {
         sizes: AXES.map(|axis| panel.size(axis)).map(|size| (size.repetitions, size.explicit)),
         names: AXES.map(lists),
-        placements: panel.resolved().into_iter().map(placement).collect(),
+        placements: panel.resolved().map(placement).collect(),
         records: records.clone().map(without_sources),
     }
 }

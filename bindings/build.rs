@@ -9,7 +9,7 @@ fn main() {
     let archive = folder.join("libpalgwern.a");
     println!("cargo::rerun-if-changed={}", archive.display());
     if !archive.exists() {
-        println!("cargo::error={} is missing; `tools/make palgwern` makes it", archive.display());
+        println!("cargo::error={} is missing; `tools/make palgwern` makes it, and PALGWERN_LIBRARY names another folder", archive.display());
         return;
     }
     println!("cargo::rustc-link-search=native={}", folder.display());

@@ -1,5 +1,4 @@
 //! Reads document 01's worked case and prints its answer.
-mod palgwern;
 use palgwern::{Axis, End, Panel, Record, Refusal, Size, Source};
 
 const SHEET: &str = "axis\tc\t43480000\tmax\tlen\t00000000
@@ -57,24 +56,23 @@ fn end(end: End) -> String {
     }
 }
 
-fn print(sheet: &[u8]) -> Result<(), Refusal> {
+fn print(sheet: &str) -> Result<(), Refusal> {
     let panel = Panel::read(sheet)?;
     for axis in [Axis::Columns, Axis::Rows] {
         let size = panel.size(axis);
         println!("size\t{}\t{}\t{}", letter(axis), size.repetitions, size.explicit);
-        for (index, r) in panel.records(axis).iter().enumerate() {
-            println!("{}", record(index, r));
+        for (index, r) in panel.records(axis).enumerate() {
+            println!("{}", record(index, &r));
         }
     }
-    for index in 0..panel.placements() {
-        let p = panel.placement(index)?;
+    for p in panel.resolved() {
         println!("place\t{}\t{}\t{}", letter(p.axis), end(p.start), end(p.end));
     }
     Ok(())
 }
 
 fn main() {
-    if let Err(r) = print(SHEET.as_bytes()) {
+    if let Err(r) = print(SHEET) {
         println!("refused\t{}\t{}", r.number(), r.line);
     }
 }

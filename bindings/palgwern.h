@@ -4,7 +4,8 @@
  * answer as its contract in crates/palgwern/src says, whatever the panel and what is lent hold. What C must ensure:
  *
  * - stack: 512 KiB of room for palgwern_read_sheet and palgwern_display_sheet, 192 KiB for palgwern_line_names, 128 KiB for
- *   palgwern_placements_within and palgwern_placements_around, 64 KiB for each other call (`bindings/test` measures them);
+ *   palgwern_placements_within and palgwern_placements_around, 64 KiB for each other call (`bindings/stack` bounds each from the
+ *   archive's instructions, and `bindings/test` measures them);
  * - memory: everything that is lent is initialized, whatever it holds, and not null; an array has the length that is stated here,
  *   a pointer with a length has so many elements, and one of length 0 still points somewhere;
  * - no overlap: what a call may write (no `const`) is part of nothing else that is lent to it, and nobody else reads or writes it
@@ -22,6 +23,9 @@
 extern "C" {
 #endif
 
+/* The version of this header, of palgwern.rs and of the package; docs/CHANGES.md has it as a heading. */
+#define PALGWERN_VERSION "0.1.0"
+
 /* Refusals, by their numbers and words in the table of refusals; 0 is none. */
 enum palgwern_refusal {
     PALGWERN_UNREAD = 1,    /* unread: sheet too long, or a line of no form */
@@ -32,7 +36,7 @@ enum palgwern_refusal {
     PALGWERN_TWICE = 6,     /* twice: an area name or axis record again */
     PALGWERN_LATE = 7,      /* late: record earlier in kind than one before it */
     PALGWERN_CROWDED = 8,   /* crowded: one more would pass a panel limit */
-    PALGWERN_ZERO_LINE = 9, /* zero line: line 0, which no placement is around */
+    PALGWERN_ZERO_LINE = 9, /* zero line: line 0, which no placement is around and which is no grid line */
     PALGWERN_SHORT = 10,    /* short: lent records, item bytes or a line-name store too short */
     PALGWERN_INDEFINITE = 11, /* indefinite: a track or gutter with no definite size */
     PALGWERN_OVERLAP = 12,  /* overlap: an area that shares a cell with an earlier one */
@@ -328,6 +332,77 @@ palgwern_count_answer palgwern_placements_around(
  * how long that takes. */
 palgwern_resize_answer palgwern_least_resize(palgwern_grid grid, const uint64_t words[PALGWERN_PANEL_WORDS], uint32_t axis);
 
+/* `start` and `end` are lines of an axis, numbered from 1 as in an `area` line and an entry, 0 where there is none. */
+typedef struct palgwern_area_answer { uint32_t number; uint32_t start; uint32_t end; } palgwern_area_answer;
+
+/* The edges of the drawn area of a name in an axis, whether an `area` line or a picture draws it; both 0 where none has the name. Refuses
+ * by 2 (no name), then by 4 (no axis). */
+palgwern_area_answer palgwern_drawn_area(
+    palgwern_grid grid, const uint64_t words[PALGWERN_PANEL_WORDS], const uint8_t bytes[PALGWERN_PANEL_BYTES],
+    uint32_t axis, const uint8_t *name, size_t name_bytes);
+
+/* The edges of the area that names make in an axis: the first line that bears NAME-start and the first that bears NAME-end, by an entry or
+ * as the edge of a drawn area, each 0 where no line does. A placement by the name alone goes there, where a line beyond 10,000 of the first
+ * is held. Refuses by 2 (no name), then by 4 (no axis) and by 10 (a short store). */
+palgwern_area_answer palgwern_named_area(
+    palgwern_grid grid, const uint64_t words[PALGWERN_PANEL_WORDS], const uint8_t bytes[PALGWERN_PANEL_BYTES],
+    const uint8_t *columnstore, size_t columnstore_bytes, const uint8_t *rowstore, size_t rowstore_bytes,
+    uint32_t axis, const uint8_t *name, size_t name_bytes);
+
+/* The repetitions of the automatic repeat and the explicit count that an axis would have at another inner size, those of the same sheet
+ * with that size: the panel stays. `inner` has the bits of an f32. Every axis has an answer, also one without an automatic repeat, whose
+ * template counts as none, or whose gap is a percentage. It takes the whole panel, since the tracks that areas span are in its `room`.
+ * Refuses by 3 (no size from 0 to 65,535), then by 4 (no axis, or more than 10,000 explicit tracks at that size) and by 8 (more than 64
+ * components, which no sheet gives). */
+palgwern_size_answer palgwern_size_at(palgwern_panel panel, const uint64_t words[PALGWERN_PANEL_WORDS], uint32_t axis, uint32_t inner);
+
+/* ---- lines and tracks by argument, without a panel. Lines are origin-zero lines, 0 the first explicit one, where none is called a grid
+ * line. A count above 10,000 is refused by 4, and so is a line outside -10,000..10,000. */
+
+/* The tracks of an axis: before the explicit grid, in it, and after it. */
+typedef struct palgwern_track_counts { uint32_t negative; uint32_t explicit_count; uint32_t positive; } palgwern_track_counts;
+/* `held` is 1 where the line was held within -10,000..10,000. */
+typedef struct palgwern_conversion_answer { uint32_t number; int32_t line; uint32_t held; } palgwern_conversion_answer;
+typedef struct palgwern_track_answer { uint32_t number; int32_t track; } palgwern_track_answer;
+typedef struct palgwern_line_record_answer { uint32_t number; uint32_t found; uint32_t place; } palgwern_line_record_answer;
+
+/* The origin-zero line of a grid line beside so many explicit tracks: one less for a line that is counted from the start, so many and one
+ * more for one that is counted from the end, held within -10,000..10,000. Refuses by 4 (more than 10,000 tracks, or a grid line outside
+ * -32,768..32,767), then by 9 (grid line 0). */
+palgwern_conversion_answer palgwern_into_origin_zero_line(int32_t line, uint32_t tracks);
+
+/* The grid line of an origin-zero line beside so many explicit tracks: counted from the start from line 0 on, else from the end. */
+palgwern_line_answer palgwern_into_grid_line(int32_t line, uint32_t tracks);
+
+/* The track after a line, counted from the first track of the axis, 0; negative before it. */
+palgwern_track_answer palgwern_next_track(palgwern_track_counts counts, int32_t line);
+
+/* The line before a track, counted from the first track of the axis, 0. Refuses a track above 30,000 by 4 too. */
+palgwern_line_answer palgwern_previous_line(palgwern_track_counts counts, uint32_t track);
+
+/* The record of a line: `found` is 1 and `place` that of its gutter among the records of the axis; both are 0 where the axis does not have
+ * the line. */
+palgwern_line_record_answer palgwern_line_record(palgwern_track_counts counts, int32_t line);
+
+/* The counts of an axis of a panel, for these calls. */
+static inline palgwern_track_counts palgwern_counts_of(palgwern_axis_grid axis) {
+    palgwern_track_counts counts;
+    counts.negative = axis.implicit.negative;
+    counts.explicit_count = axis.size.explicit_count;
+    counts.positive = axis.implicit.positive;
+    return counts;
+}
+
+/* ---- the layout of the structs */
+
+/* The number of the layout that this header declares. */
+enum palgwern_layout_number { PALGWERN_LAYOUT = 1 };
+
+/* The number of the layout that the library was made with. A program that is linked at another time than it was compiled compares the two
+ * before any other call: it is one more after each change of a struct, a length or a number above, and the same where calls and structs
+ * are only added. */
+uint32_t palgwern_layout(void);
+
 /* ---- all that is lent, in one struct, and the calls on it */
 
 typedef struct palgwern_tables {
@@ -366,6 +441,21 @@ static inline palgwern_count_answer palgwern_tables_placements(const palgwern_ta
 
 static inline palgwern_resize_answer palgwern_tables_resize(const palgwern_tables *t, palgwern_grid grid, uint32_t axis) {
     return palgwern_least_resize(grid, t->words, axis);
+}
+
+static inline palgwern_area_answer palgwern_tables_drawn_area(const palgwern_tables *t, palgwern_grid grid, uint32_t axis,
+    const void *name, size_t bytes) {
+    return palgwern_drawn_area(grid, t->words, t->bytes, axis, (const uint8_t *)name, bytes);
+}
+
+static inline palgwern_area_answer palgwern_tables_named_area(const palgwern_tables *t, palgwern_grid grid, uint32_t axis,
+    const void *name, size_t bytes) {
+    return palgwern_named_area(grid, t->words, t->bytes, t->columnstore, sizeof t->columnstore, t->rowstore, sizeof t->rowstore, axis,
+        (const uint8_t *)name, bytes);
+}
+
+static inline palgwern_size_answer palgwern_tables_size_at(const palgwern_tables *t, palgwern_panel panel, uint32_t axis, uint32_t inner) {
+    return palgwern_size_at(panel, t->words, axis, inner);
 }
 
 static inline palgwern_count_answer palgwern_tables_names(const palgwern_tables *t, palgwern_grid grid, uint32_t axis,

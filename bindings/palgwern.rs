@@ -1,11 +1,38 @@
-//! Palgwern's calls for Rust: safe functions over target/staticlib/libpalgwern.a, which `tools/make palgwern` writes.
+//! Palgwern's calls for Rust: safe functions over the archive `libpalgwern.a`, which `tools/make palgwern` writes.
 //!
-//! `mod palgwern;` and `-l static=palgwern` are all that is needed. A `Panel` owns the buffers that the library reads and writes and
-//! hands them over together, so what the calls ask of a caller holds: initialized arrays of the right lengths that do not overlap.
-//! One thing is left to the program: 512 KiB of stack for `Panel::read` and `Display::read`, which every Rust thread has unless it was asked for less.
+//! This file is the cargo crate `palgwern`, and a module by itself too: `mod palgwern;` and `-l static=palgwern` are all that it needs.
+//!
+//! ```
+//! use palgwern::{Axis, End, Panel};
+//!
+//! let sheet = "axis\tc\t43480000\tmax\tlen\t00000000
+//! repeat\tc\tfill
+//! name\tc\tx
+//! track\tc\tlen\t42c80000\tlen\t42c80000
+//! end\tc
+//! place\tc\tnamed\tx\t2\tauto\t-\t0
+//! ";
+//! let mut panel = Panel::read(sheet)?;
+//! assert_eq!(panel.size(Axis::Columns).explicit, 2);
+//! assert_eq!(panel.placement(0)?.start, End::Line(2));
+//! panel.enter(Axis::Columns, 3, "level")?;
+//! assert!(panel.line_names(Axis::Columns).eq([(1, "x"), (2, "x"), (3, "level")]));
+//! assert_eq!(panel.records(Axis::Columns).filter(|record| !record.gutter).count(), 2);
+//! # Ok::<(), palgwern::Refusal>(())
+//! ```
+//!
+//! A [`Panel`] owns the buffers that the library reads and writes and hands them over together, so what the calls ask of a caller
+//! holds: initialized arrays of the right lengths that do not overlap. One thing is left to the program: 512 KiB of stack for
+//! [`Panel::read`] and [`Display::read`], which every Rust thread has unless it was asked for less.
+//!
+//! A call answers with a [`Refusal`] where its contract has one for it. Calls that have none for a panel that was read answer at once;
+//! should the archive refuse one all the same, they panic, and never answer with less.
 #![allow(dead_code)]
 use std::fmt;
 use std::ops::Deref;
+
+/// The version of this module, of `palgwern.h` and of the package.
+pub const VERSION: &str = "0.1.0";
 
 /// Lengths of the arrays that are lent, as in `palgwern.h`.
 pub const PANEL_WORDS: usize = 25_600;
@@ -39,7 +66,7 @@ pub const RECORD_WORDS: usize = 3;
 /// The numbers of a resolved placement in a run.
 pub const PLACEMENT_NUMBERS: usize = 8;
 
-/// The space of an axis; `crates/axis_tables/src/lib.rt` says what the fields of an axis are.
+/// The space of an axis; `palgwern.h` says what the fields of an axis are.
 #[repr(C)]
 #[derive(Clone, Copy, Debug, Default, PartialEq, Eq)]
 pub struct AxisSpace {
@@ -123,7 +150,19 @@ pub struct State {
     pub room: Room,
 }
 
-/// The calls themselves and their answers, as in `palgwern.h`. A program uses `Panel`.
+/// The tracks of an axis: before the explicit grid, in it, and after it.
+#[repr(C)]
+#[derive(Clone, Copy, Debug, Default, PartialEq, Eq)]
+pub struct TrackCounts {
+    pub negative: u32,
+    pub explicit: u32,
+    pub positive: u32,
+}
+
+/// The number of the layout that this module declares: `layout` says that of the library.
+pub const LAYOUT: u32 = 1;
+
+/// The calls themselves and their answers, as in `palgwern.h`. A program uses [`Panel`].
 pub mod raw {
     use super::*;
 
@@ -206,6 +245,37 @@ pub mod raw {
         pub endheld: u32,
     }
 
+    #[repr(C)]
+    #[derive(Clone, Copy, Debug, PartialEq, Eq)]
+    pub struct AreaAnswer {
+        pub number: u32,
+        pub start: u32,
+        pub end: u32,
+    }
+
+    #[repr(C)]
+    #[derive(Clone, Copy, Debug, PartialEq, Eq)]
+    pub struct ConversionAnswer {
+        pub number: u32,
+        pub line: i32,
+        pub held: u32,
+    }
+
+    #[repr(C)]
+    #[derive(Clone, Copy, Debug, PartialEq, Eq)]
+    pub struct TrackAnswer {
+        pub number: u32,
+        pub track: i32,
+    }
+
+    #[repr(C)]
+    #[derive(Clone, Copy, Debug, PartialEq, Eq)]
+    pub struct LineRecordAnswer {
+        pub number: u32,
+        pub found: u32,
+        pub place: u32,
+    }
+
     extern "C" {
         pub fn palgwern_read_sheet(
             sheet: *const u8, sheet_bytes: usize, words: *mut [u64; PANEL_WORDS], bytes: *mut [u8; PANEL_BYTES],
@@ -256,6 +326,21 @@ pub mod raw {
             line: i32, hits: *mut [u32; HITS],
         ) -> CountAnswer;
         pub fn palgwern_least_resize(grid: Grid, words: *const [u64; PANEL_WORDS], axis: u32) -> ResizeAnswer;
+        pub fn palgwern_drawn_area(
+            grid: Grid, words: *const [u64; PANEL_WORDS], bytes: *const [u8; PANEL_BYTES], axis: u32, name: *const u8,
+            name_bytes: usize,
+        ) -> AreaAnswer;
+        pub fn palgwern_named_area(
+            grid: Grid, words: *const [u64; PANEL_WORDS], bytes: *const [u8; PANEL_BYTES], columnstore: *const u8,
+            columnstore_bytes: usize, rowstore: *const u8, rowstore_bytes: usize, axis: u32, name: *const u8, name_bytes: usize,
+        ) -> AreaAnswer;
+        pub fn palgwern_size_at(panel: State, words: *const [u64; PANEL_WORDS], axis: u32, inner: u32) -> SizeAnswer;
+        pub fn palgwern_into_origin_zero_line(line: i32, tracks: u32) -> ConversionAnswer;
+        pub fn palgwern_into_grid_line(line: i32, tracks: u32) -> LineAnswer;
+        pub fn palgwern_next_track(counts: TrackCounts, line: i32) -> TrackAnswer;
+        pub fn palgwern_previous_line(counts: TrackCounts, track: u32) -> LineAnswer;
+        pub fn palgwern_line_record(counts: TrackCounts, line: i32) -> LineRecordAnswer;
+        pub fn palgwern_layout() -> u32;
     }
 }
 
@@ -265,6 +350,9 @@ const _: () = assert!(size_of::<raw::PanelAnswer>() == 176 && size_of::<raw::Cou
 const _: () = assert!(size_of::<raw::SheetAnswer>() == 184 && size_of::<raw::DisplayAnswer>() == 136);
 const _: () = assert!(size_of::<raw::SizeAnswer>() == 12 && size_of::<raw::NameAnswer>() == 12 && size_of::<raw::LineAnswer>() == 8 && size_of::<raw::PlacementAnswer>() == 32);
 const _: () = assert!(size_of::<raw::ResizeAnswer>() == 12);
+const _: () = assert!(size_of::<TrackCounts>() == 12 && size_of::<raw::ConversionAnswer>() == 12);
+const _: () = assert!(size_of::<raw::AreaAnswer>() == 12);
+const _: () = assert!(size_of::<raw::TrackAnswer>() == 8 && size_of::<raw::LineRecordAnswer>() == 12);
 
 /// A refusal by its word in the table of refusals.
 #[derive(Clone, Copy, Debug, PartialEq, Eq)]
@@ -300,25 +388,13 @@ impl Pair {
     }
 }
 
-/// A refusal: its word and the sheet's line, 0 for a call without a sheet, for a sheet too long, for `Short` and for `Indefinite`. `Overlap` comes with the
-/// first two areas that share a cell.
+/// A refusal: its word and the sheet's line, 0 for a call without a sheet, for a sheet too long, for [`Word::Short`] and for
+/// [`Word::Indefinite`]. [`Word::Overlap`] comes with the first two areas that share a cell.
 #[derive(Clone, Copy, Debug, PartialEq, Eq)]
 pub struct Refusal {
     pub word: Word,
     pub line: u32,
     pub pair: Option<Pair>,
-}
-
-impl Refusal {
-    /// Its number in the table of refusals.
-    pub fn number(self) -> u32 {
-        self.word as u32
-    }
-
-    fn of(number: u32, line: u32) -> Refusal {
-        let (word, _) = WORDS[WORDS.iter().position(|&(word, _)| word as u32 == number).unwrap()];
-        Refusal { word, line, pair: None }
-    }
 }
 
 /// The refusals with their words as they are written.
@@ -340,10 +416,29 @@ const WORDS: [(Word, &str); 15] = [
     (Word::Unplaced, "unplaced"),
 ];
 
+impl fmt::Display for Word {
+    fn fmt(&self, f: &mut fmt::Formatter) -> fmt::Result {
+        f.write_str(WORDS[*self as usize - 1].1)
+    }
+}
+
+impl Refusal {
+    /// Its number in the table of refusals.
+    pub fn number(self) -> u32 {
+        self.word as u32
+    }
+
+    fn of(number: u32, line: u32) -> Refusal {
+        Refusal { word: WORDS[number as usize - 1].0, line, pair: None }
+    }
+}
+
 impl fmt::Display for Refusal {
     fn fmt(&self, f: &mut fmt::Formatter) -> fmt::Result {
-        let word = WORDS.iter().find(|(word, _)| *word == self.word).map_or("", |(_, text)| text);
-        write!(f, "refused by {} ({word}) at line {}", self.number(), self.line)?;
+        write!(f, "refused by {} ({})", self.number(), self.word)?;
+        if self.line != 0 {
+            write!(f, " at line {}", self.line)?;
+        }
         match self.pair {
             Some(Pair { earlier, later }) => write!(f, ": areas {earlier} and {later}"),
             None => Ok(()),
@@ -353,10 +448,78 @@ impl fmt::Display for Refusal {
 
 impl std::error::Error for Refusal {}
 
+/// An axis of a grid.
 #[derive(Clone, Copy, Debug, PartialEq, Eq)]
 pub enum Axis {
     Columns = 0,
     Rows = 1,
+}
+
+/// The edges that names make of an area, each a line numbered from 1, where there is one.
+#[derive(Clone, Copy, Debug, PartialEq, Eq)]
+pub struct AreaEdges {
+    pub start: Option<u32>,
+    pub end: Option<u32>,
+}
+
+/// An origin-zero line, and whether it was held within -10,000..10,000.
+#[derive(Clone, Copy, Debug, PartialEq, Eq)]
+pub struct OriginZeroLine {
+    pub line: i32,
+    pub held: bool,
+}
+
+/// The number of the layout that the library was made with: `LAYOUT`, where it was made with this module.
+pub fn layout() -> u32 {
+    // SAFETY: numbers only.
+    unsafe { raw::palgwern_layout() }
+}
+
+/// The origin-zero line of a grid line beside so many explicit tracks. `Word::Count` for more than 10,000 tracks or a line outside
+/// -32,768..32,767, then `Word::ZeroLine` for line 0.
+pub fn into_origin_zero_line(line: i32, tracks: u32) -> Result<OriginZeroLine, Refusal> {
+    // SAFETY: numbers only.
+    let answer = unsafe { raw::palgwern_into_origin_zero_line(line, tracks) };
+    refused_or(answer.number, OriginZeroLine { line: answer.line, held: answer.held != 0 })
+}
+
+/// The grid line of an origin-zero line beside so many explicit tracks. `Word::Count` for more than 10,000 tracks or a line outside
+/// -10,000..10,000, as in the methods of `TrackCounts`.
+pub fn into_grid_line(line: i32, tracks: u32) -> Result<i32, Refusal> {
+    // SAFETY: numbers only.
+    let answer = unsafe { raw::palgwern_into_grid_line(line, tracks) };
+    refused_or(answer.number, answer.line)
+}
+
+/// An answer, or its refusal by number.
+fn refused_or<T>(number: u32, answer: T) -> Result<T, Refusal> {
+    match number {
+        0 => Ok(answer),
+        number => Err(Refusal::of(number, 0)),
+    }
+}
+
+impl TrackCounts {
+    /// The track after an origin-zero line, counted from the first of the axis, 0; negative before it.
+    pub fn next_track(self, line: i32) -> Result<i32, Refusal> {
+        // SAFETY: numbers only.
+        let answer = unsafe { raw::palgwern_next_track(self, line) };
+        refused_or(answer.number, answer.track)
+    }
+
+    /// The origin-zero line before a track, counted from the first of the axis, 0. `Word::Count` for a track above 30,000 too.
+    pub fn previous_line(self, track: u32) -> Result<i32, Refusal> {
+        // SAFETY: numbers only.
+        let answer = unsafe { raw::palgwern_previous_line(self, track) };
+        refused_or(answer.number, answer.line)
+    }
+
+    /// The place of the gutter of an origin-zero line among the records of the axis; none where the axis does not have the line.
+    pub fn line_record(self, line: i32) -> Result<Option<u32>, Refusal> {
+        // SAFETY: numbers only.
+        let answer = unsafe { raw::palgwern_line_record(self, line) };
+        refused_or(answer.number, (answer.found != 0).then_some(answer.place))
+    }
 }
 
 /// One end of a resolved placement.
@@ -456,7 +619,7 @@ impl Record {
 }
 
 /// What answers, with the buffers that the library keeps it in: every call but the edits. Two are equal where every word and byte of
-/// them is.
+/// them is. `Debug` shows numbers alone, and no buffer.
 #[derive(Clone, PartialEq, Eq)]
 pub struct Answers {
     grid: Grid,
@@ -467,17 +630,23 @@ pub struct Answers {
 }
 
 /// A panel: what answers, and what edits it.
-#[derive(Clone, PartialEq, Eq)]
+#[derive(Clone, Debug, PartialEq, Eq)]
 pub struct Panel {
     answers: Answers,
     room: Room,
 }
 
 /// A panel for display, whose areas may share cells: what answers, and nothing to edit.
-#[derive(Clone, PartialEq, Eq)]
+#[derive(Clone, Debug, PartialEq, Eq)]
 pub struct Display {
     answers: Answers,
     pair: Option<Pair>,
+}
+
+impl fmt::Debug for Answers {
+    fn fmt(&self, f: &mut fmt::Formatter) -> fmt::Result {
+        f.debug_struct("Answers").field("grid", &self.grid).finish_non_exhaustive()
+    }
 }
 
 impl Deref for Display {
@@ -490,8 +659,8 @@ impl Deref for Display {
 
 impl Display {
     /// The panel that a sheet describes, under the rule by which areas may share cells.
-    pub fn read(sheet: &[u8]) -> Result<Display, Refusal> {
-        let mut held = Answers::empty();
+    pub fn read(sheet: impl AsRef<[u8]>) -> Result<Display, Refusal> {
+        let (sheet, mut held) = (sheet.as_ref(), Answers::empty());
         // SAFETY: as in `Panel::read_again`.
         let answer = unsafe {
             raw::palgwern_display_sheet(
@@ -499,9 +668,7 @@ impl Display {
                 held.rowstore.as_mut_ptr(), STORE_BYTES,
             )
         };
-        if answer.number != 0 {
-            return Err(Refusal::of(answer.number, answer.line));
-        }
+        accepted(answer.number, answer.line)?;
         held.grid = answer.grid;
         Ok(Display { answers: held, pair: Pair::of(answer.earlier, answer.later) })
     }
@@ -525,6 +692,11 @@ fn zeroed<T: Copy + Default, const N: usize>() -> Box<[T; N]> {
     vec![T::default(); N].into_boxed_slice().try_into().ok().unwrap()
 }
 
+/// Part `at` of numbers that come N by N.
+fn part<T, const N: usize>(numbers: &[T], at: usize) -> &[T; N] {
+    numbers[at * N..][..N].try_into().unwrap()
+}
+
 /// An end by its kind and number.
 fn end_of(kind: u32, number: i32) -> End {
     match kind {
@@ -534,27 +706,41 @@ fn end_of(kind: u32, number: i32) -> End {
     }
 }
 
+/// Whether a number is that of no refusal.
+fn accepted(number: u32, line: u32) -> Result<(), Refusal> {
+    match number {
+        0 => Ok(()),
+        _ => Err(Refusal::of(number, line)),
+    }
+}
+
 /// A count, or its refusal.
 fn counted(answer: raw::CountAnswer) -> Result<usize, Refusal> {
-    match answer.number {
-        0 => Ok(answer.count as usize),
-        number => Err(Refusal::of(number, 0)),
-    }
+    accepted(answer.number, 0).map(|()| answer.count as usize)
+}
+
+/// What a call answers that has no refusal for a panel that was read.
+fn answered<T>(answer: Result<T, Refusal>) -> T {
+    answer.unwrap_or_else(|refusal| panic!("a panel that was read is answered by its contract, but was {refusal}"))
+}
+
+/// The axis of a placement.
+fn axis_of(number: u32) -> Axis {
+    if number == 0 { Axis::Columns } else { Axis::Rows }
 }
 
 impl Placement {
     /// A placement from its numbers in a run.
     pub fn of(numbers: &[i32; PLACEMENT_NUMBERS]) -> Placement {
         let [_, axis, startkind, startnumber, endkind, endnumber, startheld, endheld] = *numbers;
-        let axis = if axis == 0 { Axis::Columns } else { Axis::Rows };
         let (start, end) = (end_of(startkind as u32, startnumber), end_of(endkind as u32, endnumber));
-        Placement { axis, start, end, startheld: startheld != 0, endheld: endheld != 0 }
+        Placement { axis: axis_of(axis as u32), start, end, startheld: startheld != 0, endheld: endheld != 0 }
     }
 }
 
 impl Panel {
     /// The panel that a sheet describes.
-    pub fn read(sheet: &[u8]) -> Result<Panel, Refusal> {
+    pub fn read(sheet: impl AsRef<[u8]>) -> Result<Panel, Refusal> {
         let mut panel = Panel::empty();
         panel.read_again(sheet)?;
         Ok(panel)
@@ -566,8 +752,8 @@ impl Panel {
     }
 
     /// Reads another sheet into the same buffers. On a refusal the panel stays.
-    pub fn read_again(&mut self, sheet: &[u8]) -> Result<(), Refusal> {
-        let held = &mut self.answers;
+    pub fn read_again(&mut self, sheet: impl AsRef<[u8]>) -> Result<(), Refusal> {
+        let (sheet, held) = (sheet.as_ref(), &mut self.answers);
         // SAFETY: the arrays are initialized boxes of their own, each of the length that its type says.
         let answer = unsafe {
             raw::palgwern_read_sheet(
@@ -580,8 +766,8 @@ impl Panel {
     }
 
     /// Enters a line and a name in an axis. On a refusal the panel stays.
-    pub fn enter(&mut self, axis: Axis, line: u32, name: &[u8]) -> Result<(), Refusal> {
-        let state = self.state();
+    pub fn enter(&mut self, axis: Axis, line: u32, name: impl AsRef<[u8]>) -> Result<(), Refusal> {
+        let (state, name) = (self.state(), name.as_ref());
         let held = &mut self.answers;
         // SAFETY: as above.
         let answer = unsafe {
@@ -593,12 +779,19 @@ impl Panel {
         self.after(answer.number, answer.line, answer.panel)
     }
 
+    /// The panel after an edit, or as it was.
     fn after(&mut self, number: u32, line: u32, state: State) -> Result<(), Refusal> {
-        if number != 0 {
-            return Err(Refusal::of(number, line));
-        }
+        accepted(number, line)?;
         (self.answers.grid, self.room) = (state.grid, state.room);
         Ok(())
+    }
+
+    /// The repetitions and the explicit count that an axis would have at another inner size, those of the same sheet with that size; the
+    /// panel stays. `Word::Value` where `inner` is no length from 0 to 65,535, `Word::Count` for more than 10,000 explicit tracks.
+    pub fn size_at(&self, axis: Axis, inner: f32) -> Result<AxisSize, Refusal> {
+        // SAFETY: as in `Panel::read_again`; nothing is written.
+        let answer = unsafe { raw::palgwern_size_at(self.state(), &*self.words, axis as u32, inner.to_bits()) };
+        refused_or(answer.number, AxisSize { repetitions: answer.repetitions, explicit: answer.explicit })
     }
 
     /// The panel as the library has it.
@@ -617,7 +810,14 @@ impl Answers {
     pub fn size(&self, axis: Axis) -> AxisSize {
         // SAFETY: numbers only.
         let answer = unsafe { raw::palgwern_explicit_size(self.grid, axis as u32) };
+        answered(accepted(answer.number, 0));
         AxisSize { repetitions: answer.repetitions, explicit: answer.explicit }
+    }
+
+    /// The tracks of an axis as counts.
+    pub fn track_counts(&self, axis: Axis) -> TrackCounts {
+        let own = if axis == Axis::Columns { self.grid.columns } else { self.grid.rows };
+        TrackCounts { negative: own.implicit.negative, explicit: own.size.explicit, positive: own.implicit.positive }
     }
 
     /// How many placements there are.
@@ -625,7 +825,7 @@ impl Answers {
         self.grid.placements
     }
 
-    /// Placement `index`, from 0, with its names resolved; `Word::Count` where there is none.
+    /// Placement `index`, from 0, with its names resolved; [`Word::Count`] where there is none.
     pub fn placement(&self, index: u32) -> Result<Placement, Refusal> {
         // SAFETY: as in `Panel::read_again`; nothing is written.
         let answer = unsafe {
@@ -634,22 +834,21 @@ impl Answers {
                 index,
             )
         };
-        if answer.number != 0 {
-            return Err(Refusal::of(answer.number, 0));
-        }
-        let axis = if answer.axis == 0 { Axis::Columns } else { Axis::Rows };
+        accepted(answer.number, 0)?;
         let (start, end) = (end_of(answer.startkind, answer.startnumber), end_of(answer.endkind, answer.endnumber));
-        Ok(Placement { axis, start, end, startheld: answer.startheld != 0, endheld: answer.endheld != 0 })
+        Ok(Placement { axis: axis_of(answer.axis), start, end, startheld: answer.startheld != 0, endheld: answer.endheld != 0 })
     }
 
-    /// All placements with their names resolved, in one run: the answers of `placement`, with the names grouped once.
-    pub fn resolved(&self) -> Vec<Placement> {
+    /// All placements with their names resolved, in one run: the answers of [`Answers::placement`], with the names grouped once.
+    pub fn resolved(&self) -> impl ExactSizeIterator<Item = Placement> {
         let mut numbers = zeroed();
-        let written = self.write_placements(0, &mut numbers).unwrap_or(0);
-        numbers.chunks_exact(PLACEMENT_NUMBERS).take(written).map(|n| Placement::of(n.try_into().unwrap())).collect()
+        // Of no placements the first is none.
+        let written = if self.placements() == 0 { 0 } else { answered(self.write_placements(0, &mut numbers)) };
+        (0..written).map(move |at| Placement::of(part(&*numbers, at)))
     }
 
-    /// Writes placements from `first` on, as many as there are, eight numbers each; answers how many.
+    /// Writes placements from `first` on, as many as there are, eight numbers each; answers how many. [`Word::Count`] where `first` is
+    /// no placement.
     pub fn write_placements(&self, first: u32, numbers: &mut [i32; PLACEMENT_RUN]) -> Result<usize, Refusal> {
         // SAFETY: as in `Panel::read_again`; `numbers` is borrowed mutably, so it is none of the others.
         let answer = unsafe {
@@ -662,8 +861,9 @@ impl Answers {
     }
 
     /// The placements of an axis with both lines within a span of pixels, its ends included, by their indexes, ascending; none where
-    /// `low` lies above `high`. `Word::Value` where an end is no length, `Word::Indefinite` where a track or gutter has no definite size.
-    pub fn within(&self, axis: Axis, low: f32, high: f32) -> Result<impl Iterator<Item = u32>, Refusal> {
+    /// `low` lies above `high`. [`Word::Value`] where an end is no length, [`Word::Indefinite`] where a track or gutter has no definite
+    /// size.
+    pub fn within(&self, axis: Axis, low: f32, high: f32) -> Result<impl ExactSizeIterator<Item = u32>, Refusal> {
         let (items, mut hits) = (self.items(axis), [0; HITS]);
         // SAFETY: as in `Panel::read_again`; `hits` is a local of its own.
         let answer = unsafe {
@@ -675,9 +875,9 @@ impl Answers {
         counted(answer).map(|count| hits.into_iter().take(count))
     }
 
-    /// The placements of an axis with a grid line strictly between their own lines, by their indexes, ascending. `Word::ZeroLine` for
-    /// line 0, `Word::Indefinite` where a track or gutter has no definite size.
-    pub fn around(&self, axis: Axis, line: i16) -> Result<impl Iterator<Item = u32>, Refusal> {
+    /// The placements of an axis with a grid line strictly between their own lines, by their indexes, ascending. [`Word::ZeroLine`] for
+    /// line 0, [`Word::Indefinite`] where a track or gutter has no definite size.
+    pub fn around(&self, axis: Axis, line: i16) -> Result<impl ExactSizeIterator<Item = u32>, Refusal> {
         let (items, mut hits) = (self.items(axis), [0; HITS]);
         // SAFETY: as in `within`.
         let answer = unsafe {
@@ -689,39 +889,60 @@ impl Answers {
         counted(answer).map(|count| hits.into_iter().take(count))
     }
 
+    /// The edges of the drawn area of a name in an axis, as lines numbered from 1; none where no area has the name. `Word::Name` for what is
+    /// no name.
+    pub fn drawn_area(&self, axis: Axis, name: &[u8]) -> Result<Option<(u32, u32)>, Refusal> {
+        // SAFETY: as in `Panel::read_again`; nothing is written.
+        let answer = unsafe {
+            raw::palgwern_drawn_area(self.grid, &*self.words, &*self.bytes, axis as u32, name.as_ptr(), name.len())
+        };
+        refused_or(answer.number, (answer.start != 0).then_some((answer.start, answer.end)))
+    }
+
+    /// The edges of the area that names make in an axis: the first lines that bear NAME-start and NAME-end, by an entry or as the edge of
+    /// a drawn area. `Word::Name` for what is no name.
+    pub fn named_area(&self, axis: Axis, name: &[u8]) -> Result<AreaEdges, Refusal> {
+        let line = |number: u32| (number != 0).then_some(number);
+        // SAFETY: as in `Panel::read_again`; nothing is written.
+        let answer = unsafe {
+            raw::palgwern_named_area(
+                self.grid, &*self.words, &*self.bytes, self.columnstore.as_ptr(), STORE_BYTES, self.rowstore.as_ptr(), STORE_BYTES,
+                axis as u32, name.as_ptr(), name.len(),
+            )
+        };
+        refused_or(answer.number, AreaEdges { start: line(answer.start), end: line(answer.end) })
+    }
+
     /// How many lists of line names an axis has: none, or one for each explicit line.
     pub fn lists(&self, axis: Axis) -> u32 {
         // SAFETY: numbers only.
-        unsafe { raw::palgwern_line_count(self.grid, axis as u32) }.count as u32
+        let answer = unsafe { raw::palgwern_line_count(self.grid, axis as u32) };
+        answered(counted(answer)) as u32
     }
 
     /// The name of a line, from 1, at a place, from 0.
-    pub fn name(&self, axis: Axis, line: u32, place: u32) -> Option<&[u8]> {
+    pub fn name(&self, axis: Axis, line: u32, place: u32) -> Option<&str> {
         // SAFETY: as in `Panel::read_again`; nothing is written.
-        let part = unsafe {
+        let answer = unsafe {
             raw::palgwern_line_name(
                 self.grid, &*self.words, self.columnstore.as_ptr(), STORE_BYTES, self.rowstore.as_ptr(), STORE_BYTES, axis as u32,
                 line, place,
             )
         };
-        let name = &self.store(axis)[part.offset as usize..][..part.length as usize];
-        if name.is_empty() { None } else { Some(name) }
+        answered(accepted(answer.number, 0));
+        (answer.length != 0).then(|| self.text(axis, answer.offset as usize, answer.length as usize))
     }
 
     /// The names of a line, from 1, in entry order.
-    pub fn names(&self, axis: Axis, line: u32) -> impl Iterator<Item = &[u8]> + '_ {
+    pub fn names(&self, axis: Axis, line: u32) -> impl Iterator<Item = &str> + '_ {
         (0..).map_while(move |place| self.name(axis, line, place))
     }
 
-    /// All line names of an axis: one list for each explicit line, none at all where the axis has no entry.
-    pub fn line_names(&self, axis: Axis) -> Vec<Vec<&[u8]>> {
-        let mut names = zeroed();
-        let written = self.write_line_names(axis, &mut names).unwrap_or(0);
-        let mut lists = vec![Vec::new(); self.lists(axis) as usize];
-        for word in &names[..written] {
-            lists[(word & 0xffff) as usize - 1].push(self.name_at(axis, *word));
-        }
-        lists
+    /// All line names of an axis, each with its line, from 1: line by line, in entry order, a name of a line once.
+    pub fn line_names(&self, axis: Axis) -> impl ExactSizeIterator<Item = (u32, &str)> + '_ {
+        let mut names = zeroed::<u64, LINE_NAME_RUN>();
+        let written = answered(self.write_line_names(axis, &mut names));
+        (0..written).map(move |at| ((names[at] & 0xffff) as u32, self.name_at(axis, names[at])))
     }
 
     /// Writes all line names of an axis, a word each: line, offset times 2^16, length times 2^32; answers how many.
@@ -736,11 +957,21 @@ impl Answers {
         counted(answer)
     }
 
-    /// The name that a word of `write_line_names` shows.
-    pub fn name_at(&self, axis: Axis, word: u64) -> &[u8] {
-        &self.store(axis)[(word >> 16 & 0xffff) as usize..][..(word >> 32 & 0xff) as usize]
+    /// The name that a word of [`Answers::write_line_names`] shows, of the same panel and axis.
+    pub fn name_at(&self, axis: Axis, word: u64) -> &str {
+        self.text(axis, (word >> 16 & 0xffff) as usize, (word >> 32 & 0xff) as usize)
     }
 
+    /// A part of a store.
+    fn text(&self, axis: Axis, offset: usize, length: usize) -> &str {
+        let name = &self.store(axis)[offset..][..length];
+        debug_assert!(name.is_ascii());
+        // SAFETY: a store has zeros at first, and by the contracts of its two writers, the sheet's call and the entry's, they write
+        // bytes of accepted names and nothing else: codes 33 to 126. All of it is ASCII.
+        unsafe { std::str::from_utf8_unchecked(name) }
+    }
+
+    /// The bytes of the line names of an axis.
     fn store(&self, axis: Axis) -> &[u8; STORE_BYTES] {
         match axis {
             Axis::Columns => &self.columnstore,
@@ -751,15 +982,15 @@ impl Answers {
     /// How many records an axis has.
     pub fn record_count(&self, axis: Axis) -> usize {
         // SAFETY: numbers only.
-        unsafe { raw::palgwern_record_count(self.grid, axis as u32) }.count as usize
+        let answer = unsafe { raw::palgwern_record_count(self.grid, axis as u32) };
+        answered(counted(answer))
     }
 
     /// The records of an axis, with the sheet's items.
-    pub fn records(&self, axis: Axis) -> Vec<Record> {
+    pub fn records(&self, axis: Axis) -> impl ExactSizeIterator<Item = Record> {
         let mut records = vec![0; self.record_count(axis) * RECORD_WORDS];
-        let written = self.write_records(axis, self.items(axis), 0, &mut records);
-        debug_assert_eq!(written, Ok(self.record_count(axis)));
-        records.chunks_exact(RECORD_WORDS).map(|r| Record::of(r.try_into().unwrap())).collect()
+        let written = answered(self.write_records(axis, self.items(axis), 0, &mut records));
+        (0..written).map(move |at| Record::of(part(&records, at)))
     }
 
     /// A byte for each track of an axis, not 0 where the sheet has an item.
@@ -793,23 +1024,17 @@ impl Answers {
         let answer = unsafe {
             raw::palgwern_nearest_line(self.grid, &*self.words, axis as u32, items.as_ptr(), items.len(), cursor.to_bits())
         };
-        match answer.number {
-            0 => Ok(answer.line),
-            number => Err(Refusal::of(number, 0)),
-        }
+        accepted(answer.number, 0).map(|()| answer.line)
     }
 
     /// The least resize that matters: of the whole inner sizes 0 to 65,535 the nearest to the size now at which the automatic repeat of
     /// an axis is written out another number of times, the wider of two; none where the count is the same at every size.
-    /// `Word::Value` for an axis whose template counts as none, or that lacks the repeat, an inner size in whole pixels or a gap that is
+    /// [`Word::Value`] for an axis whose template counts as none, or that lacks the repeat, an inner size in whole pixels or a gap that is
     /// a length.
     pub fn least_resize(&self, axis: Axis) -> Result<Option<u32>, Refusal> {
         // SAFETY: as in `Panel::read_again`; nothing is written.
         let answer = unsafe { raw::palgwern_least_resize(self.grid, &*self.words, axis as u32) };
-        match answer.number {
-            0 => Ok((answer.found != 0).then_some(answer.size)),
-            number => Err(Refusal::of(number, 0)),
-        }
+        accepted(answer.number, 0).map(|()| (answer.found != 0).then_some(answer.size))
     }
 
     /// What answers, as the library has it.

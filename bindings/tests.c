@@ -19,6 +19,9 @@ _Static_assert(sizeof(palgwern_resize_answer) == 12, "resize answer");
 _Static_assert(sizeof(palgwern_count_answer) == 16 && offsetof(palgwern_count_answer, count) == 8, "count answer");
 _Static_assert(sizeof(palgwern_placement_answer) == 32, "placement answer");
 _Static_assert(sizeof(palgwern_line_answer) == 8, "line answer");
+_Static_assert(sizeof(palgwern_track_counts) == 12 && sizeof(palgwern_conversion_answer) == 12, "counts, conversion answer");
+_Static_assert(sizeof(palgwern_area_answer) == 12, "area answer");
+_Static_assert(sizeof(palgwern_track_answer) == 8 && sizeof(palgwern_line_record_answer) == 12, "track and record answers");
 
 _Static_assert(PALGWERN_PLACEMENT_RUN == PALGWERN_PLACEMENTS * PALGWERN_PLACEMENT_NUMBERS, "run of placements");
 _Static_assert((int)PALGWERN_LINE_NAME_RUN == (int)PALGWERN_ENTRIES, "run of line names");
@@ -612,6 +615,164 @@ static void resizes(void) {
     }
 }
 
+/* Area a is drawn from column line 2 on, and line 1 bears a-start too; b is made by names alone, c has an end alone; p is a picture's. */
+static const char areas_sheet[] = "area\ta\t1\t2\t2\t3\nname\tc\ta-start\nname\tc\tb-start\ntrack\tc\tauto\t00000000\tauto\t00000000\n"
+    "track\tc\tauto\t00000000\tauto\t00000000\nname\tc\tb-end\nname\tc\tc-end\nplace\tc\tnamed\ta\t0\tnamed\tb\t0\nplace\tc\tnamed\td\t0\tauto\t-\t0\n";
+static const char picture_sheet[] = "row\t.\tp\tp\nrow\t.\tp\tp\nrow\t.\t.\t.\n";
+
+static int is_area(palgwern_area_answer a, uint32_t number, uint32_t start, uint32_t end) {
+    return a.number == number && a.start == start && a.end == end;
+}
+
+static void areas(void) {
+    palgwern_sheet_answer read = palgwern_tables_read(&tables, areas_sheet, sizeof areas_sheet - 1);
+    CHECK(read.number == 0);
+    before = tables;
+    palgwern_grid grid = read.panel.grid;
+    CHECK(is_area(palgwern_tables_drawn_area(&tables, grid, PALGWERN_COLUMNS, "a", 1), 0, 2, 3));
+    CHECK(is_area(palgwern_tables_drawn_area(&tables, grid, PALGWERN_ROWS, "a", 1), 0, 1, 2));
+    CHECK(is_area(palgwern_tables_drawn_area(&tables, grid, PALGWERN_COLUMNS, "b", 1), 0, 0, 0));
+    CHECK(is_area(palgwern_tables_named_area(&tables, grid, PALGWERN_COLUMNS, "a", 1), 0, 1, 3));
+    CHECK(is_area(palgwern_tables_named_area(&tables, grid, PALGWERN_ROWS, "a", 1), 0, 1, 2));
+    CHECK(is_area(palgwern_tables_named_area(&tables, grid, PALGWERN_COLUMNS, "b", 1), 0, 1, 3));
+    CHECK(is_area(palgwern_tables_named_area(&tables, grid, PALGWERN_ROWS, "b", 1), 0, 0, 0));
+    CHECK(is_area(palgwern_tables_named_area(&tables, grid, PALGWERN_COLUMNS, "c", 1), 0, 0, 3));
+    CHECK(is_area(palgwern_tables_named_area(&tables, grid, PALGWERN_COLUMNS, "a-start", 7), 0, 0, 0));
+    palgwern_placement_answer p = palgwern_tables_placement(&tables, grid, 0);
+    CHECK(p.startnumber == 1 && p.endnumber == 3);
+    CHECK(!memcmp(&tables, &before, sizeof tables));
+    palgwern_panel_answer entered = palgwern_tables_enter(&tables, read.panel, PALGWERN_COLUMNS, 20000, TEXT("d-start"));
+    CHECK(is_area(palgwern_tables_named_area(&tables, entered.panel.grid, PALGWERN_COLUMNS, "d", 1), 0, 20000, 0));
+    p = palgwern_tables_placement(&tables, entered.panel.grid, 1);
+    CHECK(p.startnumber == 10001 && p.startheld == 1);
+    read = palgwern_tables_read(&tables, picture_sheet, sizeof picture_sheet - 1);
+    CHECK(is_area(palgwern_tables_drawn_area(&tables, read.panel.grid, PALGWERN_COLUMNS, "p", 1), 0, 2, 4));
+    CHECK(is_area(palgwern_tables_named_area(&tables, read.panel.grid, PALGWERN_ROWS, "p", 1), 0, 1, 3));
+}
+
+static const char long_name[] = "aaaaaaaaaaaaaaaaaaaaaaaaaaaaaaaaa";
+
+static void refused_areas(void) {
+    palgwern_grid grid = palgwern_tables_read(&tables, sheet, sheet_bytes).panel.grid;
+    for (uint32_t axis = 0; axis < 3; axis++) {
+        uint32_t number = axis < 2 ? 0 : PALGWERN_COUNT;
+        CHECK(is_area(palgwern_tables_drawn_area(&tables, grid, axis, long_name, 32), number, 0, 0));
+        CHECK(is_area(palgwern_tables_named_area(&tables, grid, axis, long_name, 32), number, 0, 0));
+        for (size_t length = 0; length <= 33; length += 33) {
+            CHECK(is_area(palgwern_tables_drawn_area(&tables, grid, axis, long_name, length), PALGWERN_NAME, 0, 0));
+            CHECK(is_area(palgwern_tables_named_area(&tables, grid, axis, long_name, length), PALGWERN_NAME, 0, 0));
+        }
+        for (size_t less = 0; less < 2; less++) {
+            number = axis < 2 ? PALGWERN_SHORT : PALGWERN_COUNT;
+            CHECK(is_area(palgwern_named_area(grid, tables.words, tables.bytes, tables.columnstore, sizeof tables.columnstore - less,
+                tables.rowstore, sizeof tables.rowstore - 1 + less, axis, (const uint8_t *)"a", 1), number, 0, 0));
+        }
+    }
+}
+
+/* Columns of 100 with gaps of 10, as often as fit, at inner size 99, with the rule and an area of five tracks. */
+#define FILLED(rule) "axis\tc\t42c60000\t" rule "\tlen\t41200000\narea\ta\t1\t2\t1\t6\nrepeat\tc\tfill\ntrack\tc\tlen\t42c80000\tlen\t42c80000\nend\tc\n"
+
+/* Sheets, and what their columns have at an inner size: the rules; gaps in percent; three tracks of 1, which pass 10,000 at 10,002; tracks of
+ * 0, counted as 1; a template that counts as none, and one without a repeat. */
+static const struct { const char *text; float inner; uint32_t number, repetitions, explicit_count; } sized_sheets[] = {
+    {FILLED("max"), 320, 0, 3, 5}, {FILLED("max"), 319, 0, 2, 5}, {FILLED("min"), 319, 0, 3, 5}, {FILLED("max"), 99, 0, 1, 5},
+    {FILLED("max"), 0, 0, 1, 5}, {FILLED("max"), 1000, 0, 9, 9}, {FILLED("max"), 65535, 0, 595, 595}, {FILLED("max"), 65536, 3, 0, 0},
+    {FILLED("max"), -1, 3, 0, 0}, {FILLED("max"), -0.0f, 3, 0, 0},
+    {"axis\tc\t-\tmax\tpct\t3dcccccd\nrepeat\tc\tfit\ntrack\tc\tlen\t42c80000\tlen\t42c80000\nend\tc\n", 320, 0, 2, 2},
+    {"repeat\tc\tfill\ntrack\tc\tlen\t3f800000\tlen\t3f800000\ntrack\tc\tlen\t3f800000\tlen\t3f800000\ntrack\tc\tlen\t3f800000\tlen\t3f800000\nend\tc\n",
+        10001, 0, 3333, 9999},
+    {"repeat\tc\tfill\ntrack\tc\tlen\t3f800000\tlen\t3f800000\ntrack\tc\tlen\t3f800000\tlen\t3f800000\ntrack\tc\tlen\t3f800000\tlen\t3f800000\nend\tc\n",
+        10002, 4, 0, 0},
+    {"repeat\tc\tfill\ntrack\tc\tlen\t00000000\tlen\t00000000\nend\tc\n", 10, 0, 10, 10},
+    {"repeat\tc\tfill\ntrack\tc\tlen\t3f800000\tlen\t3f800000\nend\tc\ntrack\tc\tauto\t00000000\tauto\t00000000\n", 10, 0, 0, 0},
+    {"track\tc\tauto\t00000000\tauto\t00000000\n", 10, 0, 0, 1},
+};
+
+static int is_size_at(palgwern_size_answer a, uint32_t number, uint32_t repetitions, uint32_t explicit_count) {
+    return a.number == number && a.repetitions == repetitions && a.explicit_count == explicit_count;
+}
+
+static void sizes(void) {
+    for (size_t i = 0; i < sizeof sized_sheets / sizeof *sized_sheets; i++) {
+        palgwern_sheet_answer read = palgwern_tables_read(&tables, sized_sheets[i].text, strlen(sized_sheets[i].text));
+        CHECK(read.number == 0);
+        before = tables;
+        palgwern_size_answer a = palgwern_tables_size_at(&tables, read.panel, PALGWERN_COLUMNS, bits_of(sized_sheets[i].inner));
+        CHECK(is_size_at(a, sized_sheets[i].number, sized_sheets[i].repetitions, sized_sheets[i].explicit_count));
+        CHECK(!memcmp(&tables, &before, sizeof tables));
+    }
+    palgwern_sheet_answer read = palgwern_tables_read(&tables, sheet, sheet_bytes);
+    for (uint32_t axis = 0; axis < 3; axis++) {
+        CHECK(palgwern_tables_size_at(&tables, read.panel, axis, 0x7fc00000).number == PALGWERN_VALUE);
+    }
+    CHECK(is_size_at(palgwern_tables_size_at(&tables, read.panel, 2, 0), PALGWERN_COUNT, 0, 0));
+    palgwern_size_answer now = palgwern_explicit_size(read.panel.grid, PALGWERN_COLUMNS);
+    palgwern_size_answer own = palgwern_tables_size_at(&tables, read.panel, PALGWERN_COLUMNS, read.panel.grid.columns.space.inner);
+    CHECK(is_size_at(own, 0, now.repetitions, now.explicit_count));
+    read.panel.room.columns.template_counts.components = 65;
+    CHECK(is_size_at(palgwern_tables_size_at(&tables, read.panel, PALGWERN_COLUMNS, 0), PALGWERN_CROWDED, 0, 0));
+}
+
+/* Grid lines beside explicit tracks, and their origin-zero lines: -1 is the last line, 32,767 and -32,768 are held, and an explicit count
+ * above 10,000 or a line of no 16 bits is refused before line 0. */
+static const struct { int32_t line; uint32_t tracks, number; int32_t converted; uint32_t held; } converted_lines[] = {
+    {-1, 3, 0, 3, 0}, {-5, 3, 0, -1, 0}, {1, 3, 0, 0, 0}, {32767, 3, 0, 10000, 1}, {-32768, 3, 0, -10000, 1}, {10001, 0, 0, 10000, 0},
+    {10002, 0, 0, 10000, 1}, {-10001, 0, 0, -10000, 0}, {-10002, 0, 0, -10000, 1}, {-20001, 10000, 0, -10000, 0}, {0, 3, 9, 0, 0},
+    {0, 10001, 4, 0, 0}, {1, 10001, 4, 0, 0}, {1, 65537, 4, 0, 0}, {32768, 3, 4, 0, 0}, {-32769, 3, 4, 0, 0}, {65536, 3, 4, 0, 0},
+};
+
+/* Origin-zero lines beside explicit tracks, and their grid lines. */
+static const struct { int32_t line; uint32_t tracks, number; int32_t grid; } grid_lines[] = {
+    {3, 3, 0, 4}, {-1, 3, 0, -5}, {0, 0, 0, 1}, {10000, 3, 0, 10001}, {-10000, 10000, 0, -20001}, {10001, 3, 4, 0}, {-10001, 3, 4, 0},
+    {0, 10001, 4, 0}, {65536, 3, 4, 0}, {0, 65536, 4, 0},
+};
+
+/* Lines of an axis of two tracks before three explicit ones and four after them: the track after each, and its record. */
+static const struct { int32_t line; uint32_t number; int32_t track; uint32_t found, place; } line_tracks[] = {
+    {-2, 0, 0, 1, 0}, {-1, 0, 1, 1, 2}, {0, 0, 2, 1, 4}, {3, 0, 5, 1, 10}, {7, 0, 9, 1, 18}, {8, 0, 10, 0, 0}, {-3, 0, -1, 0, 0},
+    {10000, 0, 10002, 0, 0}, {-10000, 0, -9998, 0, 0}, {10001, 4, 0, 0, 0}, {-10001, 4, 0, 0, 0}, {65536, 4, 0, 0, 0},
+};
+
+static void conversions(void) {
+    for (size_t i = 0; i < sizeof converted_lines / sizeof *converted_lines; i++) {
+        palgwern_conversion_answer a = palgwern_into_origin_zero_line(converted_lines[i].line, converted_lines[i].tracks);
+        CHECK(a.number == converted_lines[i].number && a.line == converted_lines[i].converted && a.held == converted_lines[i].held);
+    }
+    for (size_t i = 0; i < sizeof grid_lines / sizeof *grid_lines; i++) {
+        palgwern_line_answer a = palgwern_into_grid_line(grid_lines[i].line, grid_lines[i].tracks);
+        CHECK(a.number == grid_lines[i].number && a.line == grid_lines[i].grid);
+    }
+}
+
+static void tracks(void) {
+    const palgwern_track_counts counts = {2, 3, 4}, most = {10000, 10000, 10000};
+    for (size_t i = 0; i < sizeof line_tracks / sizeof *line_tracks; i++) {
+        palgwern_track_answer track = palgwern_next_track(counts, line_tracks[i].line);
+        palgwern_line_record_answer record = palgwern_line_record(counts, line_tracks[i].line);
+        CHECK(track.number == line_tracks[i].number && track.track == line_tracks[i].track);
+        CHECK(record.number == line_tracks[i].number && record.found == line_tracks[i].found && record.place == line_tracks[i].place);
+    }
+    for (uint32_t track = 0; track <= 30000; track++) {
+        CHECK(palgwern_previous_line(most, track).line == (int32_t)track - 10000 && palgwern_previous_line(most, track).number == 0);
+    }
+    CHECK(palgwern_previous_line(counts, 0).line == -2 && line_refused(palgwern_previous_line(most, 30001), PALGWERN_COUNT));
+    CHECK(line_refused(palgwern_previous_line(most, 65536), PALGWERN_COUNT) && palgwern_line_record(most, 10000).place == 40000);
+    for (int field = 0; field < 3; field++) {
+        const palgwern_track_counts many = {field == 0 ? 10001 : 0, field == 1 ? 10001 : 0, field == 2 ? 65536 : 0};
+        CHECK(line_refused(palgwern_previous_line(many, 0), PALGWERN_COUNT) && palgwern_next_track(many, 0).number == PALGWERN_COUNT);
+        CHECK(palgwern_line_record(many, 0).number == PALGWERN_COUNT && palgwern_line_record(many, 0).found == 0);
+    }
+}
+
+/* The counts of an axis of a panel are those of its records. */
+static void counts_of_panel(void) {
+    palgwern_sheet_answer read = palgwern_tables_read(&tables, sheet, sheet_bytes);
+    palgwern_track_counts counts = palgwern_counts_of(read.panel.grid.columns);
+    CHECK(counts.negative == 7 && counts.explicit_count == 20 && counts.positive == 8);
+    CHECK(palgwern_line_record(counts, 28).place == 70 && palgwern_line_record(counts, 29).found == 0);
+}
+
 /* The calls, one for each number. */
 static void *call(void *number) {
     switch (*(int *)number) {
@@ -631,6 +792,15 @@ static void *call(void *number) {
     case 13: palgwern_tables_within(&listed, listed_grid, 0, 0, 0, hits); break;
     case 14: palgwern_tables_around(&listed, listed_grid, 0, 1, hits); break;
     case 15: palgwern_tables_resize(&tables, panel.grid, 0); break;
+    case 16: palgwern_into_origin_zero_line(-1, 3); break;
+    case 17: palgwern_into_grid_line(-1, 3); break;
+    case 18: palgwern_next_track(palgwern_counts_of(panel.grid.columns), 0); break;
+    case 19: palgwern_previous_line(palgwern_counts_of(panel.grid.columns), 0); break;
+    case 20: palgwern_line_record(palgwern_counts_of(panel.grid.columns), 0); break;
+    case 21: palgwern_layout(); break;
+    case 22: palgwern_tables_size_at(&tables, panel, 0, 0); break;
+    case 23: palgwern_tables_drawn_area(&tables, panel.grid, 0, "gamma", 5); break;
+    case 24: palgwern_tables_named_area(&tables, panel.grid, 0, "gamma", 5); break;
     }
     return NULL;
 }
@@ -653,12 +823,14 @@ static size_t stack_of(int number) {
 static void stacks(void) {
     static const char *const names[] = {"", "read_sheet", "enter_name", "explicit_size", "line_count", "record_count",
         "resolve_placement", "line_name", "records", "resolve_placements", "line_names", "display_sheet", "nearest_line",
-        "placements_within", "placements_around", "least_resize"};
-    static const size_t kibibytes[] = {0, 448, 48, 48, 48, 48, 48, 48, 48, 160, 160, 448, 48, 160, 160, 48};
+        "placements_within", "placements_around", "least_resize", "into_origin_zero_line", "into_grid_line", "next_track",
+        "previous_line", "line_record", "layout", "size_at",
+        "drawn_area", "named_area"};
+    static const size_t kibibytes[] = {0, 448, 48, 48, 48, 48, 48, 48, 48, 160, 160, 448, 48, 160, 160, 48, 48, 48, 48, 48, 48, 48, 48, 48, 48};
     size_t none = stack_of(0);
     printf("stack in bytes:");
-    for (int i = 1; i < 16; i++) {
-        size_t used = stack_of(i) - none;
+    for (size_t i = 1; i < sizeof names / sizeof *names; i++) {
+        size_t used = stack_of((int)i) - none;
         printf(" %s %zu", names[i], used);
         CHECK(used <= kibibytes[i] * 1024);
     }
@@ -686,6 +858,13 @@ int main(int count, char **words) {
     line_names(PALGWERN_ROWS);
     stacks();
     resizes();
+    sizes();
+    areas();
+    refused_areas();
+    conversions();
+    tracks();
+    counts_of_panel();
+    CHECK(palgwern_layout() == PALGWERN_LAYOUT);
     puts(failed ? "C: failed" : "C: right");
     return failed;
 }

@@ -1,5 +1,4 @@
 //! Sizes and layout of what crosses the boundary, refusals, and the safe calls.
-mod palgwern;
 use palgwern::*;
 
 const LAYOUT: &[u8] = include_bytes!("layout.sheet");
@@ -54,7 +53,7 @@ fn answers() {
     assert_eq!((panel.record_count(Axis::Columns), panel.record_count(Axis::Rows)), (71, 51));
     assert_eq!(panel.placement(0), Ok(Placement { axis: Axis::Columns, start: End::Line(5), end: End::Span(6), startheld: false, endheld: false }));
     assert_eq!(panel.placement(1), Ok(Placement { axis: Axis::Rows, start: End::Line(-3), end: End::Line(12), startheld: false, endheld: false }));
-    assert_eq!(panel.resolved(), [panel.placement(0).unwrap(), panel.placement(1).unwrap()]);
+    assert!(panel.resolved().eq([panel.placement(0).unwrap(), panel.placement(1).unwrap()]));
     let mut run = [7; PLACEMENT_RUN];
     assert_eq!((panel.write_placements(1, &mut run), &run[..9]), (Ok(1), &[0, 1, 1, -3, 1, 12, 0, 0, 7][..]));
     assert!(run[8..].iter().all(|&number| number == 7));
@@ -63,12 +62,12 @@ fn answers() {
 #[test]
 fn line_names() {
     let panel = Panel::read(LAYOUT).unwrap();
-    let names: Vec<Vec<&[u8]>> = (1..=4).map(|line| panel.names(Axis::Columns, line).collect()).collect();
-    assert_eq!(names, [vec![b"x" as &[u8]], vec![b"yy", b"zzz"], vec![b"uuuuu"], vec![b"zzz"]]);
-    assert_eq!((panel.name(Axis::Columns, 0, 0), panel.name(Axis::Rows, 1, 0)), (None, Some(b"rowname" as &[u8])));
-    assert_eq!((panel.name(Axis::Rows, 2, 1), panel.name(Axis::Rows, 3, 1)), (Some(b"q" as &[u8]), None));
-    assert_eq!(panel.line_names(Axis::Columns)[..4], names);
-    assert_eq!((panel.line_names(Axis::Columns).len(), panel.line_names(Axis::Rows)[0].clone()), (21, vec![b"rowname" as &[u8]]));
+    let names: Vec<Vec<&str>> = (1..=4).map(|line| panel.names(Axis::Columns, line).collect()).collect();
+    assert_eq!(names, [vec!["x"], vec!["yy", "zzz"], vec!["uuuuu"], vec!["zzz"]]);
+    assert_eq!((panel.name(Axis::Columns, 0, 0), panel.name(Axis::Rows, 1, 0)), (None, Some("rowname")));
+    assert_eq!((panel.name(Axis::Rows, 2, 1), panel.name(Axis::Rows, 3, 1)), (Some("q"), None));
+    assert!(panel.line_names(Axis::Columns).take(5).eq([(1, "x"), (2, "yy"), (2, "zzz"), (3, "uuuuu"), (4, "zzz")]));
+    assert_eq!((panel.line_names(Axis::Columns).len(), panel.line_names(Axis::Rows).next()), (22, Some((1, "rowname"))));
     let mut run = [7; LINE_NAME_RUN];
     assert_eq!((panel.write_line_names(Axis::Columns, &mut run), run[3]), (Ok(22), 3 | 6 << 16 | 5 << 32));
     assert!(run[22..].iter().all(|&word| word == 7));
@@ -79,13 +78,13 @@ fn records() {
     let panel = Panel::read(LAYOUT).unwrap();
     let open = |minimum, maximum, source| Record { gutter: false, collapsed: false, minimum, maximum, source };
     let shut = |gutter, source| Record { gutter, collapsed: true, minimum: Size::Length(0.0), maximum: Size::Length(0.0), source };
-    let columns = panel.records(Axis::Columns);
+    let columns: Vec<Record> = panel.records(Axis::Columns).collect();
     assert_eq!((columns.len(), columns[0]), (71, shut(true, Source::Gutter)));
     assert_eq!(columns[5], open(Size::Length(20.0), Size::Fraction(1.0), Source::Negative));
     assert_eq!(columns[15], open(Size::Length(20.0), Size::Length(20.0), Source::Template));
     assert_eq!(columns[17], open(Size::Length(20.0), Size::Length(20.0), Source::Automatic));
     assert_eq!((columns[19], columns[55].source), (shut(false, Source::Automatic), Source::Positive));
-    let rows = panel.records(Axis::Rows);
+    let rows: Vec<Record> = panel.records(Axis::Rows).collect();
     assert_eq!((rows.len(), rows[2].gutter, rows[2].collapsed, rows[2].minimum), (51, true, false, Size::Length(2.0)));
     let negative = |minimum, maximum| open(minimum, maximum, Source::Negative);
     assert_eq!((rows[3], rows[5]), (negative(Size::Length(50.0), Size::Length(100.0)), negative(Size::MinContent, Size::MaxContent)));
@@ -104,7 +103,7 @@ fn records() {
 #[test]
 fn sources() {
     let sheet = b"area\ta\t1\t2\t1\t4\ntrack\tc\tauto\t00000000\tauto\t00000000\nextra\tc\t1\t1\n";
-    let records = Panel::read(sheet).unwrap().records(Axis::Columns);
+    let records: Vec<Record> = Panel::read(sheet).unwrap().records(Axis::Columns).collect();
     let found: Vec<Source> = records.iter().map(|record| record.source).filter(|&source| source != Source::Gutter).collect();
     assert_eq!(found, [Source::Negative, Source::Template, Source::Area, Source::Area, Source::Positive]);
     assert!(records.iter().step_by(2).all(|record| record.gutter && record.source == Source::Gutter));
@@ -147,7 +146,8 @@ fn refusals() {
     assert_eq!(panel.read_again(b"none").err(), refusal(Word::Unread, 1));
     assert_eq!(panel.state(), before.state());
     assert!(panel == before);
-    assert_eq!(format!("{}", refusal(Word::ZeroLine, 0).unwrap()), "refused by 9 (zero line) at line 0");
+    assert_eq!(refusal(Word::ZeroLine, 0).unwrap().to_string(), "refused by 9 (zero line)");
+    assert_eq!(refusal(Word::Late, 7).unwrap().to_string(), "refused by 7 (late) at line 7");
 }
 
 const AXIS: &str = "axis\tc\t-\tmax\tlen\t00000000\n";
@@ -237,13 +237,13 @@ fn entries() {
         panel.enter(Axis::Columns, 1, &[b'b'; 32]).unwrap();
     }
     assert_eq!(panel.enter(Axis::Columns, 1, &[b'b'; 32]).err(), refusal(Word::Crowded, 0));
-    assert_eq!(panel.names(Axis::Columns, 1).collect::<Vec<_>>(), [b"x" as &[u8], &[b'b'; 32]]);
-    assert_eq!(panel.names(Axis::Rows, 1).collect::<Vec<_>>(), [b"rowname" as &[u8], b"a"]);
+    assert!(panel.names(Axis::Columns, 1).eq(["x", &"b".repeat(32)]));
+    assert!(panel.names(Axis::Rows, 1).eq(["rowname", "a"]));
     for axis in [Axis::Columns, Axis::Rows] {
-        let one_by_one: Vec<Vec<&[u8]>> = (1..=panel.lists(axis)).map(|line| panel.names(axis, line).collect()).collect();
-        assert_eq!(panel.line_names(axis), one_by_one);
+        let one_by_one = (1..=panel.lists(axis)).flat_map(|line| panel.names(axis, line).map(move |name| (line, name)));
+        assert!(panel.line_names(axis).eq(one_by_one));
     }
-    assert_eq!(panel.resolved(), [panel.placement(0).unwrap(), panel.placement(1).unwrap()]);
+    assert!(panel.resolved().eq([panel.placement(0).unwrap(), panel.placement(1).unwrap()]));
     assert_eq!((panel.placement(0).unwrap().start, panel.placement(1).unwrap().end), (End::Line(5), End::Line(12)));
 }
 
@@ -252,7 +252,7 @@ fn marks() {
     let panel = Panel::read(b"place\tr\tline\t-\t10002\tspan\t-\t9\nplace\tc\tspan\t-\t7\tline\t-\t-10002\n").unwrap();
     let first = Placement { axis: Axis::Rows, start: End::Line(10002), end: End::Span(9), startheld: true, endheld: false };
     let second = Placement { axis: Axis::Columns, start: End::Span(7), end: End::Line(-10002), startheld: false, endheld: true };
-    assert_eq!(panel.resolved(), [first, second]);
+    assert!(panel.resolved().eq([first, second]));
     assert_eq!((panel.placement(0), panel.placement(1)), (Ok(first), Ok(second)));
 }
 
@@ -309,12 +309,107 @@ fn resizes() {
     assert_eq!(answer, raw::ResizeAnswer { number: 4, found: 0, size: 0 });
 }
 
+/// Area a is drawn from column line 2 on, and line 1 bears a-start too; b is made by names alone, c has an end alone.
+#[test]
+fn areas() {
+    let sheet = b"area\ta\t1\t2\t2\t3\nname\tc\ta-start\nname\tc\tb-start\ntrack\tc\tauto\t00000000\tauto\t00000000\n\
+        track\tc\tauto\t00000000\tauto\t00000000\nname\tc\tb-end\nname\tc\tc-end\n";
+    let panel = Panel::read(sheet).unwrap();
+    let made = |axis, name: &[u8]| panel.named_area(axis, name).map(|edges| (edges.start, edges.end));
+    assert_eq!((panel.drawn_area(Axis::Columns, b"a"), panel.drawn_area(Axis::Rows, b"a")), (Ok(Some((2, 3))), Ok(Some((1, 2)))));
+    assert_eq!((panel.drawn_area(Axis::Columns, b"b"), made(Axis::Columns, b"b")), (Ok(None), Ok((Some(1), Some(3)))));
+    assert_eq!((made(Axis::Columns, b"a"), made(Axis::Rows, b"a")), (Ok((Some(1), Some(3))), Ok((Some(1), Some(2)))));
+    assert_eq!((made(Axis::Columns, b"c"), made(Axis::Rows, b"b")), (Ok((None, Some(3))), Ok((None, None))));
+    for name in [&b""[..], &[b'a'; 33], b"a b"] {
+        assert_eq!(panel.drawn_area(Axis::Rows, name).err(), refusal(Word::Name, 0));
+        assert_eq!(panel.named_area(Axis::Rows, name).err(), refusal(Word::Name, 0));
+    }
+    let shown = Display::read(b"row\t.\tp\tp\nrow\t.\tp\tp\nrow\t.\t.\t.\n").unwrap();
+    assert_eq!((shown.drawn_area(Axis::Columns, b"p"), shown.drawn_area(Axis::Rows, b"p")), (Ok(Some((2, 4))), Ok(Some((1, 3)))));
+}
+
+/// A fill of 100 with gaps of 10 and an area of five tracks, at other inner sizes; at its own it is the size of the panel.
+#[test]
+fn sizes() {
+    let sheet = filled("42c60000\tmax\tlen\t41200000", "len", "42c80000").replace("repeat", "area\ta\t1\t2\t1\t6\nrepeat");
+    let panel = Panel::read(sheet.as_bytes()).unwrap();
+    let before = panel.clone();
+    let at = |inner| panel.size_at(Axis::Columns, inner).map(|size| (size.repetitions, size.explicit));
+    assert_eq!((at(320.0), at(319.0), at(99.0), at(0.0)), (Ok((3, 5)), Ok((2, 5)), Ok((1, 5)), Ok((1, 5))));
+    assert_eq!((at(1_000.0), at(65_535.0)), (Ok((9, 9)), Ok((595, 595))));
+    for inner in [-0.0, -1.0, 65_535.5, f32::NAN, f32::INFINITY] {
+        assert_eq!(at(inner).err(), refusal(Word::Value, 0));
+    }
+    assert_eq!(panel.size_at(Axis::Columns, 99.0), Ok(panel.size(Axis::Columns)));
+    assert_eq!(panel.size_at(Axis::Rows, 99.0), Ok(AxisSize { repetitions: 0, explicit: 1 }));
+    let three = filled("-\tmax\tlen\t00000000", "len", "3f800000").replace("end", "track\tc\tlen\t3f800000\tlen\t3f800000\ntrack\tc\tlen\t3f800000\tlen\t3f800000\nend");
+    let three = Panel::read(three.as_bytes()).unwrap();
+    assert_eq!(three.size_at(Axis::Columns, 10_001.0), Ok(AxisSize { repetitions: 3_333, explicit: 9_999 }));
+    assert_eq!(three.size_at(Axis::Columns, 10_002.0).err(), refusal(Word::Count, 0));
+    assert!(panel == before);
+}
+
+/// The size at another inner size is that of the sheet with it, in pixels and in halves of them.
+#[test]
+fn resized_sheets() {
+    let panel = Panel::read(LAYOUT).unwrap();
+    let sheet = std::str::from_utf8(LAYOUT).unwrap();
+    for half in 0..4_000u16 {
+        let inner = f32::from(half) / 2.0;
+        let resized = sheet.replacen("axis\tc\t44070000", &format!("axis\tc\t{:08x}", inner.to_bits()), 1);
+        assert_eq!(panel.size_at(Axis::Columns, inner), Panel::read(resized.as_bytes()).map(|read| read.size(Axis::Columns)));
+    }
+}
+
+/// The last line, a line before the first, lines that are held, and there and back; refused are line 0, counts and lines of no range.
+#[test]
+fn conversions() {
+    let line = |line, held| Ok(OriginZeroLine { line, held });
+    assert_eq!((into_origin_zero_line(-1, 3), into_origin_zero_line(-5, 3)), (line(3, false), line(-1, false)));
+    assert_eq!((into_origin_zero_line(32_767, 3), into_origin_zero_line(10_001, 3)), (line(10_000, true), line(10_000, false)));
+    assert_eq!((into_grid_line(-1, 3), into_grid_line(10_000, 3), into_grid_line(-10_000, 10_000)), (Ok(-5), Ok(10_001), Ok(-20_001)));
+    for (number, tracks, word) in [(0, 3, Word::ZeroLine), (0, 10_001, Word::Count), (1, 65_537, Word::Count), (32_768, 3, Word::Count)] {
+        assert_eq!(into_origin_zero_line(number, tracks).err(), refusal(word, 0));
+    }
+    for (number, tracks) in [(10_001, 3), (-10_001, 3), (0, 10_001), (65_536, 3)] {
+        assert_eq!(into_grid_line(number, tracks).err(), refusal(Word::Count, 0));
+    }
+    let counts = TrackCounts { negative: 2, explicit: 3, positive: 4 };
+    assert_eq!((counts.next_track(-3), counts.next_track(0), counts.previous_line(0)), (Ok(-1), Ok(2), Ok(-2)));
+    assert_eq!((counts.line_record(7), counts.line_record(8), counts.line_record(-3)), (Ok(Some(18)), Ok(None), Ok(None)));
+    assert_eq!((counts.next_track(10_001).err(), counts.line_record(-10_001).err()), (refusal(Word::Count, 0), refusal(Word::Count, 0)));
+    assert_eq!((counts.previous_line(30_000), counts.previous_line(30_001).err()), (Ok(29_998), refusal(Word::Count, 0)));
+    for many in [TrackCounts { negative: 10_001, ..counts }, TrackCounts { explicit: 10_001, ..counts }, TrackCounts { positive: 65_536, ..counts }] {
+        assert_eq!((many.next_track(0).err(), many.previous_line(0).err()), (refusal(Word::Count, 0), refusal(Word::Count, 0)));
+        assert_eq!(many.line_record(0).err(), refusal(Word::Count, 0));
+    }
+    let panel = Panel::read(LAYOUT).unwrap();
+    let columns = panel.track_counts(Axis::Columns);
+    assert_eq!(columns, TrackCounts { negative: 7, explicit: 20, positive: 8 });
+    assert_eq!((columns.line_record(28), columns.line_record(29)), (Ok(Some(70)), Ok(None)));
+    assert_eq!(panel.track_counts(Axis::Rows), TrackCounts { negative: 6, explicit: 9, positive: 10 });
+}
+
+#[test]
+fn layout_number() {
+    assert_eq!(layout(), palgwern::LAYOUT);
+}
+
 #[test]
 fn empty_sheet() {
     let panel = Panel::read(b"").unwrap();
     assert_eq!(panel.state(), Panel::empty().state());
     assert_eq!((panel.lists(Axis::Rows), panel.placements(), panel.record_count(Axis::Rows)), (0, 0, 1));
     assert_eq!((panel.line_names(Axis::Rows).len(), panel.resolved().len()), (0, 0));
+}
+
+/// Numbers, and none of the words and bytes.
+#[test]
+fn shown() {
+    let panel = Panel::read(LAYOUT).unwrap();
+    let answers = format!("Answers {{ grid: {:?}, .. }}", panel.grid());
+    assert_eq!(format!("{panel:?}"), format!("Panel {{ answers: {answers}, room: {:?} }}", panel.state().room));
+    assert_eq!(format!("{:?}", Display::read(LAYOUT).unwrap()), format!("Display {{ answers: {answers}, pair: None }}"));
 }
 
 #[test]

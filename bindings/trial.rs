@@ -1,5 +1,4 @@
 //! Tries names on a panel: prints where its readouts are, and where they would go.
-mod palgwern;
 use palgwern::*;
 
 /// A level over two columns, a reading between two lines named `value`, of which there is one, and two cells.
@@ -33,7 +32,7 @@ fn print_readouts(placements: &[Placement], lands: &[Land]) {
 
 /// The readouts as they are.
 fn print_panel(panel: &Panel) -> Result<(), Refusal> {
-    print_readouts(&panel.resolved(), &panel.place_cells(Packing::Sparse)?);
+    print_readouts(&panel.resolved().collect::<Vec<_>>(), &panel.place_cells(Packing::Sparse)?);
     Ok(())
 }
 

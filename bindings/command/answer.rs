@@ -81,7 +81,7 @@ impl Answer {
 
     fn of(answers: &Answers, sheet: Sheet) -> Answer {
         let axes = AXES.map(|axis| axis_answer(answers, axis, &sheet.axes[axis as usize]));
-        Answer { sheet, axes, placements: answers.resolved() }
+        Answer { sheet, axes, placements: answers.resolved().collect() }
     }
 
     pub fn axis(&self, axis: Axis) -> &AxisAnswer {
@@ -108,10 +108,10 @@ fn axis_answer(answers: &Answers, axis: Axis, written: &AxisSheet) -> AxisAnswer
     };
     let size = answers.size(axis);
     let lines = Lines { negative: grid.implicit.negative as i32, explicit: size.explicit as i32, positive: grid.implicit.positive as i32 };
-    let text = |name: &&[u8]| String::from_utf8_lossy(name).into_owned();
-    let names = answers.line_names(axis).iter().map(|names| names.iter().map(text).collect()).collect();
+    let mut names = vec![vec![]; answers.lists(axis) as usize];
+    answers.line_names(axis).for_each(|(line, name)| names[line as usize - 1].push(name.to_string()));
     let none = !written.template.is_empty() && grid.template.components == 0;
-    AxisAnswer { lines, records: answers.records(axis), names, none }
+    AxisAnswer { lines, records: answers.records(axis).collect(), names, none }
 }
 
 /// The places between which a placement lies as CSS settles it, ends in order; none where it is placed automatically or on line 0.

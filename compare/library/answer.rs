@@ -47,8 +47,8 @@ fn print_record(out: &mut Vec<u8>, index: usize, record: &Record) {
 fn print_axis(out: &mut Vec<u8>, panel: &Answers, axis: Axis) {
     let size = panel.size(axis);
     writeln!(out, "size\t{}\t{}\t{}", letter(axis), size.repetitions, size.explicit).unwrap();
-    for (index, record) in panel.records(axis).iter().enumerate() {
-        print_record(out, index, record);
+    for (index, record) in panel.records(axis).enumerate() {
+        print_record(out, index, &record);
     }
 }
 
@@ -70,13 +70,11 @@ fn print_placement(out: &mut Vec<u8>, panel: &Answers, index: usize, found: Plac
 
 /// The lists of the run of all, and of every eighth line a line `alone` where its names differ from those that are asked for alone.
 fn print_names(out: &mut Vec<u8>, panel: &Answers, axis: Axis) {
-    for (names, line) in panel.line_names(axis).into_iter().zip(1..) {
-        write!(out, "names\t{}\t{line}", letter(axis)).unwrap();
-        for name in &names {
-            out.push(b'\t');
-            out.extend_from_slice(name);
-        }
-        out.push(b'\n');
+    let mut lists = vec![vec![]; panel.lists(axis) as usize];
+    panel.line_names(axis).for_each(|(line, name)| lists[line as usize - 1].push(name));
+    for (names, line) in lists.into_iter().zip(1..) {
+        let text: String = names.iter().map(|name| format!("\t{name}")).collect();
+        writeln!(out, "names\t{}\t{line}{text}", letter(axis)).unwrap();
         if line % 8 == 1 && !panel.names(axis, line).eq(names) {
             writeln!(out, "alone\t{line}").unwrap();
         }
@@ -103,7 +101,7 @@ pub fn print_pair(out: &mut Vec<u8>, pair: Option<Pair>) {
 /// The whole answer of a panel, edited or only displayed.
 pub fn print_answers(out: &mut Vec<u8>, panel: &Answers, pair: Option<Pair>) {
     AXES.into_iter().for_each(|axis| print_axis(out, panel, axis));
-    let resolved = panel.resolved();
+    let resolved: Vec<Placement> = panel.resolved().collect();
     resolved.iter().enumerate().for_each(|(index, found)| print_placement(out, panel, index, *found));
     AXES.into_iter().for_each(|axis| print_names(out, panel, axis));
     resolved.iter().for_each(|found| print_marks(out, *found));

@@ -28,8 +28,7 @@ fn lines(panel: &Panel) -> Vec<Vec<String>> {
             let number = if place < 0 { place - explicit - 1 } else { place + 1 };
             let is_explicit = (0..=explicit).contains(&place);
             let back = if is_explicit { (place - explicit - 1).to_string() } else { String::new() };
-            let names: Vec<String> =
-                panel.names(axis, (place + 1).max(0) as u32).map(|name| String::from_utf8(name.to_vec()).unwrap()).collect();
+            let names: Vec<&str> = panel.names(axis, (place + 1).max(0) as u32).collect();
             found.push(strings(&[&letter, &number, &back, &if is_explicit { names.join(" ") } else { String::new() }]));
         }
     }
@@ -66,7 +65,7 @@ fn track(letter: &str, at: usize, record: &Record) -> Vec<String> {
 fn tracks(panel: &Panel) -> Vec<Vec<String>> {
     let of = |(axis, letter): (Axis, &str)| {
         let records = panel.records(axis);
-        records.iter().filter(|record| !record.gutter).enumerate().map(|(at, record)| track(letter, at, record)).collect::<Vec<_>>()
+        records.filter(|record| !record.gutter).enumerate().map(|(at, record)| track(letter, at, &record)).collect::<Vec<_>>()
     };
     AXES.into_iter().flat_map(of).collect()
 }

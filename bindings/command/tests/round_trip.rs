@@ -27,9 +27,11 @@ fn sheets_come_back() {
 /// All that a panel answers.
 fn answers(sheet: &str) -> String {
     let panel = Panel::read(sheet.as_bytes()).unwrap();
-    let axes =
-        [Axis::Columns, Axis::Rows].map(|axis| format!("{:?} {:?} {:?}", panel.size(axis), panel.line_names(axis), panel.records(axis)));
-    format!("{axes:?} {:?}", panel.resolved())
+    let axes = [Axis::Columns, Axis::Rows].map(|axis| {
+        let (names, records) = (panel.line_names(axis).collect::<Vec<_>>(), panel.records(axis).collect::<Vec<_>>());
+        format!("{:?} {} {names:?} {records:?}", panel.size(axis), panel.lists(axis))
+    });
+    format!("{axes:?} {:?}", panel.resolved().collect::<Vec<_>>())
 }
 
 #[test]

@@ -3,3 +3,7 @@ pub mod Names
 pub mod Cursor
 pub mod Hits
 pub mod Resize
+pub mod Lines
+pub mod Layout
+pub mod Sizes
+pub mod Areas

@@ -17,9 +17,13 @@ ghost use Rattle.library_numbers.specs.Records.{WrittenRun, records_written};
 ghost use Rattle.library_names.specs.Lists.{lists_written};
 ghost use Rattle.panel_resolving.specs.Placements.{WrittenNumbers, placements_written};
 
+pub mod areas;
 mod cursor;
 mod hits;
+pub mod layout;
+pub mod lines;
 pub mod resize;
+pub mod sizes;
 
 use coordinates::limit::PLACEMENT_RUN;
 use coordinates::{Axis, Fault};
