@@ -3,6 +3,7 @@
 #![allow(dead_code, unused_imports, unreachable_pub, unpredictable_function_pointer_comparisons)]
 
 mod answers;
+mod cells;
 mod compute;
 mod cursor;
 mod geometry;
@@ -34,7 +35,7 @@ use timing::pair;
 
 const STAGES: [&str; 5] = ["sizes", "names", "placements", "records", "line names"];
 /// What is timed beside the stages.
-const PARTS: [&str; 3] = ["reading", "templates", "cursor"];
+const PARTS: [&str; 4] = ["reading", "templates", "cursor", "cells"];
 const GROWTH: [&str; 4] = ["small", "medium", "large, 16 names", "large, 1,440 names"];
 
 /// Both sides of a sheet, after they were seen to answer alike; ends the program where they do not.
@@ -92,7 +93,7 @@ fn readings(sheets: &[Sheet]) {
     [panels::forty_lines(), panels::longest()].iter().chain(sheets).for_each(reading);
 }
 
-/// Every stage, the reading, the templates and the cursor, or those that are named.
+/// Every stage, the reading, the templates, the cursor and the cells, or those that are named.
 fn main() {
     let words: Vec<String> = std::env::args().skip(1).collect();
     if let Some(word) = words.iter().find(|word| !PARTS.contains(&word.as_str()) && !STAGES.contains(&word.as_str())) {
@@ -119,5 +120,9 @@ fn main() {
     }
     if asked("cursor") {
         cursor::print();
+        println!();
+    }
+    if asked("cells") {
+        cells::print();
     }
 }

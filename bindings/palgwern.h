@@ -4,8 +4,8 @@
  * answer as its contract in crates/palgwern/src says, whatever the panel and what is lent hold. What C must ensure:
  *
  * - stack: 512 KiB of room for palgwern_read_sheet and palgwern_display_sheet, 192 KiB for palgwern_line_names, 128 KiB for
- *   palgwern_placements_within and palgwern_placements_around, 64 KiB for each other call (`bindings/stack` bounds each from the
- *   archive's instructions, and `bindings/test` measures them);
+ *   palgwern_placements_within, palgwern_placements_around and palgwern_place_cells, 64 KiB for each other call (`bindings/stack` bounds
+ *   each from the archive's instructions, and `bindings/test` measures them);
  * - memory: everything that is lent is initialized, whatever it holds, and not null; an array has the length that is stated here,
  *   a pointer with a length has so many elements, and one of length 0 still points somewhere;
  * - no overlap: what a call may write (no `const`) is part of nothing else that is lent to it, and nobody else reads or writes it
@@ -42,7 +42,7 @@ enum palgwern_refusal {
     PALGWERN_OVERLAP = 12,  /* overlap: an area that shares a cell with an earlier one */
     PALGWERN_UNEQUAL = 13,  /* unequal: a row of a picture that is not as wide as the first one */
     PALGWERN_BROKEN = 14,   /* broken: a picture in which the cells of a name form no filled rectangle */
-    PALGWERN_UNPLACED = 15  /* unplaced: a cell without a place in the grid; no call answers it yet */
+    PALGWERN_UNPLACED = 15  /* unplaced: a cell for which no place is free, or that leaves the columns or rows */
 };
 
 /* Limits, by document 01. */
@@ -54,7 +54,8 @@ enum palgwern_limit {
     PALGWERN_SPARES = 64,             /* spare sizes of an axis */
     PALGWERN_AREAS = 64,              /* drawn areas, those of a picture too */
     PALGWERN_ROW_WORDS = 10000,       /* words of a row of a picture */
-    PALGWERN_PLACEMENTS = 256,        /* placements */
+    PALGWERN_PLACEMENTS = 256,        /* `place` lines, and cells among them: the tables hold two placements for each cell */
+    PALGWERN_CELL_SPAN = 32,          /* a plain span of a cell is 1 to 32 */
     PALGWERN_ENTRIES = 4096,          /* name entries of an axis, repeats written out */
     PALGWERN_ENTERED_LINE = 20000,    /* an entered line is 1 to 20,000 */
     PALGWERN_TRACKS = 10000,          /* explicit tracks, and each implicit count */
@@ -65,18 +66,19 @@ enum palgwern_limit {
 
 /* Lengths of the arrays that are lent, and of the regions that they are made of. */
 enum palgwern_length {
-    PALGWERN_PANEL_WORDS = 25600,     /* words: the columns', the rows', those of areas and of placements */
-    PALGWERN_PANEL_BYTES = 78432,     /* bytes: item marks of the columns and of the rows, names of areas and of placements */
+    PALGWERN_PANEL_WORDS = 26368,     /* words: the columns', the rows', those of areas and of placements */
+    PALGWERN_PANEL_BYTES = 94816,     /* bytes: item marks of the columns and of the rows, names of areas and of placements */
     PALGWERN_STORE_BYTES = 32768,     /* columnstore, rowstore: the bytes of line names; at least so many, else 10 */
-    PALGWERN_PLACEMENT_RUN = 2048,    /* numbers of a run of placements: eight for each that a panel can have */
+    PALGWERN_PLACEMENT_RUN = 4096,    /* numbers of a run of placements: eight for each that a panel can have, two for each cell */
     PALGWERN_LINE_NAME_RUN = 4096,    /* names of a run of line names: a word for each entry that an axis can have */
-    PALGWERN_HITS = 256,              /* indexes of a list of placements: one for each that a panel can have */
+    PALGWERN_HITS = 512,              /* indexes of a list of placements: one for each that a panel can have */
+    PALGWERN_CELLS = 256,             /* lands of cells: one for each that a panel can have */
     PALGWERN_AXIS_WORDS = 12480,      /* of an axis: components, track sizes, spare sizes, name records, name entries */
     PALGWERN_AREA_WORDS = 128,        /* edges, then names */
-    PALGWERN_PLACEMENT_WORDS = 512,   /* two words each */
+    PALGWERN_PLACEMENT_WORDS = 1280,  /* two words each, then a word for the line of each cell */
     PALGWERN_AXIS_MARKS = 30000,      /* a byte for each track of an axis, not 0 where it holds an item */
     PALGWERN_AREA_BYTES = 2048,       /* the bytes of the names of areas */
-    PALGWERN_PLACEMENT_BYTES = 16384  /* the bytes of the names of placements */
+    PALGWERN_PLACEMENT_BYTES = 32768  /* the bytes of the names of placements */
 };
 
 /* Where the regions start: four of the words, four of the bytes. */
@@ -90,6 +92,9 @@ enum palgwern_start {
     PALGWERN_AREA_NAMES_START = 60000,
     PALGWERN_PLACEMENT_NAMES_START = 62048
 };
+
+/* How cells are packed: no automatic cell before the one placed last, or each in the first place that is free. */
+enum palgwern_packing { PALGWERN_SPARSE = 0, PALGWERN_DENSE = 1 };
 
 enum palgwern_axis_number { PALGWERN_COLUMNS = 0, PALGWERN_ROWS = 1 };
 
@@ -168,12 +173,13 @@ typedef struct palgwern_axis_room {
     uint32_t areas;          /* tracks that areas span */
 } palgwern_axis_room;
 
-/* 120 bytes. */
+/* 128 bytes. */
 typedef struct palgwern_grid {
     palgwern_axis_grid columns;
     palgwern_axis_grid rows;
     uint32_t areas;          /* drawn areas */
-    uint32_t placements;
+    uint32_t placements;     /* a cell is two of them, one after the other: its columns, then its rows */
+    uint32_t cells;          /* how many cells there are, each two of the placements */
 } palgwern_grid;
 
 /* 48 bytes. */
@@ -184,7 +190,7 @@ typedef struct palgwern_room {
     uint32_t placementbytes; /* bytes of the names of placements */
 } palgwern_room;
 
-/* 168 bytes. */
+/* 176 bytes. */
 typedef struct palgwern_panel {
     palgwern_grid grid;
     palgwern_room room;
@@ -213,12 +219,13 @@ typedef struct palgwern_size_answer { uint32_t number; uint32_t repetitions; uin
 typedef struct palgwern_count_answer { uint32_t number; uint64_t count; } palgwern_count_answer;
 typedef struct palgwern_line_answer { uint32_t number; int32_t line; } palgwern_line_answer;
 typedef struct palgwern_name_answer { uint32_t number; uint32_t offset; uint32_t length; } palgwern_name_answer;
+typedef struct palgwern_cells_answer { uint32_t number; uint32_t line; uint32_t count; } palgwern_cells_answer;
 typedef struct palgwern_resize_answer { uint32_t number; uint32_t found; uint32_t size; } palgwern_resize_answer;
 /* A mark is 1 where the line of its end was held within -10,000..10,000 of the first explicit line, or a line on the way to it was: a
  * written line, the line of a name, the line beside a named span. 0 says that it would be the same if lines were never held. */
 typedef struct palgwern_placement_answer {
     uint32_t number;
-    uint32_t axis;
+    uint32_t axis;        /* and 2 more where it is a cell's half: its columns are 2, its rows 3 */
     uint32_t startkind;
     int32_t startnumber;
     uint32_t endkind;
@@ -310,7 +317,7 @@ palgwern_line_answer palgwern_nearest_line(
 /* The placements of an axis with both lines within a span of pixels, its ends included, by their indexes from 0, ascending, from the
  * first place of `hits` on; answers how many. Places past them stay as they are. `low` and `high` are the bits of two floats, 0 to
  * 65,535; where `low` lies above `high` no line is within. Lines are not held, reversed ones are swapped, equal ones span one track;
- * a placement with an end that is no line, or with a line that is 0 or off the grid, is in no list. `items` is as for
+ * a placement with an end that is no line, or with a line that is 0 or off the grid, and a cell's half is in no list. `items` is as for
  * palgwern_records. Refuses by 3 (an end of the span is no length), then by 4 (no axis, or a count above 10,000, which no sheet gives),
  * by 10 (fewer item bytes than tracks, or a short store) and by 11 (a track or gutter with no definite size). */
 palgwern_count_answer palgwern_placements_within(
@@ -324,6 +331,21 @@ palgwern_count_answer palgwern_placements_around(
     palgwern_grid grid, const uint64_t words[PALGWERN_PANEL_WORDS], const uint8_t bytes[PALGWERN_PANEL_BYTES],
     const uint8_t *columnstore, size_t columnstore_bytes, const uint8_t *rowstore, size_t rowstore_bytes,
     uint32_t axis, const uint8_t *items, size_t items_bytes, int32_t line, uint32_t hits[PALGWERN_HITS]);
+
+/* Where the cells of a panel land, by CSS Grid Level 1, 8.3.1 and 8.5 (row flow), beside the explicit columns and 10,000 rows: a word
+ * for each cell, in sheet order, from the first place of `lands` on; answers how many. Words past them stay as they are. Refuses by 4
+ * (no packing, or an explicit count above 10,000, which no sheet gives), then by 10 (a short store), both at line 0, and then by 15 with
+ * the line of the first cell in placing order for which no place is free, or that leaves the columns or the rows. */
+palgwern_cells_answer palgwern_place_cells(
+    palgwern_grid grid, const uint64_t words[PALGWERN_PANEL_WORDS], const uint8_t bytes[PALGWERN_PANEL_BYTES],
+    const uint8_t *columnstore, size_t columnstore_bytes, const uint8_t *rowstore, size_t rowstore_bytes,
+    uint32_t packing, uint64_t lands[PALGWERN_CELLS]);
+
+/* The lines of a word of palgwern_place_cells: line 1 is the first of its axis. */
+static inline uint32_t palgwern_land_column_start(uint64_t word) { return word & 0xffff; }
+static inline uint32_t palgwern_land_column_end(uint64_t word) { return word >> 16 & 0xffff; }
+static inline uint32_t palgwern_land_row_start(uint64_t word) { return word >> 32 & 0xffff; }
+static inline uint32_t palgwern_land_row_end(uint64_t word) { return word >> 48 & 0xffff; }
 
 /* The least resize that matters: of the whole inner sizes 0 to 65,535 the nearest to the size now at which the automatic repeat of an
  * axis is written out another number of times, the wider of two. `found` is 1 and `size` that size, not the change; both are 0 where
@@ -396,7 +418,7 @@ static inline palgwern_track_counts palgwern_counts_of(palgwern_axis_grid axis) 
 /* ---- the layout of the structs */
 
 /* The number of the layout that this header declares. */
-enum palgwern_layout_number { PALGWERN_LAYOUT = 1 };
+enum palgwern_layout_number { PALGWERN_LAYOUT = 2 };
 
 /* The number of the layout that the library was made with. A program that is linked at another time than it was compiled compares the two
  * before any other call: it is one more after each change of a struct, a length or a number above, and the same where calls and structs
@@ -489,6 +511,12 @@ static inline palgwern_count_answer palgwern_tables_around(const palgwern_tables
     int32_t line, uint32_t hits[PALGWERN_HITS]) {
     return palgwern_placements_around(grid, t->words, t->bytes, t->columnstore, sizeof t->columnstore, t->rowstore,
         sizeof t->rowstore, axis, palgwern_tables_items(t, axis), PALGWERN_AXIS_MARKS, line, hits);
+}
+
+static inline palgwern_cells_answer palgwern_tables_cells(const palgwern_tables *t, palgwern_grid grid, uint32_t packing,
+    uint64_t lands[PALGWERN_CELLS]) {
+    return palgwern_place_cells(grid, t->words, t->bytes, t->columnstore, sizeof t->columnstore, t->rowstore, sizeof t->rowstore,
+        packing, lands);
 }
 
 static inline palgwern_line_answer palgwern_tables_nearest_line(const palgwern_tables *t, palgwern_grid grid, uint32_t axis,

@@ -35,14 +35,16 @@ use std::ops::Deref;
 pub const VERSION: &str = "0.1.0";
 
 /// Lengths of the arrays that are lent, as in `palgwern.h`.
-pub const PANEL_WORDS: usize = 25_600;
-pub const PANEL_BYTES: usize = 78_432;
+pub const PANEL_WORDS: usize = 26_368;
+pub const PANEL_BYTES: usize = 94_816;
 pub const STORE_BYTES: usize = 32_768;
 /// The numbers of a run of placements, and the words of a run of line names.
-pub const PLACEMENT_RUN: usize = 2_048;
+pub const PLACEMENT_RUN: usize = 4_096;
 pub const LINE_NAME_RUN: usize = 4_096;
 /// The indexes of a list of placements.
-pub const HITS: usize = 256;
+pub const HITS: usize = 512;
+/// The words of the lands of cells.
+pub const CELLS: usize = 256;
 /// Where the regions of the words start, and their lengths.
 pub const COLUMNS_START: usize = 0;
 pub const ROWS_START: usize = 12_480;
@@ -50,7 +52,7 @@ pub const AREAS_START: usize = 24_960;
 pub const PLACEMENTS_START: usize = 25_088;
 pub const AXIS_WORDS: usize = 12_480;
 pub const AREA_WORDS: usize = 128;
-pub const PLACEMENT_WORDS: usize = 512;
+pub const PLACEMENT_WORDS: usize = 1_280;
 /// Where the regions of the bytes start, and their lengths.
 pub const COLUMN_MARKS_START: usize = 0;
 pub const ROW_MARKS_START: usize = 30_000;
@@ -58,7 +60,7 @@ pub const AREA_NAMES_START: usize = 60_000;
 pub const PLACEMENT_NAMES_START: usize = 62_048;
 pub const AXIS_MARKS: usize = 30_000;
 pub const AREA_BYTES: usize = 2_048;
-pub const PLACEMENT_BYTES: usize = 16_384;
+pub const PLACEMENT_BYTES: usize = 32_768;
 /// The most name entries of an axis.
 pub const ENTRIES: usize = 4_096;
 /// The words of a record.
@@ -129,7 +131,10 @@ pub struct Grid {
     pub columns: AxisGrid,
     pub rows: AxisGrid,
     pub areas: u32,
+    /// A cell is two of them: its columns, then its rows.
     pub placements: u32,
+    /// How many cells there are, each two of the placements.
+    pub cells: u32,
 }
 
 /// What only an edit reads.
@@ -160,7 +165,7 @@ pub struct TrackCounts {
 }
 
 /// The number of the layout that this module declares: `layout` says that of the library.
-pub const LAYOUT: u32 = 1;
+pub const LAYOUT: u32 = 2;
 
 /// The calls themselves and their answers, as in `palgwern.h`. A program uses [`Panel`].
 pub mod raw {
@@ -222,6 +227,14 @@ pub mod raw {
         pub number: u32,
         pub offset: u32,
         pub length: u32,
+    }
+
+    #[repr(C)]
+    #[derive(Clone, Copy, Debug, PartialEq, Eq)]
+    pub struct CellsAnswer {
+        pub number: u32,
+        pub line: u32,
+        pub count: u32,
     }
 
     #[repr(C)]
@@ -325,6 +338,10 @@ pub mod raw {
             columnstore_bytes: usize, rowstore: *const u8, rowstore_bytes: usize, axis: u32, items: *const u8, items_bytes: usize,
             line: i32, hits: *mut [u32; HITS],
         ) -> CountAnswer;
+        pub fn palgwern_place_cells(
+            grid: Grid, words: *const [u64; PANEL_WORDS], bytes: *const [u8; PANEL_BYTES], columnstore: *const u8,
+            columnstore_bytes: usize, rowstore: *const u8, rowstore_bytes: usize, packing: u32, lands: *mut [u64; CELLS],
+        ) -> CellsAnswer;
         pub fn palgwern_least_resize(grid: Grid, words: *const [u64; PANEL_WORDS], axis: u32) -> ResizeAnswer;
         pub fn palgwern_drawn_area(
             grid: Grid, words: *const [u64; PANEL_WORDS], bytes: *const [u8; PANEL_BYTES], axis: u32, name: *const u8,
@@ -345,11 +362,11 @@ pub mod raw {
 }
 
 const _: () = assert!(size_of::<AxisGrid>() == 56 && size_of::<AxisRoom>() == 20);
-const _: () = assert!(size_of::<Grid>() == 120 && size_of::<Room>() == 48 && size_of::<State>() == 168);
-const _: () = assert!(size_of::<raw::PanelAnswer>() == 176 && size_of::<raw::CountAnswer>() == 16);
-const _: () = assert!(size_of::<raw::SheetAnswer>() == 184 && size_of::<raw::DisplayAnswer>() == 136);
+const _: () = assert!(size_of::<Grid>() == 128 && size_of::<Room>() == 48 && size_of::<State>() == 176);
+const _: () = assert!(size_of::<raw::PanelAnswer>() == 184 && size_of::<raw::CountAnswer>() == 16);
+const _: () = assert!(size_of::<raw::SheetAnswer>() == 192 && size_of::<raw::DisplayAnswer>() == 144);
 const _: () = assert!(size_of::<raw::SizeAnswer>() == 12 && size_of::<raw::NameAnswer>() == 12 && size_of::<raw::LineAnswer>() == 8 && size_of::<raw::PlacementAnswer>() == 32);
-const _: () = assert!(size_of::<raw::ResizeAnswer>() == 12);
+const _: () = assert!(size_of::<raw::ResizeAnswer>() == 12 && size_of::<raw::CellsAnswer>() == 12);
 const _: () = assert!(size_of::<TrackCounts>() == 12 && size_of::<raw::ConversionAnswer>() == 12);
 const _: () = assert!(size_of::<raw::AreaAnswer>() == 12);
 const _: () = assert!(size_of::<raw::TrackAnswer>() == 8 && size_of::<raw::LineRecordAnswer>() == 12);
@@ -388,8 +405,8 @@ impl Pair {
     }
 }
 
-/// A refusal: its word and the sheet's line, 0 for a call without a sheet, for a sheet too long, for [`Word::Short`] and for
-/// [`Word::Indefinite`]. [`Word::Overlap`] comes with the first two areas that share a cell.
+/// A refusal: its word and the sheet's line ([`Word::Unplaced`] has the cell's), 0 for each other call without a sheet, for a sheet too
+/// long, for [`Word::Short`] and for [`Word::Indefinite`]. [`Word::Overlap`] comes with the first two areas that share a cell.
 #[derive(Clone, Copy, Debug, PartialEq, Eq)]
 pub struct Refusal {
     pub word: Word,
@@ -535,10 +552,36 @@ pub enum End {
 #[derive(Clone, Copy, Debug, PartialEq, Eq)]
 pub struct Placement {
     pub axis: Axis,
+    /// Whether it is one of a cell's two: then its ends are the cell's settled fields.
+    pub cell: bool,
     pub start: End,
     pub end: End,
     pub startheld: bool,
     pub endheld: bool,
+}
+
+/// How cells are packed.
+#[derive(Clone, Copy, Debug, PartialEq, Eq)]
+pub enum Packing {
+    /// No automatic cell lands before the one placed last.
+    Sparse = 0,
+    /// Each takes the first place that is free.
+    Dense = 1,
+}
+
+/// Where a cell lands: between two column lines and two row lines, the first line of an axis being 1.
+#[derive(Clone, Copy, Debug, PartialEq, Eq)]
+pub struct Land {
+    pub columns: [u16; 2],
+    pub rows: [u16; 2],
+}
+
+impl Land {
+    /// A land from its word.
+    pub fn of(word: u64) -> Land {
+        let line = |at: u32| (word >> (16 * at)) as u16;
+        Land { columns: [line(0), line(1)], rows: [line(2), line(3)] }
+    }
 }
 
 /// The minimum or the maximum of a track.
@@ -714,6 +757,11 @@ fn accepted(number: u32, line: u32) -> Result<(), Refusal> {
     }
 }
 
+/// The axis of a placement, and whether it is one of a cell's two.
+fn axis_of(number: u32) -> (Axis, bool) {
+    (if number & 1 == 0 { Axis::Columns } else { Axis::Rows }, number & 2 != 0)
+}
+
 /// A count, or its refusal.
 fn counted(answer: raw::CountAnswer) -> Result<usize, Refusal> {
     accepted(answer.number, 0).map(|()| answer.count as usize)
@@ -724,17 +772,13 @@ fn answered<T>(answer: Result<T, Refusal>) -> T {
     answer.unwrap_or_else(|refusal| panic!("a panel that was read is answered by its contract, but was {refusal}"))
 }
 
-/// The axis of a placement.
-fn axis_of(number: u32) -> Axis {
-    if number == 0 { Axis::Columns } else { Axis::Rows }
-}
-
 impl Placement {
     /// A placement from its numbers in a run.
     pub fn of(numbers: &[i32; PLACEMENT_NUMBERS]) -> Placement {
         let [_, axis, startkind, startnumber, endkind, endnumber, startheld, endheld] = *numbers;
+        let (axis, cell) = axis_of(axis as u32);
         let (start, end) = (end_of(startkind as u32, startnumber), end_of(endkind as u32, endnumber));
-        Placement { axis: axis_of(axis as u32), start, end, startheld: startheld != 0, endheld: endheld != 0 }
+        Placement { axis, cell, start, end, startheld: startheld != 0, endheld: endheld != 0 }
     }
 }
 
@@ -820,7 +864,7 @@ impl Answers {
         TrackCounts { negative: own.implicit.negative, explicit: own.size.explicit, positive: own.implicit.positive }
     }
 
-    /// How many placements there are.
+    /// How many placements there are; a cell is two of them, its columns and then its rows.
     pub fn placements(&self) -> u32 {
         self.grid.placements
     }
@@ -835,8 +879,9 @@ impl Answers {
             )
         };
         accepted(answer.number, 0)?;
+        let (axis, cell) = axis_of(answer.axis);
         let (start, end) = (end_of(answer.startkind, answer.startnumber), end_of(answer.endkind, answer.endnumber));
-        Ok(Placement { axis: axis_of(answer.axis), start, end, startheld: answer.startheld != 0, endheld: answer.endheld != 0 })
+        Ok(Placement { axis, cell, start, end, startheld: answer.startheld != 0, endheld: answer.endheld != 0 })
     }
 
     /// All placements with their names resolved, in one run: the answers of [`Answers::placement`], with the names grouped once.
@@ -911,6 +956,23 @@ impl Answers {
             )
         };
         refused_or(answer.number, AreaEdges { start: line(answer.start), end: line(answer.end) })
+    }
+
+    /// Where each cell lands, in sheet order: CSS Grid Level 1, 8.3.1 and 8.5, row flow. `Word::Unplaced` with the line of the first cell
+    /// in placing order for which no place is free, or that leaves the explicit columns or the 10,000 rows.
+    pub fn place_cells(&self, packing: Packing) -> Result<Vec<Land>, Refusal> {
+        let mut lands = [0; CELLS];
+        // SAFETY: as in `Panel::read_again`; `lands` is a local of its own.
+        let answer = unsafe {
+            raw::palgwern_place_cells(
+                self.grid, &*self.words, &*self.bytes, self.columnstore.as_ptr(), STORE_BYTES, self.rowstore.as_ptr(), STORE_BYTES,
+                packing as u32, &mut lands,
+            )
+        };
+        if answer.number != 0 {
+            return Err(Refusal::of(answer.number, answer.line));
+        }
+        Ok(lands[..answer.count as usize].iter().map(|word| Land::of(*word)).collect())
     }
 
     /// How many lists of line names an axis has: none, or one for each explicit line.

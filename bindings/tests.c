@@ -7,13 +7,13 @@
 #include <sys/mman.h>
 
 _Static_assert(sizeof(palgwern_axis_grid) == 56 && sizeof(palgwern_axis_room) == 20, "axis");
-_Static_assert(sizeof(palgwern_grid) == 120 && sizeof(palgwern_room) == 48 && sizeof(palgwern_panel) == 168, "panel");
+_Static_assert(sizeof(palgwern_grid) == 128 && sizeof(palgwern_room) == 48 && sizeof(palgwern_panel) == 176, "panel");
 _Static_assert(offsetof(palgwern_axis_space, gap) == 16 && offsetof(palgwern_axis_grid, template_counts) == 24, "space");
 _Static_assert(offsetof(palgwern_axis_grid, entries) == 44 && offsetof(palgwern_axis_grid, size) == 48, "size");
-_Static_assert(offsetof(palgwern_grid, areas) == 112 && offsetof(palgwern_room, areabytes) == 40, "areas");
-_Static_assert(sizeof(palgwern_panel_answer) == 176 && offsetof(palgwern_panel_answer, panel) == 8, "panel answer");
-_Static_assert(sizeof(palgwern_sheet_answer) == 184 && offsetof(palgwern_sheet_answer, panel) == 16, "sheet answer");
-_Static_assert(sizeof(palgwern_display_answer) == 136 && offsetof(palgwern_display_answer, grid) == 16, "display answer");
+_Static_assert(offsetof(palgwern_grid, areas) == 112 && offsetof(palgwern_grid, cells) == 120 && offsetof(palgwern_room, areabytes) == 40, "areas");
+_Static_assert(sizeof(palgwern_panel_answer) == 184 && offsetof(palgwern_panel_answer, panel) == 8, "panel answer");
+_Static_assert(sizeof(palgwern_sheet_answer) == 192 && offsetof(palgwern_sheet_answer, panel) == 16, "sheet answer");
+_Static_assert(sizeof(palgwern_display_answer) == 144 && offsetof(palgwern_display_answer, grid) == 16, "display answer");
 _Static_assert(sizeof(palgwern_size_answer) == 12 && sizeof(palgwern_name_answer) == 12, "answers of three numbers");
 _Static_assert(sizeof(palgwern_resize_answer) == 12, "resize answer");
 _Static_assert(sizeof(palgwern_count_answer) == 16 && offsetof(palgwern_count_answer, count) == 8, "count answer");
@@ -23,7 +23,7 @@ _Static_assert(sizeof(palgwern_track_counts) == 12 && sizeof(palgwern_conversion
 _Static_assert(sizeof(palgwern_area_answer) == 12, "area answer");
 _Static_assert(sizeof(palgwern_track_answer) == 8 && sizeof(palgwern_line_record_answer) == 12, "track and record answers");
 
-_Static_assert(PALGWERN_PLACEMENT_RUN == PALGWERN_PLACEMENTS * PALGWERN_PLACEMENT_NUMBERS, "run of placements");
+_Static_assert(PALGWERN_PLACEMENT_RUN == 2 * PALGWERN_PLACEMENTS * PALGWERN_PLACEMENT_NUMBERS, "run of placements");
 _Static_assert((int)PALGWERN_LINE_NAME_RUN == (int)PALGWERN_ENTRIES, "run of line names");
 
 static palgwern_tables tables, before;
@@ -57,7 +57,8 @@ static int same_room(palgwern_axis_room a, palgwern_axis_room b) {
 }
 
 static int same_grids(palgwern_grid a, palgwern_grid b) {
-    return same_grid(a.columns, b.columns) && same_grid(a.rows, b.rows) && a.areas == b.areas && a.placements == b.placements;
+    return same_grid(a.columns, b.columns) && same_grid(a.rows, b.rows) && a.areas == b.areas && a.placements == b.placements &&
+        a.cells == b.cells;
 }
 
 static int same(palgwern_panel a, palgwern_panel b) {
@@ -108,7 +109,7 @@ static void layout(void) {
     const uint64_t columns[15] = {1, 0x44070000, 0, 0x13c23d70aull, 3, 4, 7, 8, 5, 22, 9, 20, 6, 13, 10};
     const uint64_t rows[15] = {0, 0, 1, 0x40000000, 2, 3, 6, 10, 4, 11, 0, 9, 5, 14, 8};
     CHECK(is_axis(panel.grid.columns, panel.room.columns, columns) && is_axis(panel.grid.rows, panel.room.rows, rows));
-    CHECK(panel.grid.areas == 3 && panel.room.areabytes == 11 && panel.grid.placements == 2 && panel.room.placementbytes == 12);
+    CHECK(panel.grid.areas == 3 && panel.room.areabytes == 11 && panel.grid.placements == 2 && panel.grid.cells == 0 && panel.room.placementbytes == 12);
     CHECK(!memcmp(tables.columnstore, "xyyzzzuuuuuwv", 14) && !memcmp(tables.rowstore, "rownamepqssttt", 15));
     CHECK(!memcmp(tables.bytes + PALGWERN_AREA_NAMES_START, "alphabgamma", 12));
     CHECK(!memcmp(tables.bytes + PALGWERN_PLACEMENT_NAMES_START, "uuuuurowname", 13));
@@ -278,9 +279,9 @@ static void lists(void) {
 /* Of a number of placements that no sheet gives a run answers as many as fit. */
 static void many_placements(void) {
     palgwern_grid forged = panel.grid;
-    forged.placements = 300;
-    CHECK(is_count(palgwern_tables_placements(&tables, forged, 0, numbers), PALGWERN_PLACEMENTS));
-    CHECK(is_count(palgwern_tables_placements(&tables, forged, 100, numbers), 200));
+    forged.placements = 700;
+    CHECK(is_count(palgwern_tables_placements(&tables, forged, 0, numbers), 2 * PALGWERN_PLACEMENTS));
+    CHECK(is_count(palgwern_tables_placements(&tables, forged, 500, numbers), 200));
     forged.placements = UINT32_MAX;
     CHECK(is_count(palgwern_tables_placements(&tables, forged, UINT32_MAX - 1, numbers), 1));
 }
@@ -773,6 +774,65 @@ static void counts_of_panel(void) {
     CHECK(palgwern_line_record(counts, 28).place == 70 && palgwern_line_record(counts, 29).found == 0);
 }
 
+/* A cell of forged tables: two placements, the column end and the row end as they are written, and its line. */
+static void forge_cell(palgwern_tables *t, uint32_t cell, uint64_t column, uint64_t row, uint64_t line) {
+    uint64_t *placements = t->words + PALGWERN_PLACEMENTS_START, *halves = placements + 4 * cell;
+    memset(halves, 0, 4 * sizeof *halves);
+    halves[0] = column | (uint64_t)(2 + PALGWERN_COLUMNS) << 56;
+    halves[2] = row | (uint64_t)(2 + PALGWERN_ROWS) << 56;
+    placements[4 * PALGWERN_PLACEMENTS + cell] = line;
+}
+
+static int is_land(uint64_t word, uint32_t c1, uint32_t c2, uint32_t r1, uint32_t r2) {
+    return palgwern_land_column_start(word) == c1 && palgwern_land_column_end(word) == c2 && palgwern_land_row_start(word) == r1
+        && palgwern_land_row_end(word) == r2;
+}
+
+static int is_cells(palgwern_cells_answer a, uint32_t number, uint32_t line, uint32_t count) {
+    return a.number == number && a.line == line && a.count == count;
+}
+
+/* Cells of forged tables, for a span of two, and for a column line 1: the last one lands behind the hole in sparse packing alone. */
+static palgwern_tables forged;
+static palgwern_grid forged_grid;
+static uint64_t lands[PALGWERN_CELLS];
+
+static void cells(void) {
+    const uint64_t automatic = 0, two = 3 + (32768 + 2) * 8, first_line = 1 + (32768 + 1) * 8;
+    uint64_t untouched[PALGWERN_CELLS];
+    palgwern_grid g = palgwern_tables_read(&forged, "", 0).panel.grid;
+    memset(untouched, 0xa5, sizeof untouched);
+    memcpy(lands, untouched, sizeof lands);
+    CHECK(is_cells(palgwern_tables_cells(&forged, g, PALGWERN_SPARSE, lands), 0, 0, 0));
+    CHECK(is_cells(palgwern_tables_cells(&forged, g, 2, lands), PALGWERN_COUNT, 0, 0));
+    g.columns.size.explicit_count = 3;
+    g.placements = 8;
+    g.cells = 4;
+    forge_cell(&forged, 0, two, automatic, 5);
+    forge_cell(&forged, 1, two, automatic, 6);
+    forge_cell(&forged, 2, automatic, automatic, 7);
+    forge_cell(&forged, 3, automatic, automatic, 9);
+    CHECK(is_cells(palgwern_tables_cells(&forged, g, PALGWERN_SPARSE, lands), 0, 0, 4));
+    CHECK(is_land(lands[0], 1, 3, 1, 2) && is_land(lands[1], 1, 3, 2, 3) && is_land(lands[2], 3, 4, 2, 3) && is_land(lands[3], 1, 2, 3, 4));
+    CHECK(!memcmp(lands + 4, untouched, sizeof lands - 4 * sizeof *lands));
+    CHECK(is_cells(palgwern_tables_cells(&forged, g, PALGWERN_DENSE, lands), 0, 0, 4));
+    CHECK(is_land(lands[0], 1, 3, 1, 2) && is_land(lands[1], 1, 3, 2, 3) && is_land(lands[2], 3, 4, 1, 2) && is_land(lands[3], 3, 4, 2, 3));
+    forge_cell(&forged, 3, first_line, first_line, 9);
+    CHECK(is_cells(palgwern_tables_cells(&forged, g, PALGWERN_SPARSE, lands), 0, 0, 4));
+    CHECK(is_land(lands[3], 1, 2, 1, 2) && is_land(lands[0], 2, 4, 1, 2));
+    memcpy(lands, untouched, sizeof lands);
+    forged_grid = g;
+    g.columns.size.explicit_count = 1;
+    CHECK(is_cells(palgwern_tables_cells(&forged, g, PALGWERN_SPARSE, lands), PALGWERN_UNPLACED, 5, 0));
+    g.columns.size.explicit_count = 0;
+    CHECK(is_cells(palgwern_tables_cells(&forged, g, PALGWERN_SPARSE, lands), PALGWERN_UNPLACED, 9, 0));
+    CHECK(is_cells(palgwern_place_cells(g, forged.words, forged.bytes, forged.columnstore, PALGWERN_STORE_BYTES, forged.rowstore,
+        PALGWERN_STORE_BYTES - 1, PALGWERN_SPARSE, lands), PALGWERN_SHORT, 0, 0));
+    g.rows.size.explicit_count = PALGWERN_TRACKS + 1;
+    CHECK(is_cells(palgwern_tables_cells(&forged, g, PALGWERN_SPARSE, lands), PALGWERN_COUNT, 0, 0));
+    CHECK(!memcmp(lands, untouched, sizeof lands));
+}
+
 /* The calls, one for each number. */
 static void *call(void *number) {
     switch (*(int *)number) {
@@ -801,6 +861,7 @@ static void *call(void *number) {
     case 22: palgwern_tables_size_at(&tables, panel, 0, 0); break;
     case 23: palgwern_tables_drawn_area(&tables, panel.grid, 0, "gamma", 5); break;
     case 24: palgwern_tables_named_area(&tables, panel.grid, 0, "gamma", 5); break;
+    case 25: palgwern_tables_cells(&forged, forged_grid, PALGWERN_DENSE, lands); break;
     }
     return NULL;
 }
@@ -825,8 +886,8 @@ static void stacks(void) {
         "resolve_placement", "line_name", "records", "resolve_placements", "line_names", "display_sheet", "nearest_line",
         "placements_within", "placements_around", "least_resize", "into_origin_zero_line", "into_grid_line", "next_track",
         "previous_line", "line_record", "layout", "size_at",
-        "drawn_area", "named_area"};
-    static const size_t kibibytes[] = {0, 448, 48, 48, 48, 48, 48, 48, 48, 160, 160, 448, 48, 160, 160, 48, 48, 48, 48, 48, 48, 48, 48, 48, 48};
+        "drawn_area", "named_area", "place_cells"};
+    static const size_t kibibytes[] = {0, 448, 48, 48, 48, 48, 48, 48, 48, 160, 160, 448, 48, 160, 160, 48, 48, 48, 48, 48, 48, 48, 48, 48, 48, 160};
     size_t none = stack_of(0);
     printf("stack in bytes:");
     for (size_t i = 1; i < sizeof names / sizeof *names; i++) {
@@ -856,6 +917,7 @@ int main(int count, char **words) {
     entries();
     placements();
     line_names(PALGWERN_ROWS);
+    cells();
     stacks();
     resizes();
     sizes();

@@ -32,13 +32,13 @@ fn every_field() {
     let (columns, rows) = (values(grid.columns, room.columns), values(grid.rows, room.rows));
     assert_eq!(columns, [1, 0x4407_0000, 0, 0x1_3c23_d70a, 3, 4, 7, 8, 5, 22, 9, 20, 6, 13, 10]);
     assert_eq!(rows, [0, 0, 1, 0x4000_0000, 2, 3, 6, 10, 4, 11, 0, 9, 5, 14, 8]);
-    assert_eq!((grid.areas, grid.placements, room.areabytes, room.placementbytes), (3, 2, 11, 12));
+    assert_eq!((grid.areas, grid.placements, grid.cells, room.areabytes, room.placementbytes), (3, 2, 0, 11, 12));
     let pairs: Vec<(u64, u64)> = columns.into_iter().zip(rows).collect();
     assert_different(&pairs);
     assert!(pairs.iter().all(|(in_columns, in_rows)| in_columns != in_rows));
     assert_eq!(panel.grid(), grid);
     assert_eq!((std::mem::offset_of!(AxisSpace, gap), std::mem::offset_of!(AxisGrid, size)), (16, 48));
-    assert_eq!((std::mem::offset_of!(Grid, areas), std::mem::offset_of!(State, room)), (112, 120));
+    assert_eq!((std::mem::offset_of!(Grid, areas), std::mem::offset_of!(State, room)), (112, 128));
     assert_eq!(std::mem::offset_of!(raw::PanelAnswer, panel), 8);
     assert_eq!((std::mem::offset_of!(raw::SheetAnswer, panel), std::mem::offset_of!(raw::DisplayAnswer, grid)), (16, 16));
     assert_eq!(std::mem::offset_of!(raw::CountAnswer, count), 8);
@@ -51,8 +51,8 @@ fn answers() {
     assert_eq!(panel.size(Axis::Rows), AxisSize { repetitions: 0, explicit: 9 });
     assert_eq!((panel.lists(Axis::Columns), panel.lists(Axis::Rows)), (21, 10));
     assert_eq!((panel.record_count(Axis::Columns), panel.record_count(Axis::Rows)), (71, 51));
-    assert_eq!(panel.placement(0), Ok(Placement { axis: Axis::Columns, start: End::Line(5), end: End::Span(6), startheld: false, endheld: false }));
-    assert_eq!(panel.placement(1), Ok(Placement { axis: Axis::Rows, start: End::Line(-3), end: End::Line(12), startheld: false, endheld: false }));
+    assert_eq!(panel.placement(0), Ok(Placement { axis: Axis::Columns, cell: false, start: End::Line(5), end: End::Span(6), startheld: false, endheld: false }));
+    assert_eq!(panel.placement(1), Ok(Placement { axis: Axis::Rows, cell: false, start: End::Line(-3), end: End::Line(12), startheld: false, endheld: false }));
     assert!(panel.resolved().eq([panel.placement(0).unwrap(), panel.placement(1).unwrap()]));
     let mut run = [7; PLACEMENT_RUN];
     assert_eq!((panel.write_placements(1, &mut run), &run[..9]), (Ok(1), &[0, 1, 1, -3, 1, 12, 0, 0, 7][..]));
@@ -250,8 +250,8 @@ fn entries() {
 #[test]
 fn marks() {
     let panel = Panel::read(b"place\tr\tline\t-\t10002\tspan\t-\t9\nplace\tc\tspan\t-\t7\tline\t-\t-10002\n").unwrap();
-    let first = Placement { axis: Axis::Rows, start: End::Line(10002), end: End::Span(9), startheld: true, endheld: false };
-    let second = Placement { axis: Axis::Columns, start: End::Span(7), end: End::Line(-10002), startheld: false, endheld: true };
+    let first = Placement { axis: Axis::Rows, cell: false, start: End::Line(10002), end: End::Span(9), startheld: true, endheld: false };
+    let second = Placement { axis: Axis::Columns, cell: false, start: End::Span(7), end: End::Line(-10002), startheld: false, endheld: true };
     assert!(panel.resolved().eq([first, second]));
     assert_eq!((panel.placement(0), panel.placement(1)), (Ok(first), Ok(second)));
 }
@@ -278,6 +278,13 @@ fn lists() {
     let other = Panel::read(LAYOUT).unwrap();
     assert_eq!(other.within(Axis::Columns, 0.0, 1.0).err(), refusal(Word::Indefinite, 0));
     assert_eq!(other.around(Axis::Rows, 1).err(), refusal(Word::Indefinite, 0));
+}
+
+#[test]
+fn cells() {
+    let panel = Panel::read(POSITIONS).unwrap();
+    assert_eq!((panel.place_cells(Packing::Sparse), panel.place_cells(Packing::Dense)), (Ok(vec![]), Ok(vec![])));
+    assert_eq!(Land::of(0x2711_0003_0002_0001), Land { columns: [1, 2], rows: [3, 10_001] });
 }
 
 /// A sheet of columns with a fill of one track, `kind` its kind and `bits` those of its size.

@@ -1,6 +1,6 @@
 //! What the library answers of a panel, as warnings and pictures ask for it.
 use crate::sheet::{AxisSheet, Place, Sheet, AXES};
-use palgwern::{Answers, Axis, Display, End, Panel, Placement, Record, Refusal, Word};
+use palgwern::{Answers, Axis, Display, End, Packing, Panel, Placement, Record, Refusal, Word};
 
 /// The lines of an axis by their places: 0 is the first explicit line.
 #[derive(Clone, Copy)]
@@ -63,6 +63,8 @@ pub struct Answer {
     pub sheet: Sheet,
     pub axes: [AxisAnswer; 2],
     pub placements: Vec<Placement>,
+    /// The refusal of the first cell that has no place.
+    pub unplaced: Option<Refusal>,
 }
 
 impl Answer {
@@ -81,7 +83,8 @@ impl Answer {
 
     fn of(answers: &Answers, sheet: Sheet) -> Answer {
         let axes = AXES.map(|axis| axis_answer(answers, axis, &sheet.axes[axis as usize]));
-        Answer { sheet, axes, placements: answers.resolved().collect() }
+        let placements = answers.resolved().filter(|placement| !placement.cell).collect();
+        Answer { sheet, axes, placements, unplaced: answers.place_cells(Packing::Sparse).err() }
     }
 
     pub fn axis(&self, axis: Axis) -> &AxisAnswer {

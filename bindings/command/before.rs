@@ -63,7 +63,7 @@ impl Before {
     pub fn add(&mut self, line: &Line) {
         self.areas.extend(area_of(line));
         self.picture.extend(row_of(line));
-        self.placements += usize::from(line.word() == b"place");
+        self.placements += usize::from(matches!(line.word(), b"place" | b"cell"));
         if self.latest.as_ref().is_none_or(|(_, word)| order_of(word) < order_of(line.word())) {
             self.latest = Some((line.number, line.word().to_vec()));
         }
@@ -153,7 +153,7 @@ impl Before {
         match line.word() {
             b"area" => return full(self.areas.len(), limits::AREAS, "drawn areas"),
             b"row" => return self.crowded_row(line),
-            b"place" => return full(self.placements, limits::PLACEMENTS, "placements"),
+            b"place" | b"cell" => return full(self.placements, limits::PLACEMENTS, "placements and cells"),
             _ => {}
         }
         let axis = &self.axes[axis_of(line)?];

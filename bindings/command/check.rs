@@ -9,6 +9,7 @@ use crate::warnings;
 pub fn report(sheet: &[u8]) -> (Vec<String>, bool) {
     match Answer::read(sheet) {
         Err(refusal) => (vec![faults::words(sheet, refusal)], false),
+        Ok(Answer { unplaced: Some(refusal), .. }) => (vec![faults::words(sheet, refusal)], false),
         Ok(answer) => {
             let mut lines = vec![accepted(&answer)];
             lines.extend(warnings::of(&answer).iter().map(warnings::Warning::text));
@@ -20,5 +21,9 @@ pub fn report(sheet: &[u8]) -> (Vec<String>, bool) {
 /// What the panel has, in a line.
 fn accepted(answer: &Answer) -> String {
     let [columns, rows] = AXES.map(|axis| answer.axis(axis).records.len() / 2);
-    format!("accepted: {}, {}, {}", counted(columns, "column"), counted(rows, "row"), counted(answer.placements.len(), "placement"))
+    let cells = match answer.sheet.cells.len() {
+        0 => String::new(),
+        count => format!(", {}", counted(count, "cell")),
+    };
+    format!("accepted: {}, {}, {}{cells}", counted(columns, "column"), counted(rows, "row"), counted(answer.placements.len(), "placement"))
 }

@@ -17,6 +17,9 @@ fn words(axis: Axis) -> (&'static str, &'static str) {
 
 /// The CSS of a sheet, or a line and what CSS can't say.
 pub fn write(sheet: &Sheet) -> Result<String, Wrong> {
+    if let Some(&line) = sheet.cells.first() {
+        return Err((line, "a cell is placed by the panel, and has no rule here".to_string()));
+    }
     let mut lines = vec!["display: grid".to_string()];
     lines.extend(AXES.iter().filter_map(|&axis| inner_size(sheet.axis(axis), words(axis).1)));
     for axis in AXES {

@@ -29,7 +29,8 @@ pub fn fault(fields: &[&[u8]], at: usize, form: Field) -> Option<Fault> {
         Field::Times => times(text),
         Field::EndName if matches!(fields[at - 1], b"named" | b"nspan") => name(text),
         Field::EndName => unused(text, "-", fields[at - 1]),
-        Field::EndNumber => match fields[at - 2] {
+        Field::CellNumber if fields[at - 2] == b"span" => whole_number(text, 1, limits::CELL_SPAN),
+        Field::EndNumber | Field::CellNumber => match fields[at - 2] {
             b"line" | b"named" => whole_number(text, -limits::INDEX - 1, limits::INDEX),
             b"span" | b"nspan" => whole_number(text, 0, limits::REPEATS),
             kind => unused(text, "0", kind),

@@ -21,6 +21,8 @@ pub enum Field {
     EndName,
     /// The number of a placement's end, by the kind two fields before it.
     EndNumber,
+    /// The same of a cell's end.
+    CellNumber,
 }
 use Field::*;
 
@@ -83,6 +85,23 @@ pub const FORMS: &[Form] = &[
             ("end kind", Word(END_KINDS)),
             ("end name", EndName),
             ("end number", EndNumber),
+        ],
+    },
+    Form {
+        word: "cell",
+        fields: &[
+            ("column start kind", Word(END_KINDS)),
+            ("column start name", EndName),
+            ("column start number", CellNumber),
+            ("column end kind", Word(END_KINDS)),
+            ("column end name", EndName),
+            ("column end number", CellNumber),
+            ("row start kind", Word(END_KINDS)),
+            ("row start name", EndName),
+            ("row start number", CellNumber),
+            ("row end kind", Word(END_KINDS)),
+            ("row end name", EndName),
+            ("row end number", CellNumber),
         ],
     },
 ];

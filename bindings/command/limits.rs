@@ -8,7 +8,10 @@ pub const SPARES: usize = 64;
 pub const AREAS: usize = 64;
 /// The most words of a row of a picture.
 pub const ROW_WORDS: usize = 10_000;
+/// Placements and cells together.
 pub const PLACEMENTS: usize = 256;
+/// The most tracks that a plain span of a cell has.
+pub const CELL_SPAN: i64 = 32;
 pub const ENTRIES: usize = palgwern::ENTRIES;
 /// The most explicit tracks of an axis, and the most of each implicit count.
 pub const TRACKS: i64 = 10_000;

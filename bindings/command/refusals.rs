@@ -16,6 +16,7 @@ const REFUSALS: &[(u32, &str, &str)] = &[
     (12, "overlap", "two areas share a cell"),
     (13, "unequal", "a row of a picture is not as wide as its first one"),
     (14, "broken", "the cells of a name in a picture form no filled rectangle"),
+    (15, "unplaced", "a cell has no place in the grid"),
 ];
 
 /// The word of a number.

@@ -77,6 +77,8 @@ pub struct Sheet {
     pub picture: Vec<Row>,
     pub areas: Vec<Area>,
     pub places: Vec<Place>,
+    /// The lines of its cells.
+    pub cells: Vec<usize>,
 }
 
 impl AxisSheet {
@@ -135,7 +137,7 @@ impl Written {
 
 impl Sheet {
     pub fn empty() -> Sheet {
-        Sheet { axes: [AxisSheet::empty(), AxisSheet::empty()], picture: vec![], areas: vec![], places: vec![] }
+        Sheet { axes: [AxisSheet::empty(), AxisSheet::empty()], picture: vec![], areas: vec![], places: vec![], cells: vec![] }
     }
 
     pub fn axis(&self, axis: Axis) -> &AxisSheet {

@@ -70,6 +70,10 @@ impl Reader {
             self.sheet.picture.push(Row { line: number, words: fields[1..].iter().map(|field| name_of(field)).collect() });
             return Some(());
         }
+        if fields[0] == b"cell" {
+            self.sheet.cells.push(number);
+            return Some(());
+        }
         let axis = match *fields.get(1)? {
             b"c" => Axis::Columns,
             b"r" => Axis::Rows,

@@ -11,6 +11,8 @@ class Answered:
         self.records = {letter: [] for letter in LETTERS}
         self.placements = []
         self.names = {letter: [] for letter in LETTERS}
+        # Where the cells land: column lines, row lines; packed densely only where it was asked.
+        self.sparse, self.dense = [], None
         for line in lines:
             self.read(line.split("\t"))
 
@@ -23,6 +25,11 @@ class Answered:
             self.records[self.at].append((fields[2] == "y", Track(low, high)))
         elif fields[0] == "place":
             self.placements.append((fields[1], (fields[2], int(fields[3])), (fields[4], int(fields[5]))))
+        elif fields[0] == "cell":
+            self.sparse.append(tuple(map(int, fields[1:])))
+        elif fields[0] == "cells":
+            numbers = list(map(int, fields[1:]))
+            self.dense = [tuple(numbers[at:at + 4]) for at in range(0, len(numbers), 4)]
         elif fields[0] == "names":
             self.names[fields[1]].append(fields[3:])
 

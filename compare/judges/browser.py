@@ -9,6 +9,7 @@ import browser_smallest
 import browsers
 import build
 import comparable
+import questions
 from asked import Asked
 from browser_compare import compare
 from browser_planted import plant
@@ -48,7 +49,9 @@ class Answers:
 
     def lines(self, sheet, calls):
         """The lines of the answer, and the difference between the two where both are asked."""
-        answers = [one.sheet_answer(sheet, calls) for one in self.judged]
+        state = Answer(sheet, calls).state
+        rows = questions.browser_rows(state) if state else []
+        answers = [one.sheet_answer(sheet, calls, rows) if isinstance(one, Library) else one.sheet_answer(sheet, calls) for one in self.judged]
         return answers[-1], (program_difference(*answers, calls) if len(answers) == 2 else None)
 
     def made(self, made):
@@ -63,7 +66,7 @@ class Answers:
 
 def program_difference(program, library, calls):
     """The program makes no entry: with calls its sizes and records alone are the library's."""
-    words = ("size",) if calls else ("size", "place", "refused")
+    words = ("size",) if calls else ("size", "place", "cell\t", "refused")
     both = ([line for line in lines if line[:1].isdigit() or line.startswith(words)] for lines in (program, library))
     for own, other in itertools.zip_longest(*both):
         if own != other:

@@ -19,7 +19,7 @@ def drawings(asked):
     for letter in LETTERS:
         way = drawing.way_of(asked, letter)
         drawn += [drawing.tracks_drawing(asked, letter, way), drawing.records_drawing(asked, letter, way)]
-    return drawn
+    return drawn + [drawing.cells_drawing(asked, packing) for packing in drawing.packings(asked)]
 
 
 def findings(asked, shown, with_names):
@@ -31,6 +31,8 @@ def findings(asked, shown, with_names):
     found = seen.line_findings(asked, shown[0], with_names)
     for place, letter in enumerate(LETTERS):
         found += seen.track_findings(asked, letter, drawing.way_of(asked, letter), *shown[1 + 2 * place:3 + 2 * place])
+    for packing, cells in zip(drawing.packings(asked), shown[1 + 2 * len(LETTERS):]):
+        found += seen.cell_findings(asked, packing, cells)
     return found
 
 

@@ -3,6 +3,7 @@ from dataclasses import replace
 
 import css
 import exact_repeats
+import placing
 from answered import in_order
 from exact_repeats import CHROMIUM_UNIT
 
@@ -112,12 +113,63 @@ def firefox_holds_count(asked, finding):
     return finding.seen == min(tracks, FIREFOX_LINES[1] - 1)
 
 
+# Cells.
+
+def row_after(row, placed):
+    """The row that Chromium goes on to where a row has no place for a cell: past the first end of an item that began above that row, though
+    one that begins in it may end before."""
+    ends = [area.row_end for area in placed if area.row < row < area.row_end]
+    return min(ends, default=row + 1)
+
+
+def in_row(grid, item, column, row):
+    """Where a cell lies in a row, from a column on or in its own columns, None where there is no room."""
+    if not item.columns.lines:
+        return grid.along(column, item, row)
+    area = placing.Area(*item.columns.lines, row, row + item.rows.span)
+    return None if grid.in_way(area) else area
+
+
+def passing_over(grid, item, column, row):
+    """Where Chromium puts a cell without a row, from a cursor on, going on from row to row in this way."""
+    if item.columns.lines and item.columns.lines[0] < column:
+        row += 1
+    area = None
+    while area is None and row + item.rows.span <= placing.LAST_ROW_LINE:
+        area = in_row(grid, item, column, row)
+        column, row = 1, row_after(row, grid.placed)
+    return area
+
+
+def chromium_passes_over_rows(packing):
+    """A test of cells: each, in placing order, lies where CSS puts it beside what Chromium placed before, or where it lies by passing over
+    rows, and some cell lies there."""
+    def test(asked, finding):
+        items = asked.state.items()
+        shown = dict(zip(map(id, items), (placing.Area(*map(int, box)) for box in finding.seen)))
+        grid, passed = placing.Placing(asked.answered.explicit["c"], packing), 0
+        for place, item in placing.steps(items):
+            cursor = (grid.column, grid.row) if packing == placing.SPARSE else (1, 1)
+            seen = shown[id(item)]
+            if place(grid, item) != seen:
+                if item.rows.lines or passing_over(grid, item, *cursor) != seen:
+                    return False
+                passed += 1
+            if not item.rows.lines:
+                grid.column, grid.row = seen.column, seen.row
+            grid.placed.append(seen)
+        return passed > 0
+    return test
+
+
 # Each: its name, the browser, the question that it is about, and the test.
 OWN = [
     ("Chromium shares out space in 1/64 px", "Chromium", "track sizes", chromium_shares),
     ("Chromium shares out space in 1/64 px", "Chromium", "track places", chromium_shares_before),
     ("Chromium cuts a quotient to 1/64 before it rounds it up", "Chromium", "repetitions", off_exact(exact_repeats.by_cut_quotient)),
     ("Chromium cuts lengths to 1/64 px", "Chromium", "repetitions", off_exact(exact_repeats.by_chromium)),
+    ("Chromium passes over free rows", "Chromium", "sparse cells", chromium_passes_over_rows(placing.SPARSE)),
+    ("Chromium passes over free rows", "Chromium", "dense cells", chromium_passes_over_rows(placing.DENSE)),
     ("Firefox rounds lengths to 1/60 px", "Firefox", "repetitions", off_exact(exact_repeats.by_firefox)),
     ("Firefox counts back from before an area's edge past the template", "Firefox", "placement", off_css(unheld, unheld)),
     ("Firefox holds numbers and lines to 10,000", "Firefox", "placement", off_css(number_held, line_held)),

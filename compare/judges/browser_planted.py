@@ -1,6 +1,7 @@
 """Plants wrong readings in the model's answers and in the drawings, one at a time, and shows that each browser finds each."""
 import comparable
 import model
+import questions
 import wrong
 from asked import Asked
 from browser_compare import compare
@@ -13,7 +14,8 @@ FEW = 100
 def modelled(number, made):
     """A panel with the model's answer."""
     answer = model.Answer(*made[:2])
-    return Asked(number, made, answer.full_answer() + ([] if answer.refused else model.count_lines(answer.state)))
+    more = [] if answer.refused else model.count_lines(answer.state) + questions.answer_lines(answer.state, questions.browser_rows(answer.state))
+    return Asked(number, made, answer.full_answer() + more)
 
 
 def first_found(reading, made, drawn_by, finders):

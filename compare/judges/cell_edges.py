@@ -56,6 +56,7 @@ def edges():
     yield both("of two spans the start's", columns(5) + [cell("span 2 / span 4", "1")], ["1 3 1 2"])
     yield both("two named spans", columns(5) + [cell("span x 3 / span y 4", "span x 2 / span 3")], ["1 2 1 2"])
     yield both("a span before a named span", columns(5) + [cell("span 3 / span y 4", "1")], ["1 4 1 2"])
+    yield both("a named span before a span", columns(5) + [cell("span y 4 / span 3", "1")], ["1 2 1 2"])
     yield both("a line and a span", columns(5) + three_rows() + [cell("2 / span 3", "span 2 / 4")], ["2 5 2 4"])
     yield both("a line alone", columns(3) + [cell("2", "3")], ["2 3 3 4"])
     yield both("an end alone", columns(3) + [cell("auto / 3", "auto / 4")], ["2 3 3 4"])
@@ -64,6 +65,7 @@ def edges():
     yield both("line 0 counts as auto", columns(2) + [cell("1", "1"), cell("0", "0 / 0"), cell("0 / span 2", "1")], 5)
     yield "line 0 and a span", columns(2) + [cell("1", "1"), cell("0 / span 2", "0"), cell("span 1 / 0")], \
         ["1 2 1 2", "1 3 2 3", "1 2 3 4"], ["1 2 1 2", "1 3 2 3", "2 3 1 2"]
+    yield both("line 0 alone", columns(1) + [cell("0", "0")], ["1 2 1 2"])
     yield both("line 0 beside a line", columns(3) + [cell("0 / 3", "2 / 0")], ["2 3 2 3"])
     yield both("a named span beside line 0", columns(3) + [cell("0 / span x 2", "1")], ["1 2 1 2"])
     # Edges and rectangles outside.
@@ -108,6 +110,7 @@ def edges():
     yield "tall cells", columns(2) + [cell(AUTO, "span 2"), cell(), cell("span 2"), cell()], ["1 2 1 3", "2 3 1 2", "1 3 3 4", "1 2 4 5"], ["1 2 1 3", "2 3 1 2", "1 3 3 4", "2 3 2 3"]
     yield both("the last column and row are used", columns(2) + three_rows() + [cell("-2", "-2"), cell("1", "3"), cell("2", "1")], ["2 3 3 4", "1 2 3 4", "2 3 1 2"])
     yield "the first in placing order", columns(2) + [cell("span 3"), cell("1", "-2"), cell("3", "1")], 4, 4
+    yield both("a column outside in its own turn", columns(2) + [cell("4"), cell("span 3", "1")], 4)
     yield both("a refused one after others", columns(2) + [cell(), cell("span 3"), cell()], 4)
     # Beside all else.
     yield both("by areas", ["area\ta\t2\t4\t2\t3", cell("a / a", "a / a"), cell(), cell()], ["2 3 2 4", "1 2 1 2", "2 3 1 2"])

@@ -3,6 +3,7 @@
 They meet the third demand's conditions, but that a template may be invalid, and CSS can write them (`drawable`)."""
 from dataclasses import dataclass
 
+import areas
 import binary32
 import css
 import damage
@@ -10,6 +11,7 @@ import exact_repeats
 import maker
 import model
 import pictures
+import placing
 import reader
 import rules
 from answered import position_of
@@ -158,6 +160,27 @@ class Comparable(maker.Maker):
             rows[self.random.randrange(len(rows))].append(self.pick([".", "a"]))
         return pictures.lines(rows)
 
+    def cell_side(self, tracks, lines):
+        """Ends of a cell that CSS can write and that stay within the tracks."""
+        span = f"span\t-\t{min(tracks, self.pick([1, 1, 1, 2, 2, 3]))}"
+        if not self.chance(lines):
+            return self.pick(["auto\t-\t0\tauto\t-\t0", "auto\t-\t0\tauto\t-\t0", f"auto\t-\t0\t{span}", f"{span}\tauto\t-\t0", f"{span}\tspan\t-\t2"])
+        start = self.random.randint(1, tracks)
+        end = self.random.randint(1, tracks + 1)
+        line = f"line\t-\t{start}"
+        return self.pick([f"{line}\tauto\t-\t0", f"{line}\tline\t-\t{end}", f"{line}\tspan\t-\t{self.random.randint(1, tracks + 1 - start)}"])
+
+    def cells(self):
+        """Cells in a few columns, by tracks or by areas, none of which leaves them."""
+        columns = self.pick([1, 2, 3, 3, 4, 5, 6, 8])
+        lines = [areas.line("a", (1, 3, columns, columns + 1))] if self.chance(0.3) else [f"track\tc\t{self.track(False)}"] * columns
+        lines += [f"track\tr\t{self.track(False)}"] * self.below(4)
+        shares = self.pick([(0, 0), (0.3, 0.0), (0.0, 0.3), (0.2, 0.2), (0.4, 0.4)])
+        cells = [f"cell\t{self.cell_side(columns, shares[0])}\t{self.cell_side(4, shares[1])}" for _ in range(self.pick([2, 4, 8, 12, 20]))]
+        if lines[0].startswith("area"):
+            cells.append("cell" + "\tnamed\ta\t0" * 4)
+        return lines + cells
+
     def invalid(self):
         """A template that CSS drops on one axis or both, beside areas, names, placements and, where areas make tracks, entries."""
         letters = self.pick(["c", "r", "cr"])
@@ -261,6 +284,14 @@ def is_unheld(state, placement):
         and all(position is None or abs(position) < FAR for position in lines.resolve(placement))
 
 
+def all_placed(state):
+    """Whether every cell has a place by either packing."""
+    try:
+        return all(state.lands(packing) is not None for packing in (placing.SPARSE, placing.DENSE))
+    except placing.Unplaced:
+        return False
+
+
 def all_unheld(state):
     return all(is_unheld(state, placement) for placement in state.panel.placements)
 
@@ -280,6 +311,7 @@ FAMILIES = {
     "invalid": Family(60, [as_css, some_invalid]),
     "picture": Family(60, [as_css]),
     BROKEN: Family(60, []),
+    "cells": Family(80, [as_css, all_placed]),
     "fine": Family(50, [as_css, exact_in_one]),
     "far": Family(8, [as_css, all_unheld]),
     "many": Family(2, [as_css, all_unheld], FAR),

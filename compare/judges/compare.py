@@ -3,8 +3,10 @@ import re
 from dataclasses import replace
 
 import css
+import css_cells
 import exact_cursor
 import model
+import placing
 import questions
 import reader
 import resize
@@ -30,9 +32,19 @@ def without_templates(sheet, letters):
     return b"\n".join(line for line in sheet.split(b"\n") if tuple(line.split(b"\t")[:2]) not in dropped)
 
 
+def as_placements(line):
+    """A `cell` line as the two placements whose settled fields are the cell's; another line as it is."""
+    fields = line.split(b"\t")
+    if fields[0] != b"cell":
+        return [line]
+    return [b"\t".join([b"place", b"c", *fields[1:7]]), b"\t".join([b"place", b"r", *fields[7:]])]
+
+
 def asked_of_the_rust(sheet, panel):
-    """The Rust half uses an invalid template: it is asked without the template lines of such an axis."""
-    return without_templates(sheet, invalid_letters(panel))
+    """The Rust half uses an invalid template: it is asked without the template lines of such an axis. It has no cells to place here: it
+    is asked their settled fields, as those of placements."""
+    lines = without_templates(sheet, invalid_letters(panel)).split(b"\n")
+    return b"\n".join(other for line in lines for other in as_placements(line))
 
 
 class Rust(Batch):
@@ -279,6 +291,24 @@ def css_repetitions(axis):
     return None
 
 
+def css_cells_of(state, packing):
+    """Where the cells land against a search over all rectangles on a map of cells, where the grid is small; and no automatic one shares
+    a cell with another, where it is not."""
+    try:
+        areas = [(area.column, area.column_end, area.row, area.row_end) for area in state.lands(packing)]
+        own = "at", areas
+    except placing.Unplaced as unplaced:
+        own = "refused", state.panel.cells.index(unplaced.line)
+    settled = state.settled_cells()
+    found = css_cells.placed(settled, state.explicit["c"], state.explicit, packing == placing.DENSE)
+    if found is not None and found != own:
+        return f"CSS: cells placed {packing}: {found}, model {own}"
+    automatic = [any(css_cells.extent(ends, state.explicit[letter])[0] == "over" for letter, ends in zip("cr", both)) for both in settled]
+    if own[0] == "at" and not css_cells.apart(own[1], automatic):
+        return f"CSS: cells placed {packing} share a cell: {own[1]}"
+    return None
+
+
 def css_differences(state):
     """Every comparison with CSS's counting that applies, and whether the third demand's does."""
     differences = [css_repetitions(state.panel.axes[letter]) for letter in model.LETTERS]
@@ -289,6 +319,8 @@ def css_differences(state):
                     for letter in model.LETTERS]
     differences += [css_sources(state, letter, state.records[letter]) for letter in model.LETTERS]
     differences.append(css_pair(state))
+    if state.panel.cells:
+        differences += [css_cells_of(state, packing) for packing in (placing.SPARSE, placing.DENSE)]
     demand = demand_lines(state)
     if demand is None:
         return differences, False
@@ -352,17 +384,18 @@ def calls_difference(answer, sheet, lines):
 
 def compare_accepted(answer, rust, sheet):
     state = answer.state
-    # The Rust has neither sources nor marks.
-    full = list(map(rules.bare, answer.output)) + answer.names + model.count_lines(state)
+    # The Rust has neither sources nor marks, and of cells their settled fields alone.
+    full = list(map(rules.bare, model.sheet_lines(state, state.panel.placements))) + answer.names + model.count_lines(state)
     lines = rust.ask(asked_of_the_rust(sheet, state.panel), state.accepted)
     differences = [first_difference("Rust", full, lines)]
     if not differences[0]:
         differences.append(calls_difference(answer, sheet, lines))
     rows = questions.made(sheet, state)
-    differences.append(exact_cursor.difference(state, answer.output, rows, questions.answer_lines(state, rows)))
+    differences.append(exact_cursor.difference(state, model.sheet_lines(state), rows, questions.answer_lines(state, rows)))
     differences.append(css_picture(state, sheet))
     css_found, demanded = css_differences(state)
-    kind = "accepted" + (", a picture" if state.panel.picture else "") + (", an invalid template" if invalid_letters(state.panel) else "") + (", third demand's conditions hold" if demanded else "")
+    cells = "" if not state.panel.cells else ", cells that have no place" if answer.unplaced else ", cells"
+    kind = "accepted" + cells + (", a picture" if state.panel.picture else "") + (", an invalid template" if invalid_letters(state.panel) else "") + (", third demand's conditions hold" if demanded else "")
     return Comparison(kind, differences + css_found)
 
 
@@ -375,10 +408,11 @@ def without_rows(sheet, calls):
 
 def column_answers(answer):
     """Every answer of a sheet and its calls that is about columns."""
-    own = answer.output
+    own = model.sheet_lines(answer.state)
     rows = next(place for place, line in enumerate(own) if line.startswith("size\tr"))
     numbers = [number for call, number in zip(answer.calls, answer.numbers) if call[0] == "c"]
-    named = own[rows:] + answer.names + answer.marks
+    # Where a cell lands is no column answer; its settled fields are.
+    named = own[rows:] + model.settled_lines(answer.state) + answer.names + answer.marks
     return [f"call {number}" for number in numbers] + own[:rows] + \
         [line for line in named if line.startswith(("place\tc", "names\tc", "held\tc"))]
 
@@ -401,5 +435,5 @@ def any_order(sheet, calls):
         return None
     entries = [(letter, line, name.encode()) for letter, line, name in answer.state.accepted]
     other = model.Answer(sheet, entries[::-1])
-    placed = [model.placement_lines(one.state) + one.marks for one in (answer, other)]
+    placed = [model.placement_lines(one.state) + model.settled_lines(one.state) + one.marks for one in (answer, other)]
     return first_difference("any order", *placed)

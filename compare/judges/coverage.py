@@ -184,7 +184,7 @@ def asked_by(sheet, calls, display):
 def first_cases(rust):
     """For each branch reached, the recorded case that reaches it first."""
     found = {}
-    for file in ("cases", "limits", "areas", "pictures", "entries", "accepted", "large", "refused"):
+    for file in ("cases", "limits", "areas", "pictures", "cells", "entries", "accepted", "large", "refused"):
         for block in blocks(read_list(file)):
             asked = asked_by(block.sheet, [call_of(row) for row in block.rows], block.display)
             if asked is not None:

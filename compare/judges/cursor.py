@@ -100,6 +100,8 @@ def listed(state, letter, axis, is_hit):
     names = state.names(letter)
     hits = []
     for number, placement in enumerate(state.panel.placements):
+        if placement.cell:
+            continue
         lines = own_lines(names.resolve(placement), axis.explicit) if placement.axis == letter else None
         if lines and all(map(axis.has, lines)) and is_hit(*lines):
             hits.append(number)

@@ -34,13 +34,13 @@ def words(*bad):
     return [(1, word) for word in bad]
 
 
-def end_damages(kind):
-    """Damages of the name and number of a placement's end."""
+def end_damages(kind, spans=(0, 65535)):
+    """Damages of the name and number of a placement's end; `spans` is the range of plain ones."""
     name = names() if kind in ("named", "nspan") else words("", "x", "--", "x" * 33)
     if kind in ("line", "named"):
         number = numbers(-32768, 32767)
     elif kind in ("span", "nspan"):
-        number = numbers(0, 65535)
+        number = numbers(*(spans if kind == "span" else (0, 65535)))
     else:
         number = words("1", "", "-0", "00", "65536", "-1")
     return [words("Auto", "", "lines", "fit"), name, number]
@@ -58,6 +58,8 @@ def field_damages(fields):
     if word == "axis":
         inner = words("", "--") + [damage for damage in sizes("len") if damage[1] != "-"]
         return [AXES, inner, words("", "most", "fill"), words("", "fr", "auto"), sizes(fields[4])]
+    if word == "cell":
+        return [damages for at in range(1, 13, 3) for damages in end_damages(fields[at], (1, 32))]
     if word == "row":
         return [names()] * (len(fields) - 1)
     rest = {
@@ -382,14 +384,17 @@ def damage_crowded(random, lines):
     """One more than a limit, at its line; now and then with a lower fault on the same line."""
     letter = random.choice("cr")
     size = "len\t3f800000\tauto\t00000000"
-    way = random.choice(["component", "repeat", "track", "spare", "area", "place"])
+    way = random.choice(["component", "repeat", "track", "spare", "area", "place", "place"])
     if way == "area":
         full = [f"area\t{number}\t{number + 1}\t{number + 2}\t1\t2" for number in range(64)]
         last, number = random.choice([("area\tx\t65\t66\t1\t2", 8), ("area\tx\t1\t2\t1\t2", 12), ("area\t0\t1\t2\t1\t2", 6),
                                       ("area\tx\t1\t1\t1\t2", 5), ("area\tx\t0\t1\t1\t2", 4)])
     elif way == "place":
-        full = ["place\tr\tauto\t-\t0\tspan\t-\t2"] * 256
-        last, number = f"place\t{letter}\tauto\t-\t0\tauto\t-\t0", 8
+        place, cell = f"place\t{letter}\tauto\t-\t0\tspan\t-\t2", "cell" + "\tauto\t-\t0" * 4
+        cells = random.choice([0, 0, 1, 100, 255, 256])
+        full = [cell] * cells + [place] * (256 - cells)
+        random.shuffle(full)
+        last, number = random.choice([(place, 8), (cell, 8), (cell.replace("auto\t-\t0", "span\t-\t33", 1), 4)])
     elif way == "track":
         full = [f"repeat\t{letter}\t2"] + [f"track\t{letter}\t{size}"] * 32
         last, number = random.choice([(f"track\t{letter}\t{size}", 8), (f"track\t{letter}\tlen\t80000000\tauto\t00000000", 3)])

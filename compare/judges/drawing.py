@@ -4,6 +4,8 @@ Lines are drawn with every track one pixel wide, so that an item's box says its 
 as the template has them and once as the panel's records have them, and both have to look the same."""
 import css
 import css_text
+import model
+import placing
 from css_text import OTHER_WAY, PROPERTIES, UNIT
 from rules import grid_line
 
@@ -12,6 +14,7 @@ CONTENT = "ii i"
 # More records than this are not drawn: Firefox has no more tracks.
 MOST_RECORDS = 9999
 AREAS = "grid-template-areas"
+FLOWS = {placing.SPARSE: "row", placing.DENSE: "row dense"}
 
 
 class Drawing:
@@ -74,6 +77,19 @@ def area_style(asked, way):
     return {AREAS: css_text.areas(asked.panel, way)} if asked.panel.areas or asked.panel.picture else {}
 
 
+def cells_drawing(asked, packing):
+    """The cells alone, each an item: the grid has only the explicit columns, and its rows grow."""
+    style = {**unit_axis(asked, "c"), **unit_axis(asked, "r"), **area_style(asked, "columns"), "grid-auto-flow": FLOWS[packing]}
+    items = [{own: css_text.end(end) for half, way in zip(halves, WAYS.values())
+              for own, end in ((PROPERTIES[way]["start"], half.start), (PROPERTIES[way]["end"], half.end))} for halves in asked.state.halves()]
+    return Drawing(style, items)
+
+
+def packings(asked):
+    """Those that are drawn: sparse, and dense where the answer was asked for it."""
+    return [placing.SPARSE] + ([placing.DENSE] if asked.answered.dense is not None else []) if asked.panel.cells else []
+
+
 def picture_drawing(asked):
     """A picture alone, good or broken, as its rows stand in the sheet: a browser has to drop a broken one."""
     return Drawing({AREAS: css_text.picture(asked.rows(), "columns")}, [])
@@ -89,7 +105,7 @@ def lines_drawing(asked):
     style = {**unit_axis(asked, "c"), **unit_axis(asked, "r"), **area_style(asked, "columns")}
     items = [spot("columns", 1), spot("columns", -1), spot("rows", -1)]
     items += [spot(WAYS[one.axis], css_text.end(one.start), css_text.end(one.end), line)
-              for line, one in enumerate(asked.panel.placements, start=1)]
+              for line, one in enumerate(model.written_placements(asked.state), start=1)]
     return Drawing(style, items)
 
 

@@ -66,6 +66,10 @@ def place_line(start, end="auto\t-\t0"):
     return f"place\tc\t{start}\t{end}"
 
 
+def cell_line(columns_start="auto\t-\t0", rows_end="auto\t-\t0"):
+    return f"cell\t{columns_start}\tauto\t-\t0\tauto\t-\t0\t{rows_end}"
+
+
 def just_met_and_passed():
     """Single lines: (name, the line that meets the limit, the line that passes it, its number)."""
     size = lambda kind, bits: f"track\tc\tauto\t00000000\t{kind}\t{bits}"
@@ -93,6 +97,12 @@ def just_met_and_passed():
     yield "index below", place_line("named\tx\t-32768"), place_line("named\tx\t-32769"), 4
     yield "span", place_line("span\t-\t65535"), place_line("span\t-\t65536"), 4
     yield "span below", place_line("span\t-\t0"), place_line("span\t-\t-1"), 4
+    yield "span of a cell's columns", cell_line("span\t-\t32"), cell_line("span\t-\t33"), 4
+    yield "span of a cell's columns below", cell_line("span\t-\t1"), cell_line("span\t-\t0"), 4
+    yield "span of a cell's rows", cell_line(rows_end="span\t-\t32"), cell_line(rows_end="span\t-\t33"), 4
+    yield "named span of a cell", cell_line("nspan\tx\t65535"), cell_line("nspan\tx\t65536"), 4
+    yield "named span of a cell below", cell_line(rows_end="nspan\tx\t0"), cell_line(rows_end="nspan\tx\t-1"), 4
+    yield "line of a cell", cell_line("line\t-\t32767"), cell_line("line\t-\t32768"), 4
     yield "named span", place_line("nspan\tx\t65535", "line\t-\t1"), place_line("nspan\tx\t65536", "line\t-\t1"), 4
     yield "wrapping at 32 bits", "item\tc\t1", "item\tc\t4294967297", 4
     yield "wrapping at 64 bits", "item\tc\t2", "item\tc\t18446744073709551618", 4
@@ -113,6 +123,9 @@ def open_and_closed():
     yield "spares", [f"spare\tr\t{size}"] * 64, f"spare\tr\t{size}", 8
     yield "areas", COLUMN_OF_AREAS, "area\tx\t65\t66\t1\t2", 8
     yield "placements", [place_line("auto\t-\t0")] * 256, place_line("auto\t-\t0"), 8
+    yield "cells", [track] + [cell_line()] * 256, cell_line(), 8
+    yield "cells and placements", [track] + [cell_line(), place_line("auto\t-\t0")] * 128, cell_line(), 8
+    yield "placements and cells", [track] + [place_line("auto\t-\t0")] * 255 + [cell_line()], place_line("auto\t-\t0"), 8
 
 
 def limit_sheets():

@@ -13,8 +13,10 @@ LARGEST_SUM = 2 ** 22  # below it every half is an f32
 class Lines:
     """The places of an axis's lines as exact numbers, None where a record has no whole length."""
 
-    def __init__(self, answered, letter, before):
+    def __init__(self, answered, letter, before, numbers):
         self.answered, self.letter, self.before = answered, letter, before
+        # The numbers of the placements that are printed.
+        self.numbers = numbers
         lengths = [self.length(*record) for record in answered.records[letter]]
         self.known = None not in lengths and sum(lengths) < LARGEST_SUM
         if self.known:
@@ -39,7 +41,7 @@ class Lines:
 
     def items(self):
         """Each placement with both its lines, in order, as numbers from the first line of the grid."""
-        for number, (letter, *ends) in enumerate(self.answered.placements):
+        for number, (letter, *ends) in zip(self.numbers, self.answered.placements):
             if letter != self.letter or any(kind != "line" or line == 0 for kind, line in ends):
                 continue
             start, size = in_order(*(position_of(line, self.answered.explicit[letter]) for _, line in ends))
@@ -60,10 +62,12 @@ class Lines:
 def difference(state, output, rows, answers):
     """What of the answers that are no refusals is not what exact numbers give, None where nothing is."""
     answered = Answered(output)
-    lines = {letter: Lines(answered, letter, state.panel.axes[letter].negative) for letter in answered.records}
+    # A cell is two of the placements, and in no list.
+    numbers = [number for number, placement in enumerate(state.panel.placements) if not placement.cell]
+    lines = {letter: Lines(answered, letter, state.panel.axes[letter].negative, numbers) for letter in answered.records}
     for row, answer in zip(rows, answers):
         word, letter, *fields = row.split("\t")
-        if word == "resize" or answer.startswith("refused") or not lines[letter].known:
+        if word in ("resize", "cells", "settled") or answer.startswith("refused") or not lines[letter].known:
             continue
         exact = getattr(lines[letter], word)(*fields)
         if exact is not None and [word, *exact] != answer.split("\t"):

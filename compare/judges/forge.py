@@ -26,6 +26,7 @@ def main():
         raise build.CannotCompare("no comparison: N has to be at least 1")
     folder = os.path.join(build.COMPARE, "target", "lists")
     lists.write_apart(folder, ("accepted", "entries", "refused"))
+    lists.write_accepted(folder, "cells")
     what = "--planted" if options.planted else "--forge"
     done = subprocess.run([build_library(archive), what, folder, str(options.n), str(options.seed)])
     if done.returncode not in (0, 1):

@@ -8,7 +8,7 @@ import re
 import browser_sheets
 import build
 
-REPLAYED = ("cases", "limits", "areas", "pictures", "short", "entries", "accepted", "refused", "large", "differences", "cursor", "resize", "lines")
+REPLAYED = ("cases", "limits", "areas", "pictures", "cells", "short", "entries", "accepted", "refused", "large", "differences", "cursor", "resize", "lines")
 WRONG = "wrong"  # replayed after them: what is wrong on purpose
 DIFFERENCES = os.path.join(build.REPOSITORY, "docs", "DIFFERENCES.md")
 VECTORS = os.path.join(build.REPOSITORY, "crates", "vectors")
@@ -148,6 +148,14 @@ def write_apart(folder, names):
     for name in names:
         with open(os.path.join(folder, name + ".txt"), "wb") as file:
             file.write(read_list(name))
+
+
+def write_accepted(folder, name):
+    """The sheets of a list that are accepted and not only displayed, without questions, as such a file."""
+    kept = [block for block in blocks(read_list(name)) if not block.display and not block.questions
+            and (not block.lines[-1].startswith("refused") or block.lines[-1].startswith("refused\t15\t"))]
+    with open(os.path.join(folder, name + ".txt"), "wb") as file:
+        file.write(b"".join(block.written(block.name, block.lines) for block in kept))
 
 
 # docs/DIFFERENCES.md names cases as `LIST/CASE`; a case of `lines` is its count and its grid line, or its count,

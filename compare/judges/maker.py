@@ -372,6 +372,55 @@ class Maker:
         lines = self.sheet_lines(pictures.lines(rows))
         return damage.beside_picture(self.random, lines, rows)
 
+    # Cells, which are placed.
+
+    def cell_side(self, tracks, lines):
+        """Both ends of a cell on an axis of so many tracks; `lines` is the share of those with a line."""
+        span = f"span\t-\t{min(self.pick([1, 1, 1, 2, 2, 3, 4]), tracks if self.chance(0.97) else 4)}"
+        if not self.chance(lines):
+            return self.pick(["auto\t-\t0\tauto\t-\t0"] * 4 + [f"auto\t-\t0\t{span}", f"{span}\tauto\t-\t0", f"{span}\tspan\t-\t2", "line\t-\t0\tauto\t-\t0",
+                              f"nspan\t{self.used_name()}\t2\tauto\t-\t0"])
+        start = self.random.randint(1, max(1, tracks))
+        written = start if self.chance(0.8) else start - tracks - 2
+        line = f"line\t-\t{written or 1}"
+        other = f"line\t-\t{self.random.randint(1, tracks + 1)}"
+        if self.chance(0.06):
+            return f"{self.end()}\t{self.end()}".replace("span\t-\t0", "span\t-\t1") if not self.extreme else f"{line}\tspan\t-\t32"
+        return self.pick([f"{line}\tauto\t-\t0", f"{line}\tauto\t-\t0", f"{line}\t{span}", f"{line}\t{other}", f"{other}\t{line}", f"{span}\t{other}", f"auto\t-\t0\t{other}"])
+
+    def cell_line(self, columns, shares):
+        return f"cell\t{self.cell_side(columns, shares[0])}\t{self.cell_side(5, shares[1])}"
+
+    def spans_in_range(self, line):
+        """A cell whose plain spans are 1 to 32."""
+        fields = line.split("\t")
+        for at in range(1, 13, 3):
+            if fields[at] == "span":
+                fields[at + 2] = str(min(32, max(1, int(fields[at + 2]))))
+        return "\t".join(fields)
+
+    def cells(self):
+        """Cells among placements, in grids of a few columns by tracks, areas or a picture; in most of them all have a place."""
+        self.extreme = self.chance(0.05)
+        columns = self.pick([1, 2, 3, 3, 4, 5, 6, 8, 12]) if self.chance(0.97) else 0
+        way = self.random.randrange(4)
+        if way == 0:
+            lines = self.axis_record("c") + pictures.lines(pictures.good(self.random, self.random.randint(1, 4), max(1, columns), self.picture_names(4), 3))
+        elif way == 1:
+            lines = [areas.line(name, area) for name, area in zip(self.distinct_names(2), [(1, 3, max(1, columns), columns + 1), (3, 4, 1, 2)])] if columns else []
+        else:
+            tracks = [f"track\tc\t{self.track(False)}"] * columns
+            lines = [line for track in tracks for line in self.name_lines("c", 0.2) + [track]] + self.name_lines("c", 0.2)
+        lines += self.template("r") if self.chance(0.3) else [f"track\tr\t{self.track(False)}"] * self.below(4)
+        shares = self.pick([(0, 0), (0.3, 0.0), (0.0, 0.3), (0.2, 0.2), (0.4, 0.4), (0.7, 0.7)])
+        count = self.pick([1, 2, 3, 5, 8, 12, 16, 30]) if self.chance(0.97) else self.pick([100, 200])
+        cells = [self.spans_in_range(self.cell_line(columns, shares)) for _ in range(count)]
+        return lines + self.mixed(cells, self.placement_lines()[:4], [f"item\tc\t{self.below(5)}"]), self.calls(), None
+
+    def damaged_cells(self):
+        """The same with a fault."""
+        return damage.damaged(self.random, self.cells()[0])
+
     def cursor_template(self, letter):
         """Components whose tracks all have a definite size beside an inner size."""
         lines = [line for _ in range(self.below(5)) for line in self.name_lines(letter, 0.3) + self.plain_lines(letter, 0.2)]
@@ -652,7 +701,7 @@ class Maker:
         return damage.spoiled(self.random, self.sheet_lines()), self.calls(), None
 
 
-WEIGHTS = {"general": 600, "touching": 30, "overlap": 50, "picture": 50, "broken": 60, "invalid": 60, "tie": 100, "thin": 100, "cursor": 60, "resize": 30, "large": 8, "over": 5, "far": 5, "writing_out": 12, "full": 12, "store": 2, "long": 3,
+WEIGHTS = {"general": 600, "touching": 30, "overlap": 50, "picture": 50, "broken": 60, "cells": 80, "damaged_cells": 25, "invalid": 60, "tie": 100, "thin": 100, "cursor": 60, "resize": 30, "large": 8, "over": 5, "far": 5, "writing_out": 12, "full": 12, "store": 2, "long": 3,
            "damaged": 220, "spoiled": 60, "grouped": 0}  # asked for by name alone: the sheets of a seed stay
 
 

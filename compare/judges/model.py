@@ -2,6 +2,7 @@
 from functools import cached_property
 
 import cursor
+import placing
 import reader
 import rules
 
@@ -37,6 +38,25 @@ class State:
         if letter not in self.cursors:
             self.cursors[letter] = cursor.Axis(self, letter)
         return self.cursors[letter]
+
+    def halves(self):
+        """The cells' placements: for each cell, in sheet order, its column and its row."""
+        halves = [placement for placement in self.panel.placements if placement.cell]
+        return list(zip(halves[::2], halves[1::2]))
+
+    def settled_cells(self):
+        """The settled ends of each cell's column and row, before any placing."""
+        columns, rows = (self.names(letter) for letter in LETTERS)
+        return [(columns.resolve(column), rows.resolve(row)) for column, row in self.halves()]
+
+    def lands(self, packing):
+        """Where each cell lands, in sheet order; raises `placing.Unplaced`."""
+        return placing.lands(self.items(), self.explicit["c"], packing)
+
+    def items(self):
+        """The cells with their sides."""
+        sides = [(placing.side(column, self.explicit["c"]), placing.side(row, self.explicit["r"])) for column, row in self.settled_cells()]
+        return [placing.Item(line, *both) for line, both in zip(self.panel.cells, sides)]
 
     def names(self, letter):
         return rules.Names(self.entries[letter], self.panel.areas, letter, self.explicit[letter])
@@ -91,20 +111,46 @@ def entry_line(number):
     return refusal_line(number, 0) if number else "entered\t0\t0"
 
 
-def sheet_lines(state):
-    """Document 01's output."""
+def output_lines(state):
+    """Document 01's output, and the cells after it, placed sparsely; where one has no place, that refusal alone."""
+    try:
+        return sheet_lines(state) + cell_lines(state)
+    except placing.Unplaced as unplaced:
+        return [refusal_line(reader.UNPLACED, unplaced.line)]
+
+
+def cell_lines(state):
+    """`cell`, its two column lines and its two row lines, in sheet order."""
+    return [f"cell\t{area.column}\t{area.column_end}\t{area.row}\t{area.row_end}" for area in state.lands(placing.SPARSE)]
+
+
+def sheet_lines(state, placements=None):
+    """Document 01's output; of the placements of `place` lines, or of others."""
     lines = []
     for letter in LETTERS:
         axis = state.panel.axes[letter]
         lines.append(f"size\t{letter}\t{rules.repetitions(axis)}\t{state.explicit[letter]}")
         lines += state.records[letter]
-    return lines + placement_lines(state)
+    return lines + placement_lines(state, placements)
 
 
-def placement_lines(state):
+def settled_lines(state):
+    """The settled ends of the cells and their marks, two lines for each, in the form of `place` lines."""
+    names = {letter: state.names(letter) for letter in LETTERS}
+    halves = [half for halves in state.halves() for half in halves]
+    marks = ["\t".join("y" if mark else "n" for mark in names[half.axis].marks(half)) for half in halves]
+    return [f"{line}\t{mark}" for line, mark in zip(placement_lines(state, halves), marks)]
+
+
+def written_placements(state):
+    """Those of `place` lines."""
+    return [placement for placement in state.panel.placements if not placement.cell]
+
+
+def placement_lines(state, placements=None):
     names = {letter: state.names(letter) for letter in LETTERS}
     lines = []
-    for placement in state.panel.placements:
+    for placement in written_placements(state) if placements is None else placements:
         (start, first), (end, last) = names[placement.axis].resolve(placement)
         lines.append(f"place\t{placement.axis}\t{start}\t{first}\t{end}\t{last}")
     return lines
@@ -122,7 +168,7 @@ def name_lines(state):
 def mark_lines(state):
     """For each placement whether its start and its end were held, in the form that README.md gives."""
     names = {letter: state.names(letter) for letter in LETTERS}
-    marks = [(placement.axis, names[placement.axis].marks(placement)) for placement in state.panel.placements]
+    marks = [(placement.axis, names[placement.axis].marks(placement)) for placement in written_placements(state)]
     return ["\t".join(["held", letter, *("y" if mark else "n" for mark in both)]) for letter, both in marks]
 
 
@@ -158,7 +204,12 @@ class Answer:
         """Document 01's output after the entry calls."""
         if self.refused:
             return [refusal_line(self.refused.number, self.refused.line)]
-        return sheet_lines(self.state)
+        return output_lines(self.state)
+
+    @cached_property
+    def unplaced(self):
+        """Whether the panel is accepted, and one of its cells has no place."""
+        return not self.refused and self.output[0].startswith("refused")
 
     @cached_property
     def names(self):
@@ -177,8 +228,10 @@ class Answer:
         return [f"pair\t{earlier}\t{later}"] if (earlier, later) != reader.NO_PAIR else []
 
     def full_answer(self, names=True):
-        """The answers of the calls, document 01's output and, where asked, the line names, the marks and the pair."""
-        return [entry_line(number) for number in self.numbers] + self.output + (self.names + self.marks + self.pair if names else [])
+        """The answers of the calls, document 01's output and, where asked, the line names, the marks and the pair; nothing beside the refusal
+        where a cell has no place."""
+        beside = self.names + self.marks + self.pair if names and not self.unplaced else []
+        return [entry_line(number) for number in self.numbers] + self.output + beside
 
 
 def text_of(lines):

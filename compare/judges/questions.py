@@ -5,6 +5,8 @@ import zlib
 import binary32
 import cursor
 import model
+import placing
+import reader
 import resize as resizing
 
 MARKS = 30000  # the item bytes of an axis
@@ -29,6 +31,14 @@ def resize(letter):
     return f"resize\t{letter}"
 
 
+def cells(packing, stores=FULL[1:]):
+    return "\t".join(["cells", packing, *map(str, stores)])
+
+
+def settled(letter, cell):
+    return f"settled\t{letter}\t{cell}"
+
+
 # Answers.
 
 def nearest_answer(state, letter, bits, items):
@@ -49,13 +59,32 @@ def resize_answer(state, letter):
     return number, ["-" if size is None else size]
 
 
-ANSWERS = {"nearest": nearest_answer, "within": within_answer, "around": around_answer, "resize": resize_answer}
+def cells_answer(state, packing, *stores):
+    """Where the cells land: two column lines and two row lines for each, in sheet order."""
+    if any(int(store) < model.STORE_BYTES for store in stores):
+        return reader.SHORT, []
+    return 0, [line for area in state.lands(packing) for line in (area.column, area.column_end, area.row, area.row_end)]
+
+
+def settled_answer(state, letter, cell):
+    """The settled ends of a cell on an axis, and their marks."""
+    half = state.halves()[int(cell)][model.LETTERS.index(letter)]
+    names = state.names(letter)
+    (start, first), (end, last) = names.resolve(half)
+    return 0, [start, first, end, last, *("y" if mark else "n" for mark in names.marks(half))]
+
+
+ANSWERS = {"nearest": nearest_answer, "within": within_answer, "around": around_answer, "resize": resize_answer, "cells": cells_answer,
+           "settled": settled_answer}
 
 
 def answer_line(state, row):
-    """The line of an answer: the question's word, then the line, the placements that are listed or the size; or the refusal."""
+    """The line of an answer: the question's word, then the line, the placements that are listed, the size, or the lines; or the refusal."""
     word, *fields = row.split("\t")
-    number, found = ANSWERS[word](state, *fields)
+    try:
+        number, found = ANSWERS[word](state, *fields)
+    except placing.Unplaced as unplaced:
+        return model.refusal_line(reader.UNPLACED, unplaced.line)
     return model.refusal_line(number, 0) if number else "\t".join([word, *map(str, found)])
 
 
@@ -123,11 +152,25 @@ class Asking:
         count = 4 if self.state.cursor(letter).positions is not None else 1
         return [self.one(letter) for _ in range(count)] + self.resizes(letter)
 
+    def of_cells(self):
+        """Where the cells land by either packing, now and then with short stores, and the settled ends of some."""
+        count = len(self.state.panel.cells)
+        if not count:
+            return [cells(placing.SPARSE)] if self.random.random() < 0.01 else []
+        chosen = sorted({0, count - 1, self.random.randrange(count)})
+        short = [cells(placing.DENSE, self.random.choice([(32767, 32768), (32768, 32767), (0, 0)]))] if self.chance(0.1) else []
+        return [cells(placing.SPARSE), cells(placing.DENSE)] + short + [settled(letter, cell) for cell in chosen for letter in model.LETTERS]
+
     def resizes(self, letter):
         """The least resize, where its answer is soon found, and now and then where it is not."""
         axis = self.state.panel.axes[letter]
         wanted = self.chance(0.03) if not resizing.is_asked(axis) else resizing.is_near(axis) or self.chance(0.03)
         return [resize(letter)] if wanted else []
+
+
+def browser_rows(state):
+    """What is asked besides where browsers draw a panel: its cells packed densely."""
+    return [cells(placing.DENSE)] if state.panel.cells else []
 
 
 def asked(sheet, answer):
@@ -140,4 +183,4 @@ def made(sheet, state):
     """Questions to a state; none of an axis that has very many tracks, but now and then."""
     asking = Asking(sheet, state)
     small = [letter for letter in model.LETTERS if state.cursor(letter).tracks <= 4000 or asking.chance(0.1)]
-    return [row for letter in small for row in asking.several(letter)]
+    return [row for letter in small for row in asking.several(letter)] + asking.of_cells()

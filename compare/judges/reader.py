@@ -11,6 +11,7 @@ LARGEST_LENGTH = 65535.0
 LARGEST_PERCENTAGE = 10.0
 LINE_INDEXES = (-32768, 32767)
 SPANS = (0, 65535)
+CELL_SPANS = (1, 32)
 EDGES = (1, 10001)
 IMPLICIT_COUNTS = (0, 10000)
 ITEMS = (0, 29999)
@@ -22,6 +23,7 @@ INDEFINITE = 11
 OVERLAP = 12
 UNEQUAL = 13
 BROKEN = 14
+UNPLACED = 15
 # Which of the faults of a line is given: document 02 puts 12 after 6 and 7 and before 8, and 14 after 13.
 FAULT_ORDER = (UNREAD, NAME, VALUE, COUNT, AREA, TWICE, LATE, OVERLAP, CROWDED, UNEQUAL, BROKEN)
 
@@ -110,9 +112,11 @@ class End:
 
 @dataclass
 class Placement:
+    """A placement; a cell is two of them, one after the other: its column, then its row."""
     axis: str
     start: End
     end: End
+    cell: bool = False
 
 
 @dataclass
@@ -120,6 +124,9 @@ class Panel:
     axes: dict = field(default_factory=lambda: {"c": Axis(), "r": Axis()})
     areas: dict = field(default_factory=dict)
     placements: list = field(default_factory=list)
+    # The sheet's lines of the cells, and the number of the line that is read.
+    cells: list = field(default_factory=list)
+    line: int = 0
     # The rows of the picture of areas, each a list of words, and the names that stand in it.
     picture: list = field(default_factory=list)
     pictured: set = field(default_factory=set)
@@ -201,8 +208,8 @@ class Fields:
     def track(self):
         return Track(self.sizing(MINIMUM_KINDS), self.sizing(tuple(LARGEST_OF_KIND)))
 
-    def end(self):
-        """One end of a placement: kind, name, number."""
+    def end(self, spans=SPANS):
+        """One end of a placement: kind, name, number; `spans` is the range of plain ones."""
         kind = self.word(("auto", "line", "named", "span", "nspan"))
         name = "-"
         if kind in ("named", "nspan"):
@@ -212,7 +219,7 @@ class Fields:
         if kind in ("line", "named"):
             return End(kind, name, self.whole(*LINE_INDEXES))
         if kind in ("span", "nspan"):
-            return End(kind, name, self.whole(*SPANS))
+            return End(kind, name, self.whole(*(spans if kind == "span" else SPANS)))
         self.exactly(b"0")
         return End(kind, name, 0)
 
@@ -421,19 +428,35 @@ def read_item(panel, fields):
     return lambda: axis.items.add(index)
 
 
+def is_full(panel):
+    """"Cells count among the 256 placements"."""
+    return len(panel.placements) - len(panel.cells) >= MOST["placement"]
+
+
 def read_place(panel, fields):
     axis = fields.word(("c", "r"))
     start = fields.end()
     end = fields.end()
-    if len(panel.placements) >= MOST["placement"]:
+    if is_full(panel):
         fields.faults.add(CROWDED)
     return lambda: panel.placements.append(Placement(axis, start, end))
+
+
+def read_cell(panel, fields):
+    ends = [fields.end(CELL_SPANS) for _ in range(4)]
+    if is_full(panel):
+        fields.faults.add(CROWDED)
+
+    def do():
+        panel.placements += [Placement("c", *ends[:2], cell=True), Placement("r", *ends[2:], cell=True)]
+        panel.cells.append(panel.line)
+    return do
 
 
 RECORDS = {
     "axis": (6, read_axis), "area": (6, read_area), "name": (3, read_name), "track": (6, read_track),
     "repeat": (3, read_repeat), "end": (2, read_end), "spare": (6, read_spare), "extra": (4, read_extra),
-    "item": (3, read_item), "place": (8, read_place), "row": (None, read_row),
+    "item": (3, read_item), "place": (8, read_place), "row": (None, read_row), "cell": (13, read_cell),
 }
 
 
@@ -489,6 +512,7 @@ def read_lines(sheet, display=False):
     lines = sheet.split(b"\n")
     end_of_picture = last_row(lines[:-1])
     for number, text in enumerate(lines[:-1], start=1):
+        panel.line = number
         fault = read_line(panel, text)
         if fault:
             raise Refused(fault, number, panel.pair if fault == OVERLAP else NO_PAIR)

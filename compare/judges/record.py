@@ -5,6 +5,7 @@ import random
 import sys
 
 import build
+import cell_edges
 import cursor_edges
 import damage
 import differences
@@ -12,6 +13,7 @@ import edges
 import lists
 import maker
 import model
+import placing
 import questions
 import reader
 import resize as resizing
@@ -40,6 +42,8 @@ RESIZED = 40
 DISPLAYED = {"touching": 20, "overlap": 60, "general": 20, "damaged": 20}
 # Sheets of each family in `pictures`.
 PICTURED = {"picture": 80, "broken": 160}
+# Sheets of the family `cells` of which all cells are placed, and of which one is not; and damaged ones.
+PLACED, UNPLACED, DAMAGED_CELLS = 160, 40, 80
 CUT = {"large": 60, "far": 40, "over": 12, "writing_out": 20, "full": 4}
 # Refused sheets for each number, record and kind of field.
 REFUSED_FOR_EACH = {1: 9, 3: 4, 4: 6}
@@ -67,14 +71,18 @@ class Case:
         self.lines = self.answer_lines(rust)
 
     def answer_lines(self, rust):
-        """The Rust's lines where it speaks, a record's source after them; the model's for refusals, the numbers of calls, marks and pairs."""
-        if self.refused:
+        """The Rust's lines where it speaks, a record's source after them; the model's for refusals, the numbers of calls, cells, marks and pairs."""
+        if self.refused or self.answer.unplaced:
             return self.answer.full_answer()
-        asked = asked_of_the_rust(self.sheet, self.answer.state.panel)
-        lines = rust.ask(asked, self.answer.state.accepted)[:-2]
-        own = self.answer.output + self.answer.names
+        state = self.answer.state
+        lines = rust.ask(asked_of_the_rust(self.sheet, state.panel), state.accepted)[:-2]
+        own = model.sheet_lines(state, state.panel.placements) + self.answer.names
         lines = [rules.with_source(line, beside) for line, beside in zip(lines, own, strict=True)]
-        return [model.entry_line(number) for number in self.answer.numbers] + lines + self.answer.marks + self.answer.pair
+        # Of a cell's settled fields, which the Rust gives as placements, nothing is printed; its lines are the model's.
+        first = len(own) - len(self.answer.names) - len(state.panel.placements)
+        kept = [line for placement, line in zip(state.panel.placements, lines[first:]) if not placement.cell]
+        printed = lines[:first] + kept + model.cell_lines(state) + lines[first + len(state.panel.placements):]
+        return [model.entry_line(number) for number in self.answer.numbers] + printed + self.answer.marks + self.answer.pair
 
     def question_lines(self):
         """The answers to the questions made for it."""
@@ -267,6 +275,38 @@ def write_pictures(rust):
     keep("pictures", [case.block(cut=len(case.lines) > 3000) for case in cases + displayed])
 
 
+def land_words(found):
+    """What the edges write of cells, as an answer: each land's lines, or the refusal."""
+    if isinstance(found, int):
+        return model.refusal_line(reader.UNPLACED, found)
+    return "\t".join(["cells", *[line for land in found for line in land.split()]])
+
+
+def cell_edge(rust, name, lines, sparse, dense):
+    """Cells whose places are written by hand: what is printed, and both packings."""
+    case = Case(name, damage.sheet_of(lines), [], rust)
+    rows = [questions.cells(placing.SPARSE), questions.cells(placing.DENSE)]
+    if questions.answer_lines(case.answer.state, rows) != [land_words(sparse), land_words(dense)]:
+        raise build.CannotCompare(f"not recorded: the cells of {name} land otherwise than its edge says")
+    count = len(case.answer.state.panel.cells)
+    rows += [questions.settled(letter, cell) for cell in range(min(count, 4)) for letter in model.LETTERS]
+    return [case.block(cut=len(case.lines) > 3000), questions_block(name + ", asked", case.sheet, [], rows)]
+
+
+def write_cells(rust):
+    """Cells: the edges, and made ones, of which all are placed, or one is not; half of them asked by either packing."""
+    blocks = [block for edge in cell_edges.edges() for block in cell_edge(rust, *edge)]
+    shared = damage.sheet_of(["area\ta\t1\t2\t1\t3", "area\tb\t1\t3\t2\t4", cell_edges.cell("b / b", "b / b"), cell_edges.cell()])
+    blocks.append(Case("over areas that share a cell, displayed", shared, [], rust, display=True).block())
+    small = lambda placed: lambda case: not case.refused and case.answer.unplaced != placed and len(case.block()) <= LONGEST_BLOCK
+    for placed, count in ((True, PLACED), (False, UNPLACED)):
+        cases = taken(made_cases("cells", rust, SEED + 10), count, small(placed))
+        blocks += [case.block() for case in cases]
+        blocks += [questions_block(case.name + ", asked", case.sheet, case.calls, questions.made(case.sheet, case.answer.state)) for case in cases[::2]]
+    refused = taken(made_cases("damaged_cells", rust, SEED + 10), DAMAGED_CELLS, lambda case: case.refused and len(case.sheet) <= LONGEST_BLOCK)
+    keep("cells", blocks + [case.block() for case in refused])
+
+
 def write_accepted(rust):
     small = lambda case: not case.refused and len(case.block()) <= LONGEST_BLOCK
     cases = [case for family, count in ACCEPTED.items() for case in taken(made_cases(family, rust), count, small)]
@@ -435,6 +475,7 @@ def main():
     write_limits(rust)
     write_areas(rust)
     write_pictures(rust)
+    write_cells(rust)
     write_lines(rust)
     write_short()
     write_entries(rust)

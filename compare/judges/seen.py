@@ -4,6 +4,7 @@ from dataclasses import dataclass
 
 import css_text
 import drawing
+import placing
 from model import LETTERS
 
 LISTED = re.compile(r"\[([^]]*)\]|(\S+)px")
@@ -97,6 +98,15 @@ def placed(asked, index, box, origin):
     ours = asked.answered.item(index)
     start, size = in_units(box, origin, drawing.WAYS[letter])
     return Finding("placement", letter, index, ours, (None if ours[0] is None else start, size), start)
+
+
+# Cells.
+
+def cell_findings(asked, packing, shown):
+    """Where the cells land: their lines, from the first line of the grid, at which it begins."""
+    boxes = [(left + 1, left + width + 1, top + 1, top + height + 1) for left, top, width, height in shown["boxes"]]
+    ours = asked.answered.sparse if packing == placing.SPARSE else asked.answered.dense
+    return dropped(shown) + [Finding(f"{packing} cells", "", None, ours, boxes)]
 
 
 # Pictures.

@@ -7,6 +7,7 @@ from unittest import mock
 import binary32
 import cursor
 import model
+import placing
 import reader
 import resize
 import rules
@@ -616,6 +617,10 @@ FOUND_BY_DAMAGE = {
     "a row after an area accepted": (reader, "LATE_AFTER", late_after(row={reader.THE_REST})),
     "an area after a row accepted": (reader, "LATE_AFTER", late_after(area={reader.THE_REST})),
     "an axis line after a row accepted": (reader, "LATE_AFTER", late_after(axis={"area", reader.THE_REST})),
+    "plain spans of a cell from 0": (reader, "CELL_SPANS", (0, 32)),
+    "plain spans of a cell to 65,535": (reader, "CELL_SPANS", (1, 65535)),
+    "256 cells beside 256 placements": (reader, "is_full", lambda panel: max(len(panel.cells), len(panel.placements) - 2 * len(panel.cells)) >= 256),
+    "a cell counted as two": (reader, "is_full", lambda panel: len(panel.placements) >= 256),
     "a picture's name free for an area": (reader, "end_picture", no_area_of_the_picture),
 }
 
@@ -903,6 +908,226 @@ FOUND_BY_EDGES.update({
     "a percent gap accepted": (resize, "is_asked", asked_if(gap=any_gap)),
     "a size cut to whole": (resize, "is_asked", asked_if(inner=whole_part_of)),
     "a template that counts as none accepted": (resize, "is_asked", asked_if(components=without_empty)),
+})
+
+
+# Readings of automatic placing: found by the edges too.
+
+def not_in_order(start, end):
+    return (start, None) if start == end else (start, end)
+
+
+def equal_dropped(start, end):
+    """Of two equal lines both dropped."""
+    return (None, None) if start is not None and start == end else right_in_order(start, end)
+
+
+def equal_kept(start, end):
+    return (min(start, end), max(start, end)) if start is not None and end is not None else (start, end)
+
+
+def end_of_two_spans(settled, explicit):
+    """Of two spans the start's dropped."""
+    kinds = [kind for kind, _ in settled]
+    return right_side([("auto", 0), settled[1]] if kinds == ["span", "span"] else settled, explicit)
+
+
+def end_alone_first(settled, explicit):
+    """An end alone taken as the first line."""
+    found = right_side(settled, explicit)
+    alone = settled[1][0] == "line" and settled[1][1] != 0 and found.lines and found.lines[1] == placing.line_number(settled[1][1], explicit)
+    return placing.Side((found.lines[1], found.lines[1] + 1), 1) if alone and settled[0][0] == "auto" else found
+
+
+def span_before_a_line_1(settled, explicit):
+    kinds = [kind for kind, _ in settled]
+    return right_side([("auto", 0), settled[1]] if kinds == ["span", "line"] and settled[1][1] else settled, explicit)
+
+
+def zero_is_a_line(number, explicit):
+    return 1 if number == 0 else right_line_number(number, explicit)
+
+
+def zero_is_outside(number, explicit):
+    return 0 if number == 0 else right_line_number(number, explicit)
+
+
+def held_first(number, explicit):
+    line = right_line_number(number, explicit)
+    return None if line is None else max(1 - FURTHEST, min(FURTHEST + 1, line)) - (line > FURTHEST + 1)
+
+
+def one_off(number, explicit):
+    return explicit + 1 + number if number < 0 else right_line_number(number, explicit)
+
+
+def refused_on_each_other(self, item):
+    area = right_both_fixed(self, item)
+    return None if area and self.in_way(area) else area
+
+
+class OneCursor(dict):
+    """One cursor for all rows."""
+
+    def get(self, row, default):
+        return super().get("any", default)
+
+    def __setitem__(self, row, column):
+        super().__setitem__("any", column)
+
+
+def one_cursor_for_rows(self, columns, packing):
+    right_placing(self, columns, packing)
+    self.past = OneCursor()
+
+
+def no_cursor_in_rows(self, item):
+    self.past = {}
+    return right_row_fixed(self, item)
+
+
+def dense_keeps_a_rows_cursor(self, item):
+    kept, self.packing = self.packing, placing.SPARSE
+    area = right_row_fixed(self, item)
+    self.packing = kept
+    return area
+
+
+def moved_from_above(self, item):
+    """A row's cursor moved by items that begin above it."""
+    area = right_row_fixed(self, item)
+    if area:
+        for row in range(area.row, min(area.row_end, area.row + 40)):
+            self.past[row] = area.column_end
+    return area
+
+
+def rows_with_the_rest(items):
+    """Items fixed in their row placed in sheet order with the rest."""
+    found = {id(item): step for step, item in right_steps(items)}
+    return [(step, item) for step, item in right_steps(items) if step is right_both_fixed] + \
+        [(found[id(item)], item) for item in items if found[id(item)] is not right_both_fixed]
+
+
+def in_sheet_order(items):
+    found = {id(item): step for step, item in right_steps(items)}
+    return [(found[id(item)], item) for item in items]
+
+
+def row_stays(self, item):
+    column, column_end = item.columns.lines
+    if column < 1 or column_end > self.columns + 1:
+        return None
+    return self.down(self.row, item)
+
+
+def row_goes_on_at_it(self, item):
+    column, column_end = item.columns.lines
+    if column < 1 or column_end > self.columns + 1:
+        return None
+    return self.down(self.row + 1 if column <= self.column else self.row, item)
+
+
+def leaves_the_column(self, item):
+    """A fixed column leaves the cursor's column as it was."""
+    column = self.column
+    area = right_by_cursor(self, item)
+    if item.columns.lines and self.packing == placing.SPARSE:
+        self.column = column
+    return area
+
+
+def dense_from_the_cursor(self, item):
+    kept, self.packing = self.packing, placing.SPARSE
+    area = right_by_cursor(self, item)
+    self.packing = kept
+    return area
+
+
+def sparse_from_the_start(self, item):
+    self.column = self.row = 1
+    return right_by_cursor(self, item)
+
+
+def last_column_unused(self, area):
+    return right_fits(self, area) and area.column_end <= self.columns
+
+
+def not_kept(self, item):
+    """A fixed cell that nothing has to go around."""
+    area = right_both_fixed(self, item)
+    return area and Unseen(area.column, area.column_end, area.row, area.row_end)
+
+
+class Unseen(placing.Area):
+    def meets(self, other):
+        return False
+
+
+def one_past(self, column, item, row):
+    """The search goes on one column past what is in the way."""
+    while column + item.columns.span <= self.columns + 1:
+        area = placing.Area(column, column + item.columns.span, row, row + item.rows.span)
+        other = self.in_way(area)
+        if other is None:
+            return area
+        column = other.column_end + 1
+    return None
+
+
+def first_line_first(items, columns, packing):
+    """Refused at the first line that has no place instead of at the first in placing order."""
+    try:
+        return right_lands(items, columns, packing)
+    except placing.Unplaced:
+        for count in range(1, len(items) + 1):
+            try:
+                right_lands(items[:count], columns, packing)
+            except placing.Unplaced:
+                raise placing.Unplaced(items[count - 1].line)
+
+
+right_in_order = placing.in_order
+right_side = placing.side
+right_line_number = placing.line_number
+right_both_fixed = placing.Placing.both_fixed
+right_row_fixed = placing.Placing.row_fixed
+right_by_cursor = placing.Placing.by_cursor
+right_placing = placing.Placing.__init__
+right_fits = placing.Placing.fits
+right_steps = placing.steps
+right_lands = placing.lands
+Placing = placing.Placing
+
+FOUND_BY_EDGES.update({
+    "ends of a cell not swapped": (placing, "in_order", not_in_order),
+    "equal ends of a cell both dropped": (placing, "in_order", equal_dropped),
+    "equal ends of a cell over no track": (placing, "in_order", equal_kept),
+    "of two spans of a cell the end's": (placing, "side", end_of_two_spans),
+    "an end alone as the first line": (placing, "side", end_alone_first),
+    "a span before a line counted as 1": (placing, "side", span_before_a_line_1),
+    "line 0 of a cell as line 1": (placing, "line_number", zero_is_a_line),
+    "line 0 of a cell outside": (placing, "line_number", zero_is_outside),
+    "lines of a cell held again": (placing, "line_number", held_first),
+    "negative lines of a cell one off": (placing, "line_number", one_off),
+    "fixed cells refused on each other": (Placing, "both_fixed", refused_on_each_other),
+    "one cursor for all rows": (Placing, "__init__", one_cursor_for_rows),
+    "no cursor in a row": (Placing, "row_fixed", no_cursor_in_rows),
+    "dense packing with a row's cursor": (Placing, "row_fixed", dense_keeps_a_rows_cursor),
+    "a row's cursor moved by cells from above": (Placing, "row_fixed", moved_from_above),
+    "cells fixed in their row with the rest": (placing, "steps", rows_with_the_rest),
+    "cells in sheet order": (placing, "steps", in_sheet_order),
+    "a column before the cursor in the cursor's row": (Placing, "in_its_columns", row_stays),
+    "a column at the cursor in the next row": (Placing, "in_its_columns", row_goes_on_at_it),
+    "a fixed column leaves the cursor's column": (Placing, "by_cursor", leaves_the_column),
+    "dense packing from the cursor": (Placing, "by_cursor", dense_from_the_cursor),
+    "sparse packing from the start": (Placing, "by_cursor", sparse_from_the_start),
+    "the last column unused": (Placing, "fits", last_column_unused),
+    "fixed cells not in the way": (Placing, "both_fixed", not_kept),
+    "one column past what is in the way": (Placing, "along", one_past),
+    "the last row unused": (placing, "LAST_ROW_LINE", FURTHEST),
+    "one row more": (placing, "LAST_ROW_LINE", FURTHEST + 2),
+    "15 at the first line": (placing, "lands", first_line_first),
 })
 
 

@@ -1,11 +1,14 @@
 """Puts each wrong reading into the model and shows that the comparison finds it."""
 
 import build
+import cell_edges
 import cursor_edges
 import damage
 import maker
 import model
+import placing
 import questions
+import record
 import resize_edges
 import wrong
 from compare import Rust, compare, first_difference
@@ -76,6 +79,8 @@ class ByTheLibrary:
 def by_hand():
     """The edges: each with the answers that are written by hand."""
     written = [*cursor_edges.edges(), *resize_edges.edges()]
+    packings = [questions.cells(placing.SPARSE), questions.cells(placing.DENSE)]
+    written += [(name, lines, list(zip(packings, map(record.land_words, lands)))) for name, lines, *lands in cell_edges.edges()]
     return [(damage.sheet_of(lines), rows, None) for _, lines, rows in written]
 
 

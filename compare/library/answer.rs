@@ -1,5 +1,5 @@
 //! A panel's answers in the output form of document 01, its line names, and the number of its name entries.
-use crate::palgwern::{Answers, Axis, End, Pair, Placement, Record, Refusal, Size, Source};
+use crate::palgwern::{Answers, Axis, End, Land, Packing, Pair, Placement, Record, Refusal, Size, Source};
 use std::io::Write;
 
 const AXES: [Axis; 2] = [Axis::Columns, Axis::Rows];
@@ -60,12 +60,18 @@ fn end(end: End) -> String {
     }
 }
 
-/// A placement of the run of all; a line `alone` where it differs from the one that is asked for alone.
+/// A placement of the run of all, where it is none of a cell's; a line `alone` where it differs from the one that is asked for alone.
 fn print_placement(out: &mut Vec<u8>, panel: &Answers, index: usize, found: Placement) {
-    writeln!(out, "place\t{}\t{}\t{}", letter(found.axis), end(found.start), end(found.end)).unwrap();
+    if !found.cell {
+        writeln!(out, "place\t{}\t{}\t{}", letter(found.axis), end(found.start), end(found.end)).unwrap();
+    }
     if panel.placement(index as u32) != Ok(found) {
         writeln!(out, "alone\t{index}").unwrap();
     }
+}
+
+fn print_cell(out: &mut Vec<u8>, Land { columns, rows }: Land) {
+    writeln!(out, "cell\t{}\t{}\t{}\t{}", columns[0], columns[1], rows[0], rows[1]).unwrap();
 }
 
 /// The lists of the run of all, and of every eighth line a line `alone` where its names differ from those that are asked for alone.
@@ -98,14 +104,23 @@ pub fn print_pair(out: &mut Vec<u8>, pair: Option<Pair>) {
     }
 }
 
-/// The whole answer of a panel, edited or only displayed.
-pub fn print_answers(out: &mut Vec<u8>, panel: &Answers, pair: Option<Pair>) {
+/// All that a panel answers whose cells are placed.
+fn print_placed(out: &mut Vec<u8>, panel: &Answers, lands: Vec<Land>, pair: Option<Pair>) {
     AXES.into_iter().for_each(|axis| print_axis(out, panel, axis));
     let resolved: Vec<Placement> = panel.resolved().collect();
     resolved.iter().enumerate().for_each(|(index, found)| print_placement(out, panel, index, *found));
+    lands.into_iter().for_each(|land| print_cell(out, land));
     AXES.into_iter().for_each(|axis| print_names(out, panel, axis));
-    resolved.iter().for_each(|found| print_marks(out, *found));
+    resolved.iter().filter(|found| !found.cell).for_each(|found| print_marks(out, *found));
     print_pair(out, pair);
+}
+
+/// The whole answer of a panel, edited or only displayed; nothing but the refusal where one of its cells has no place.
+pub fn print_answers(out: &mut Vec<u8>, panel: &Answers, pair: Option<Pair>) {
+    match panel.place_cells(Packing::Sparse) {
+        Ok(lands) => print_placed(out, panel, lands, pair),
+        Err(refusal) => print_refusal(out, refusal),
+    }
     let grid = panel.grid();
     writeln!(out, "entries\tc\t{}\nentries\tr\t{}", grid.columns.entries, grid.rows.entries).unwrap();
 }

@@ -1,15 +1,13 @@
 //! The calls of the cursor, and what `palgwern.h` promises of them.
 use crate::calls::Numbers;
 use crate::lent::*;
-use crate::palgwern::{raw, Grid};
+use crate::palgwern::{raw, Grid, HITS};
 use crate::planted;
 use crate::promises::{of_refusal, tracks, twice, Promises, Twice};
 
-/// The placements that a list has room for, two in each word of the run.
-const HITS: usize = 256;
 const LARGEST_LENGTH: u32 = 0x477f_ff00;
 
-/// A list of placements, of the length that the calls fix.
+/// A list of placements, of the length that the calls fix, two in each word of the run.
 pub fn lend_hits(lent: &mut Lent) {
     lent.words[RUN].fill_with(&[0x7777_7777_7777_7777; HITS / 2]);
 }

@@ -1,6 +1,7 @@
 //! Makes forged panels, every exported call on each, and counts the promises that are broken.
 use crate::blocks::recorded;
 use crate::calls::Numbers;
+use crate::cells;
 use crate::chance::Chance;
 use crate::cursor;
 use crate::forging::{Forged, Sheets, KINDS};
@@ -19,11 +20,11 @@ const SHOWN: u64 = 20;
 /// Seconds after which a call is said not to end.
 const PATIENCE: u64 = 120;
 /// Calls of each panel, by name; those that look at the tables are made more often.
-const CALLS: [&str; 25] = [
+const CALLS: [&str; 27] = [
     "read_sheet", "display_sheet", "enter_name", "enter_name", "explicit_size", "line_count", "record_count", "resolve_placement", "resolve_placement",
     "resolve_placement", "resolve_placement", "line_name", "line_name", "line_name", "line_name", "records", "records",
     "resolve_placements", "line_names", "nearest_line", "placements_within", "placements_within", "placements_around", "placements_around",
-    "least_resize",
+    "least_resize", "place_cells", "place_cells",
 ];
 static CALLS_MADE: AtomicU64 = AtomicU64::new(0);
 
@@ -61,7 +62,7 @@ fn numbers(chance: &mut Chance, grid: Grid, call: &str) -> Numbers {
     let axis = if chance.once_in(8) { chance.count() } else { chance.below(2) as u32 };
     let line = if chance.once_in(3) { chance.count() } else { chance.below(12) as u32 };
     let held = match call {
-        "resolve_placement" | "resolve_placements" => grid.placements.clamp(1, 256) as usize,
+        "resolve_placement" | "resolve_placements" => grid.placements.clamp(1, 512) as usize,
         "line_name" => 2,
         _ => 24,
     };
@@ -103,6 +104,7 @@ fn lend(call: &str, chance: &mut Chance, sheets: &Sheets, forged: &mut Forged, n
         "read_sheet" | "display_sheet" => forged.lent.bytes[TEXT].fill_with(&a_sheet(chance, sheets)),
         "enter_name" => forged.lent.bytes[TEXT].fill_with(&a_name(chance)),
         "records" => lend_records(chance, forged, numbers),
+        "place_cells" => cells::lend_lands(&mut forged.lent),
         "resolve_placements" | "line_names" => runs::lend_run(call, &mut forged.lent),
         "nearest_line" | "placements_within" | "placements_around" => {
             lend_records(chance, forged, numbers);
@@ -127,6 +129,7 @@ fn make(call: &str, forged: &Forged, numbers: Numbers) -> (u32, Promises) {
         "resolve_placements" => runs::resolve_placements(lent, state.grid, numbers),
         "line_names" => runs::line_names(lent, state.grid, numbers),
         "least_resize" => promises::least_resize(lent, state.grid, numbers),
+        "place_cells" => cells::placed(lent, state.grid, numbers),
         "nearest_line" => cursor::nearest(lent, state.grid, cursor::numbers(call, numbers)),
         "placements_within" => cursor::within(lent, state.grid, cursor::numbers(call, numbers)),
         "placements_around" => cursor::around(lent, state.grid, cursor::numbers(call, numbers)),
@@ -168,7 +171,7 @@ fn forge(totals: &mut Totals, sheets: &Sheets, seed: u64, number: u64) {
 
 fn sheets(lists: &str) -> Sheets {
     std::thread::spawn(watch);
-    Sheets { accepted: [list(lists, "accepted"), list(lists, "entries")].concat(), refused: list(lists, "refused") }
+    Sheets { accepted: [list(lists, "accepted"), list(lists, "entries"), list(lists, "cells")].concat(), refused: list(lists, "refused") }
 }
 
 /// Forges so many panels from a seed: the number of broken promises.

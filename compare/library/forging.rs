@@ -44,8 +44,8 @@ fn room_counts(axis: &mut AxisRoom) -> [&mut u32; 5] {
 /// Every number of a state but the gaps.
 fn counts_of(state: &mut State) -> Vec<&mut u32> {
     let State { grid, room } = state;
-    let Grid { columns, rows, areas, placements } = grid;
-    let answers = grid_counts(columns).into_iter().chain(grid_counts(rows)).chain([areas, placements]);
+    let Grid { columns, rows, areas, placements, cells } = grid;
+    let answers = grid_counts(columns).into_iter().chain(grid_counts(rows)).chain([areas, placements, cells]);
     let Room { columns, rows, areabytes, placementbytes } = room;
     let edits = room_counts(columns).into_iter().chain(room_counts(rows)).chain([areabytes, placementbytes]);
     answers.chain(edits).collect()

@@ -4,6 +4,7 @@ mod answer;
 mod batch;
 mod blocks;
 mod calls;
+mod cells;
 mod chance;
 mod cursor;
 mod forge;

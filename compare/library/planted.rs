@@ -5,7 +5,7 @@ use crate::palgwern::{raw, AREA_NAMES_START, PLACEMENT_NUMBERS};
 use std::sync::atomic::{AtomicUsize, Ordering};
 
 /// The faults, from 1 on.
-pub const FAULTS: [&str; 48] = [
+pub const FAULTS: [&str; 52] = [
     "a refused sheet changes a word",
     "a word that the tables held reaches the panel",
     "a sheet writes past the words",
@@ -54,6 +54,10 @@ pub const FAULTS: [&str; 48] = [
     "a list goes on past its count",
     "a refused resize has a size",
     "a resize beyond the sizes",
+    "cells that have no place are counted",
+    "a land is written on a refusal",
+    "a land past the last row",
+    "a line with another refusal than 15",
 ];
 
 /// The fault in place, 0 for none.
@@ -176,6 +180,17 @@ pub fn in_resize(answer: &mut raw::ResizeAnswer) {
     match planted() {
         47 if answer.number == 3 => answer.size = 1,
         48 if answer.found == 1 => answer.size += 65_536,
+        _ => (),
+    }
+}
+
+pub fn in_cells(lent: &mut Lent, answer: &mut raw::CellsAnswer) {
+    let words = lent.words[RUN].content_mut();
+    match planted() {
+        49 if answer.number == 15 => answer.count = 1,
+        50 if answer.number == 15 => words[0] = 0,
+        51 if answer.number == 0 && answer.count > 0 => words[0] |= 0x8000 << 48,
+        52 if answer.number == 10 => answer.line = 1,
         _ => (),
     }
 }

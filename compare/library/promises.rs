@@ -157,7 +157,7 @@ pub fn resolve_placement(lent: &Lent, grid: Grid, numbers: Numbers) -> (u32, Pro
     promises.push(("a placement is only read", after.has_contents_of(lent)));
     promises.push(("a placement that isn't there is refused by 4", numbers.place < grid.placements || number == 4));
     promises.push(("a placement with a short store is refused", !lent.is_short() || number != 0));
-    promises.push(("an axis is 0 or 1", axis <= 1));
+    promises.push(("an axis is 0 or 1, 2 more for a cell", axis <= 3));
     promises.push(("an end has a kind and its number", is_end(startkind, startnumber) && is_end(endkind, endnumber)));
     let marked = |held: u32, kind: u32, number: i32| held == 0 || held == 1 && kind == 1 && number != 0;
     promises.push(("a mark is 0 or 1, and only a line has one", marked(startheld, startkind, startnumber) && marked(endheld, endkind, endnumber)));

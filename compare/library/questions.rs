@@ -1,5 +1,6 @@
 //! Questions to a panel, each a row, asked on lent buffers; the answers in the form of the lists.
 use crate::calls::{self, Numbers};
+use crate::cells;
 use crate::cursor;
 use crate::lent::*;
 use crate::palgwern::Grid;
@@ -38,13 +39,46 @@ fn print_resize(out: &mut Vec<u8>, lent: &Lent, grid: Grid, axis: u32) {
     }
 }
 
-/// One question of the cursor, on a copy of what is lent.
+/// Where the cells land, with stores of the lengths that are lent.
+fn print_cells(out: &mut Vec<u8>, lent: &Lent, grid: Grid, packing: &str, lengths: &[&str]) {
+    let mut lent = lent.clone();
+    for (store, length) in [COLUMN_STORE, ROW_STORE].into_iter().zip(lengths) {
+        lent.bytes[store].resize(length.parse().expect("a length"), 0);
+    }
+    cells::lend_lands(&mut lent);
+    let answer = cells::place_cells(&mut lent, grid, u32::from(packing == "dense"));
+    if answer.number != 0 {
+        return writeln!(out, "refused\t{}\t{}", answer.number, answer.line).unwrap();
+    }
+    let words = &lent.words[RUN].content()[..answer.count as usize];
+    print_found(out, "cells", 0, &words.iter().flat_map(|word| [0, 16, 32, 48].map(|at| (word >> at & 0xffff) as i64)).collect::<Vec<_>>());
+}
+
+/// The settled ends of a cell on an axis, and their marks.
+fn print_settled(out: &mut Vec<u8>, lent: &Lent, grid: Grid, axis: u32, cell: usize) {
+    let mut lent = lent.clone();
+    let placements = (0..grid.placements).map(|place| calls::resolve_placement(&mut lent, grid, Numbers { axis, line: 0, place }));
+    // Those of the cells are marked, two for each.
+    let found = placements.filter(|found| found.axis & 2 != 0).nth(2 * cell + axis as usize).expect("a cell");
+    let kind = |kind: u32| ["auto", "line", "", "span"][kind as usize];
+    let mark = |held: u32| if held == 0 { 'n' } else { 'y' };
+    let ends = format!("{}\t{}\t{}\t{}", kind(found.startkind), found.startnumber, kind(found.endkind), found.endnumber);
+    writeln!(out, "settled\t{ends}\t{}\t{}", mark(found.startheld), mark(found.endheld)).unwrap();
+}
+
+/// One question, on a copy of what is lent.
 fn print_question(out: &mut Vec<u8>, lent: &Lent, grid: Grid, row: &str) {
     let fields: Vec<&str> = row.split('\t').collect();
+    if fields[0] == "cells" {
+        return print_cells(out, lent, grid, fields[1], &fields[2..]);
+    }
     let bits = |field: &str| u32::from_str_radix(field, 16).expect("bits");
     let axis = if fields[1] == "c" { 0 } else { 1 };
     if fields[0] == "resize" {
         return print_resize(out, lent, grid, axis);
+    }
+    if fields[0] == "settled" {
+        return print_settled(out, lent, grid, axis, fields[2].parse().expect("a cell"));
     }
     let arguments = if fields[0] == "within" { 2 } else { 1 };
     let lengths: Vec<usize> = fields[2 + arguments..].iter().map(|field| field.parse().expect("a length")).collect();

@@ -16,7 +16,7 @@ pub fn lend_run(call: &str, lent: &mut Lent) {
     lent.words[RUN].fill_with(&vec![0x7777_7777_7777_7777; words]);
 }
 
-fn placements(lent: &mut Lent, grid: Grid, numbers: Numbers) -> raw::CountAnswer {
+pub fn placements(lent: &mut Lent, grid: Grid, numbers: Numbers) -> raw::CountAnswer {
     let [words, run] = &mut lent.words;
     let (columnstore, rowstore) = (lent.bytes[COLUMN_STORE].content(), lent.bytes[ROW_STORE].content());
     let run: *mut [u64; PLACEMENT_RUN_WORDS] = run.array_mut();

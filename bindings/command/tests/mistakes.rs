@@ -15,6 +15,7 @@ const WORDS: &[&str] = &[
     "by 12 (overlap)",
     "by 13 (unequal)",
     "by 14 (broken)",
+    "by 15 (unplaced)",
     "warning (template)",
     "warning (name)",
     "warning (past)",
@@ -78,7 +79,7 @@ fn every_number_and_warning_occurs() {
 /// Numbers that no sheet gets have their words too.
 #[test]
 fn every_number_has_its_words() {
-    for number in 1..=14 {
+    for number in 1..=15 {
         assert!(refusals::word(number) != "refused" && refusals::meaning(number) != "the library refuses it", "{number}");
     }
     assert_eq!((refusals::word(10), refusals::meaning(10)), ("short", "the memory that was lent is too short"));

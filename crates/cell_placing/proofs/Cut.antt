@@ -46,7 +46,7 @@ module _ (packing : Packing) (last count : ℕ) (here there : ℕ → Item) (sam
   back : (j : ℕ) → j < count → there j ≡ here j
   back j h = sym (same j h)
 
-  first-there : (lands : ℕ → Rectangle) (i : ℕ) → i < count → (r : Rectangle) → First packing last count here lands i r → First packing last count there lands i r
+  pub first-there : (lands : ℕ → Rectangle) (i : ℕ) → i < count → (r : Rectangle) → First packing last count here lands i r → First packing last count there lands i r
   first-there lands i h r f =
       record {
         one = candidate-there count here there same i h packing last lands r f.one;

@@ -10,7 +10,8 @@ use Rattle.track_rules.specs.Records.{records_in}
 use Rattle.panel_tables.specs.declared.Grid.{Grid}
 use Rattle.panel_tables.specs.declared.Panel.{Panel}
 use Rattle.panel_tables.specs.Axes.{grid_in}
-use Rattle.coordinates.specs.Axes.{axis_number, axis_of}
+use Rattle.panel_tables.specs.Placements.{axis_mark}
+use Rattle.coordinates.specs.Axes.{axis_of}
 use Rattle.sheet_rules.specs.Panels.{Tables}
 use Rattle.sheet_rules.specs.Answers as Read
 use Rattle.sheet_rules.specs.Read.{SheetRead, DisplayRead}
@@ -110,12 +111,12 @@ abbrev pub mark_number : Bool → ℕ
 mark_number true = 1
 mark_number false = 0
 
--- kinds 0 `auto`, 1 `line`, 3 `span`, each with its number, and the marks of both ends
+-- its axis, 2 more where it is a cell's half; kinds 0 `auto`, 1 `line`, 3 `span`, each with its number, and the marks of both ends
 unfoldable pub placement_numbers : PlacementAnswer → PlacementNumbers
 placement_numbers a =
     record {
       number = a.refusal.number;
-      axis = axis_number a.axis;
+      axis = axis_mark a.axis a.cell;
       startkind = resolved_kind_of a.line.start;
       startnumber = resolved_number_of a.line.start;
       endkind = resolved_kind_of a.line.end;

@@ -67,8 +67,8 @@ pub struct NameAnswer {
     pub length: u32,
 }
 
-// A resolved placement, or a refusal and zeros: its axis, for each end its kind (0 `auto`, 1 `line`, 3 `span`) and number, and then for each end its mark: 1 where a step on the way
-// to its line held it.
+// A resolved placement, or a refusal and zeros: its axis, 2 more where it is a cell's half, for each end its kind (0 `auto`, 1 `line`,
+// 3 `span`) and number, and then for each end its mark: 1 where a step on the way to its line held it.
 #[repr(C)]
 #[derive(Clone, Copy, Debug, PartialEq, Eq, Default)]
 pub struct PlacementNumbers {

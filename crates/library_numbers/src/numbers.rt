@@ -1,13 +1,24 @@
 // Answers and records as numbers.
 ghost use Rattle.std.specs.Prelude.{◌≡◌, Ok};
 ghost use Rattle.panel_rules.specs.Placing.{answered_placement};
+ghost use Rattle.panel_tables.specs.Placements.{axis_mark};
 ghost use Rattle.library_numbers.specs.Answers.{answered_count_numbers, answered_name, answered_size, placement_numbers};
 
 use crate::{CountAnswer, NameAnswer, PlacementNumbers, SizeAnswer};
 use axis_tables::AxisSize;
-use coordinates::Fault;
+use coordinates::{Axis, Fault};
 use name_resolver::ResolvedPlacement;
 use panel_rules::PlacedLine;
+
+// What the number of its axis has more of a placement that is a cell's half.
+const CELL_HALF: u32 = 2;
+
+// The number of an axis, and so much more for a cell's half.
+fn axis_mark(axis: Axis, cell: bool) -> u32
+    ensures { result ≡ axis_mark axis cell }
+{
+    u32::from(axis) + if cell { CELL_HALF } else { 0 }
+}
 
 impl From<Result<u64, Fault>> for CountAnswer {
     ghost from_gives = { λ counted answer. answer ≡ answered_count_numbers counted };
@@ -67,7 +78,7 @@ impl From<PlacedLine> for PlacementNumbers {
         let ResolvedPlacement { line, held } = answer.placed;
         PlacementNumbers {
             number: 0,
-            axis: u32::from(answer.axis),
+            axis: axis_mark(answer.axis, answer.cell),
             startkind: line.start.kind(),
             startnumber: line.start.number(),
             endkind: line.end.kind(),

@@ -2,4 +2,4 @@
 use Rattle.std.specs.Prelude.{ℕ}
 
 abbrev pub layout_number : ℕ
-layout_number = 1
+layout_number = 2

@@ -1,6 +1,7 @@
 -- What the contracts of the exported calls cite beside the answers as numbers.
 pub mod Names
 pub mod Cursor
+pub mod Cells
 pub mod Hits
 pub mod Resize
 pub mod Lines

@@ -22,50 +22,76 @@ use Rattle.panel_rules.specs.Runs.{names_of, marks_of}
 use Rattle.panel_calls.specs.Carried.{carried_to}
 use Rattle.panel_calls.proofs.Carried.{few_records, carried_on_lem, carried-record}
 use Rattle.panel_text.specs.Lines.{record_line}
-use Rattle.panel_answer.specs.Listed.{AnswerLine, Size, Record, Place, End}
-use Rattle.panel_answer.specs.Answer.{GridHeld, records_of_axis, record_count, record_lines, place_line_of, size_line_of, axis_lines, answer_lines}
-use Rattle.panel_answer.specs.Walk.{place_from, after_axis, line_after, following}
+use Rattle.panel_answer.specs.Listed.{AnswerLine, Size, Record, Place, Cell, End}
+use Rattle.panel_answer.specs.Answer.{GridHeld, records_of_axis, record_count, record_lines, place_line_of, cell_line_of, size_line_of, axis_lines, answer_lines}
+use Rattle.panel_answer.specs.Walk.{place_from, cell_from, after_axis, line_after, following}
 
 -- lines for two axes and then m
-parted : (c r p n : ℕ) → c + r + p + 2 ≤ n → (m : ℕ) × (n ≡ suc (c + suc (r + m))) × (p ≤ 0 + m)
+parted : (c r p n : ℕ) → c + r + p + 2 ≤ n → (m : ℕ) × (n ≡ suc (c + suc (r + m))) × (p ≤ m)
 parted c r p n g = (n - (c + r + 2), omega arith, omega arith)
 
-total : (c r p : ℕ) → c ≤ 60001 → r ≤ 60001 → p ≤ 256 → c + r + p + 2 ≤ 120260
+total : (c r p : ℕ) → c ≤ 60001 → r ≤ 60001 → p ≤ 768 → c + r + p + 2 ≤ 120772
 total c r p a b g = omega arith
 
-module _ (h : GridHeld) where
-  -- ---- the placements
+-- ---- lines of a list, one for each number from some place on
 
-  places : ℕ → List (List ℕ)
-  places i = drop i (listed (place_line_of h) h.grid.placements)
+module _ (line : ℕ → List ℕ) (count : ℕ) where
+  lines_on : ℕ → List (List ℕ)
+  lines_on i = drop i (listed line count)
 
-  place-next : (i : ℕ) → i < h.grid.placements → places i ≡ place_line_of h i ∷ places (i + 1)
-  unfolding places
-  place-next i g =
-      let n = h.grid.placements in
-      let l = listed (place_line_of h) n in
-      let e : i < length l = rw (length-listed (place_line_of h) n) g in
-      drop-cons l i [] e ∙ rw (get-listed (place_line_of h) n i [] g, add-one)
+  on-next : (i : ℕ) → i < count → lines_on i ≡ line i ∷ lines_on (i + 1)
+  unfolding lines_on
+  on-next i g =
+      let l = listed line count in
+      let e : i < length l = rw (length-listed line count) g in
+      drop-cons l i [] e ∙ rw (get-listed line count i [] g, add-one)
 
-  place_end : (i : ℕ) → h.grid.placements ≤ i → places i ≡ []
-  unfolding places
-  place_end i g =
-      let l = listed (place_line_of h) h.grid.placements in
-      let e : length l ≤ i = rw (length-listed (place_line_of h) h.grid.placements) g in
+  on-end : (i : ℕ) → count ≤ i → lines_on i ≡ []
+  unfolding lines_on
+  on-end i g =
+      let l = listed line count in
+      let e : length l ≤ i = rw (length-listed line count) g in
       drop_of_length-le l e
 
+module _ (h : GridHeld) where
   ended : (n : ℕ) → following h n End ≡ []
   ended zero = refl
   ended (suc n) = refl
 
-  placements-follow : (n i : ℕ) → h.grid.placements ≤ i + n → following h n (place_from h.grid i) ≡ places i
-  placements-follow zero i g = sym (place_end i (omega arith))
-  placements-follow (suc n) i g = go (ltb i h.grid.placements) refl (placements-follow n (i + 1) (omega arith))
+  -- ---- the cells
+
+  cells : ℕ → List (List ℕ)
+  cells k = lines_on (cell_line_of h) h.grid.cells k
+
+  cells-follow : (n k : ℕ) → h.grid.cells ≤ k + n → following h n (cell_from h.grid k) ≡ cells k
+  unfolding cells
+  cells-follow zero k g = sym (on-end (cell_line_of h) h.grid.cells k (omega arith))
+  cells-follow (suc n) k g = go (ltb k h.grid.cells) refl (cells-follow n (k + 1) (omega arith))
     where
-      go : (t : Bool) → ltb i h.grid.placements ≡ t → following h n (place_from h.grid (i + 1)) ≡ places (i + 1)
-          → following h (suc n) (cond t (Place i) End) ≡ places i
-      go true e k = ap (λ (l : List (List ℕ)). place_line_of h i ∷ l) k ∙ sym (place-next i (ltb-true i h.grid.placements e))
-      go false e k = sym (place_end i (ltb-false i h.grid.placements e))
+      go : (t : Bool) → ltb k h.grid.cells ≡ t → following h n (cell_from h.grid (k + 1)) ≡ cells (k + 1)
+          → following h (suc n) (cond t (Cell k) End) ≡ cells k
+      go true e f = ap (λ (l : List (List ℕ)). cell_line_of h k ∷ l) f ∙ sym (on-next (cell_line_of h) h.grid.cells k (ltb-true k h.grid.cells e))
+      go false e f = sym (on-end (cell_line_of h) h.grid.cells k (ltb-false k h.grid.cells e))
+
+  -- ---- the placements
+
+  places : ℕ → List (List ℕ)
+  places i = lines_on (place_line_of h) h.grid.placements i
+
+  placements-follow : (n i : ℕ) → h.grid.placements + h.grid.cells ≤ i + n → i ≤ h.grid.placements → following h n (place_from h.grid i) ≡ places i ++ cells 0
+  unfolding places
+  placements-follow zero i g k = rw (on-end (place_line_of h) h.grid.placements i (omega arith)) (cells-follow zero 0 (omega arith))
+  placements-follow (suc n) i g k =
+      go (ltb i h.grid.placements) refl (λ (l : i < h.grid.placements). placements-follow n (i + 1) (omega arith) (omega (arith, l)))
+    where
+      go : (t : Bool) → ltb i h.grid.placements ≡ t → (i < h.grid.placements → following h n (place_from h.grid (i + 1)) ≡ places (i + 1) ++ cells 0)
+          → following h (suc n) (cond t (Place i) (cell_from h.grid 0)) ≡ places i ++ cells 0
+      go true e f =
+          let l = ltb-true i h.grid.placements e in
+          ap (λ (z : List (List ℕ)). place_line_of h i ∷ z) (f l) ∙ ap (λ (z : List (List ℕ)). z ++ cells 0) (sym (on-next (place_line_of h) h.grid.placements i l))
+      go false e f =
+          let l = ltb-false i h.grid.placements e in
+          cells-follow (suc n) 0 (omega arith) ∙ ap (λ (z : List (List ℕ)). z ++ cells 0) (sym (on-end (place_line_of h) h.grid.placements i l))
 
   -- ---- the records of an axis
 
@@ -146,14 +172,14 @@ module _ (h : GridHeld) where
         ∙ ap (λ (l : List (List ℕ)). size_line_of h a ∷ l) (records-follow (count - 1) m 0 (omega (arith, some-records)))
 
   -- the whole answer, where no fewer lines are taken than it has
-  pub all_lines : (n : ℕ) → record_count h Column + record_count h Row + h.grid.placements + 2 ≤ n → following h n (Size Column) ≡ answer_lines h
-  unfolding answer_lines places
+  pub all_lines : (n : ℕ) → record_count h Column + record_count h Row + (h.grid.placements + h.grid.cells) + 2 ≤ n → following h n (Size Column) ≡ answer_lines h
+  unfolding answer_lines places cells lines_on
   all_lines n g =
-      let (m, e, k) = parted (record_count h Column) (record_count h Row) h.grid.placements n g in
+      let (m, e, k) = parted (record_count h Column) (record_count h Row) (h.grid.placements + h.grid.cells) n g in
       ap (λ (j : ℕ). following h j (Size Column)) e
       ∙ axis-follow Column (suc (record_count h Row + m))
-      ∙ ap (λ (l : List (List ℕ)). axis_lines h Column ++ l) (axis-follow Row m ∙ ap (λ (l : List (List ℕ)). axis_lines h Row ++ l) (placements-follow m 0 k))
+      ∙ ap (λ (l : List (List ℕ)). axis_lines h Column ++ l) (axis-follow Row m ∙ ap (λ (l : List (List ℕ)). axis_lines h Row ++ l) (placements-follow m 0 (omega (arith, k)) (omega arith)))
 
-  -- 120,260 lines are enough for every panel of at most 256 placements
-  pub enough : h.grid.placements ≤ 256 → following h 120260 (Size Column) ≡ answer_lines h
-  enough g = all_lines 120260 (total (record_count h Column) (record_count h Row) h.grid.placements (few_records (grid_in h.grid Column)) (few_records (grid_in h.grid Row)) g)
+  -- 120,772 lines are enough for every panel of at most 512 placements, halves of cells among them, and 256 cells
+  pub enough : h.grid.placements + h.grid.cells ≤ 768 → following h 120772 (Size Column) ≡ answer_lines h
+  enough g = all_lines 120772 (total (record_count h Column) (record_count h Row) (h.grid.placements + h.grid.cells) (few_records (grid_in h.grid Column)) (few_records (grid_in h.grid Row)) g)

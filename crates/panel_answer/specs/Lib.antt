@@ -3,3 +3,4 @@ pub mod Answer
 pub mod Listed
 pub mod Walk
 pub mod Text
+pub mod Printed

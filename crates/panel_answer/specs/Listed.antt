@@ -5,14 +5,15 @@ use Rattle.coordinates.specs.Refusals.{Refusal}
 use Rattle.track_rules.specs.declared.TrackWalk.{TrackWalk}
 use Rattle.sheet_rules.specs.Answers.{refused_with}
 use Rattle.panel_answer.specs.declared.AnswerLine.{AnswerLine as Told}
-use Rattle.panel_answer.specs.declared.AnswerLine.TheVariants.{Refused as ToldRefused, Size as ToldSize, Record as ToldRecord, Place as ToldPlace}
+use Rattle.panel_answer.specs.declared.AnswerLine.TheVariants.{Refused as ToldRefused, Size as ToldSize, Record as ToldRecord, Place as ToldPlace, Cell as ToldCell}
 
--- a refusal; the size of an axis; a record of it, by its index and what is carried to it; a placement, by its index; none
+-- a refusal; the size of an axis; a record of it, by its index and what is carried to it; a placement or a cell, by its index; none
 pub data AnswerLine : Type 0 where
   Refused : Refusal → AnswerLine
   Size : Axis → AnswerLine
   Record : Axis → ℕ → TrackWalk → AnswerLine
   Place : ℕ → AnswerLine
+  Cell : ℕ → AnswerLine
   End : AnswerLine
 
 -- a line that is left
@@ -21,6 +22,7 @@ answered_line (ToldRefused f) = Refused (refused_with f).refusal
 answered_line (ToldSize a) = Size a
 answered_line (ToldRecord a i s) = Record a i s
 answered_line (ToldPlace i) = Place i
+answered_line (ToldCell k) = Cell k
 
 -- the line that is next, or the end
 abbrev pub answered_next : Option Told → AnswerLine

@@ -1,8 +1,9 @@
-// The answer to a sheet as the panel program prints it: columns, rows, then the placements, or why it is refused.
+// The answer to a sheet as the panel program prints it: columns, rows, placements, then the cells, or why it is refused.
 
 #![tactic(auto)]
 
 mod axis;
+pub mod begin;
 pub mod fill;
 pub mod line;
 mod place;
@@ -13,16 +14,17 @@ use sheet_rules::SheetFault;
 use track_rules::TrackWalk;
 
 // A line of an answer: why the sheet is refused; the size of an axis; a record of it, by its index and what is carried to it; a placement, by its
-// index.
+// index, without text where it is a cell's half; a cell, by its index.
 #[derive(Clone, Copy, Debug, PartialEq)]
 pub enum AnswerLine {
     Refused(SheetFault),
     Size(Axis),
     Record(Axis, u32, TrackWalk),
     Place(u32),
+    Cell(u32),
 }
 
-// A sheet that was read: what answers, zeros where it is refused, and the first line of its answer.
+// A sheet that was read, and its cells placed: what answers, zeros where it is refused, and the first line of its answer.
 #[derive(Clone, Copy, Debug, PartialEq)]
 pub struct Begun {
     pub grid: Grid,

@@ -10,6 +10,7 @@ ghost use Rattle.panel_answer.specs.Walk.{line_text, next_line};
 ghost use Rattle.coordinates.specs.declared.axis.Axis.TheVariants.{Column, Row};
 
 use crate::{AnswerLine, axis, place};
+use cell_placing::MOST_PLACED;
 use panel_tables::{Grid, LentPanel};
 use sheet_rules::{LineFault, SheetFault};
 
@@ -22,8 +23,14 @@ fn put_refused(out: &mut [u8], fault: SheetFault) -> usize
 }
 
 // Writes a line at the start of lent bytes and answers its length.
-pub fn put_line(out: &mut [u8], grid: Grid, lent: LentPanel, at: AnswerLine) -> usize
-    ensures { WritesLine out.old (line_text (held_with grid lent.entry) (answered_line at)) out.new result }
+pub fn put_line(
+    out: &mut [u8],
+    grid: Grid,
+    lent: LentPanel,
+    lands: &[u64; MOST_PLACED],
+    at: AnswerLine,
+) -> usize
+    ensures { WritesLine out.old (line_text (held_with grid lent.entry lands.now) (answered_line at)) out.new result }
 {
     match at {
         AnswerLine::Refused(fault) => put_refused(out, fault),
@@ -33,6 +40,7 @@ pub fn put_line(out: &mut [u8], grid: Grid, lent: LentPanel, at: AnswerLine) -> 
             axis::put_record(out, lent, index, state)
         }
         AnswerLine::Place(index) => place::put_place(out, grid, lent, index),
+        AnswerLine::Cell(index) => place::put_cell(out, lands, index),
     }
 }
 
@@ -51,5 +59,6 @@ pub fn next_line(grid: Grid, lent: LentPanel, at: AnswerLine) -> Option<AnswerLi
             axis::next_record(grid, lent, axis, index, state)
         }
         AnswerLine::Place(index) => place::place_from(grid, index as u64 + 1),
+        AnswerLine::Cell(index) => place::cell_from(grid, index as u64 + 1),
     }
 }

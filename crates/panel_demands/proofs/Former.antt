@@ -9,7 +9,7 @@ use lib.Dec.{eqb, ltb}
 use lib.ListN.{length}
 use Rattle.text.specs.Split.{split}
 use Rattle.sheet_forms.specs.Said.{Record}
-use Rattle.sheet_forms.specs.Said.{Fault, Axis as AxisLine, Area, Name, Track, Repeat, End, Spare, Extra, Item, Place, PictureRow}
+use Rattle.sheet_forms.specs.Said.{Fault, Axis as AxisLine, Area, Name, Track, Repeat, End, Spare, Extra, Item, Place, PictureRow, Cell}
 use Rattle.sheet_forms.specs.Faults.{first_of, no_row, first_row}
 use Rattle.sheet_forms.specs.Records.{record_of, fault_of}
 use Rattle.sheet_forms.proofs.Firsts.{first_either, first_none}
@@ -83,6 +83,7 @@ module _ (v : PanelView) (fs : List (List ℕ)) where
   any-number (Item a i) e = record-number (Item a i) e tt
   any-number (Place a s t) e = record-number (Place a s t) e tt
   any-number (PictureRow n) e = record-number (PictureRow n) e tt
+  any-number (Cell cs ce rs re) e = record-number (Cell cs ce rs re) e tt
 
   line-number : (line_step v fs).fault ≡ 12 → ⊥
   unfolding line_step

@@ -24,7 +24,7 @@ use Rattle.axis_tables.proofs.Runs.{All}
 use Rattle.panel_tables.specs.View.{PanelView, empty_view}
 use Rattle.sheet_forms.specs.Words.{kind_words}
 use Rattle.sheet_forms.specs.Faults.{no_row, first_row}
-use Rattle.sheet_forms.specs.Forms.{Kind, axis, area, name, track, repeat, end, spare, extra, item, place, row, Of, InNameRange, parts_of}
+use Rattle.sheet_forms.specs.Forms.{Kind, axis, area, name, track, repeat, end, spare, extra, item, place, row, cell, Of, InNameRange, parts_of}
 use Rattle.sheet_forms.specs.Rows.{BadWord, BadWords, NameOutside, ValueOutside, CountOutside, Some}
 use Rattle.sheet_forms.proofs.FieldRows.{name_range}
 use Rattle.sheet_rules.specs.Contents.{Line, lines_from, lines_of, those, lines_with, area_in, picture_in}
@@ -198,6 +198,7 @@ only_row ws extra o = absurd (omega (arith, ap second o.word))
 only_row ws item o = absurd (omega (arith, ap second o.word))
 only_row ws place o = absurd (omega (arith, ap second o.word))
 only_row ws row o = refl
+only_row ws cell o = absurd (omega (arith, ap second o.word))
 
 -- ---- what an accepted row keeps to
 

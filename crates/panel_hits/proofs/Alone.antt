@@ -9,8 +9,10 @@ use Rattle.coordinates.specs.Refusals.{count}
 use Rattle.coordinates.specs.declared.axis.Axis.{Axis}
 use Rattle.coordinates.specs.declared.axis.Axis.TheVariants.{Column, Row}
 use Rattle.track_counts.specs.declared.counts.TrackCounts.{TrackCounts}
+use Rattle.name_resolver.specs.Placements.{resolved_ends}
 use Rattle.axis_tables.specs.declared.AxisState.{AxisState}
 use Rattle.panel_tables.specs.declared.Grid.{Grid}
+use Rattle.panel_tables.specs.Placements.{axis_mark}
 use Rattle.coordinates.specs.Axes.{axis_number}
 use Rattle.panel_rules.specs.Placing.{PlacementAnswer}
 use Rattle.panel_rules.specs.Calls.{axis_tracks}
@@ -27,7 +29,7 @@ use Rattle.panel_hits.specs.Settled.{Lent, settled, counts_in, settled_hit, sett
 use Rattle.panel_hits.specs.Alone.{lent_of, hits_in, SameHits}
 use Rattle.panel_hits.proofs.Numbers.{same-passing}
 
--- ---- all of 256 places, held or not
+-- ---- all of 512 places, held or not
 
 -- looking further where nothing passes adds nothing
 further : (f : ℕ → Bool) (i n m : ℕ) → n ≤ m → ((k : ℕ) → i + n ≤ k → k < i + m → f k ≡ false) → passing f i n ≡ passing f i m
@@ -54,16 +56,20 @@ not-held : (g : Grid) (l : Lent) (i : ℕ) → g.placements ≤ i → settled g 
 unfolding resolve_placement
 not-held g l i h = rw (le-ltb i g.placements h)
 
-all_places : (g : Grid) (l : Lent) (a : Axis) (q : Question) → settled_hits g l a q ≡ passing (λ i. settled_hit a (counts_in g a) q (settled g l i)) 0 256
+all_places : (g : Grid) (l : Lent) (a : Axis) (q : Question) → settled_hits g l a q ≡ passing (λ i. settled_hit a (counts_in g a) q (settled g l i)) 0 512
 unfolding settled_hits
 all_places g l a q =
-    further (λ i. settled_hit a (counts_in g a) q (settled g l i)) 0 (min g.placements 256) 256 (omega arith)
+    further (λ i. settled_hit a (counts_in g a) q (settled g l i)) 0 (min g.placements 512) 512 (omega arith)
     (λ k h b. ap (settled_hit a (counts_in g a) q) (not-held g l k (omega arith)) ∙ refused_out a (counts_in g a) q count)
 
 -- a placement of the rows is in no list of the columns
 row_out : (c : TrackCounts) (q : Question) (p : PlacementAnswer) → p.axis ≡ Row → settled_hit Column c q p ≡ false
 unfolding settled_hit
-row_out c q p e = rw e
+row_out c q p e = rw e (go p.cell)
+  where
+    go : (t : Bool) → eqb (axis_mark Row t) 0 && answers q (occupied_of c (resolved_ends p.line)) ≡ false
+    go true = refl
+    go false = refl
 
 module _ (p q : Run) (d : DifferInRows p q) where
   counts_same : counts_in (held_by p).panel.grid Column ≡ counts_in (held_by q).panel.grid Column
@@ -84,7 +90,7 @@ module _ (p q : Run) (d : DifferInRows p q) where
   hits-same : (question : Question) → hits_in (held_by p) Column question ≡ hits_in (held_by q) Column question
   hits-same question =
       all_places (held_by p).panel.grid (lent_of (held_by p)) Column question
-      ∙ same-passing _ _ 0 256 (λ i h b. hit_same question i)
+      ∙ same-passing _ _ 0 512 (λ i h b. hit_same question i)
       ∙ sym (all_places (held_by q).panel.grid (lent_of (held_by q)) Column question)
 
   -- beside the third demand: both lists for the columns are the same in runs that differ in rows alone

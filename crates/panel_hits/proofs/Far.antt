@@ -1,4 +1,4 @@
--- A panel holds 256 placements; what stands past them, which no sheet gives, has no lines. Assumes nothing.
+-- A panel holds 512 placements; what stands past them, which no sheet gives, has no lines. Assumes nothing.
 use Prim.Native.Nat.{ℕ, ◌≤◌}
 use mathlib.Core.Path.{◌≡◌, refl}
 use mathlib.Core.Bool.{Bool, true, false, cond}
@@ -28,26 +28,26 @@ auto_free x names l e = by (leb x.explicit 10000)
     by true = rw e
     by false = refl
 
-placed_free : (r : Resolution) (a : Axis) (s : Bool) → (resolved_ends r.line).first ≡ free → (resolved_ends (placed_by r a s).line).first ≡ free
-placed_free r a s e = by (eqb r.refusal.number 0) s
+placed_free : (r : Resolution) (a : Axis) (cell s : Bool) → (resolved_ends r.line).first ≡ free → (resolved_ends (placed_by r a cell s).line).first ≡ free
+placed_free r a cell s e = by (eqb r.refusal.number 0) s
   where
-    by : (t s : Bool) → (resolved_ends (cond t (cond s (refused_placement short) (record { refusal = record { number = 0; line = 0 }; axis = a; line = r.line; held = r.held })) (refused_placement r.refusal.number)).line).first ≡ free
+    by : (t s : Bool) → (resolved_ends (cond t (cond s (refused_placement short) (record { refusal = record { number = 0; line = 0 }; axis = a; cell = cell; line = r.line; held = r.held })) (refused_placement r.refusal.number)).line).first ≡ free
     by true true = refl
     by true false = e
     by false s = refl
 
-far_auto : (words : List ℕ) (i : ℕ) → 256 ≤ i → (line_placement (placement_at words i)).start ≡ Auto
+far_auto : (words : List ℕ) (i : ℕ) → 512 ≤ i → (line_placement (placement_at words i)).start ≡ Auto
 unfolding placement_at end_of
-far_auto words i h = rw (le-ltb i 256 h)
+far_auto words i h = rw (le-ltb i 512 h)
 
-pub far_free : (g : Grid) (l : Lent) (i : ℕ) → 256 ≤ i → (resolved_ends (settled g l i).line).first ≡ free
+pub far_free : (g : Grid) (l : Lent) (i : ℕ) → 512 ≤ i → (resolved_ends (settled g l i).line).first ≡ free
 unfolding resolve_placement
 far_free g l i h = by (ltb i g.placements)
   where
     place : PlacementPlace
     place = placement_at l.placements.words i
 
-    by : (t : Bool) → (resolved_ends (cond t (placed_by (resolution_of (names_in g l.names l.areas place.axis) l.placements.bytes (line_placement place)) place.axis (short_names l.names)) (refused_placement count)).line).first ≡ free
-    by true = placed_free (resolution_of (names_in g l.names l.areas place.axis) l.placements.bytes (line_placement place)) place.axis (short_names l.names)
+    by : (t : Bool) → (resolved_ends (cond t (placed_by (resolution_of (names_in g l.names l.areas place.axis) l.placements.bytes (line_placement place)) place.axis place.cell (short_names l.names)) (refused_placement count)).line).first ≡ free
+    by true = placed_free (resolution_of (names_in g l.names l.areas place.axis) l.placements.bytes (line_placement place)) place.axis place.cell (short_names l.names)
         (auto_free (names_in g l.names l.areas place.axis) l.placements.bytes (line_placement place) (far_auto l.placements.words i h))
     by false = refl

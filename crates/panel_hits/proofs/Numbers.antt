@@ -12,7 +12,7 @@ use Rattle.coordinates.specs.declared.axis.Axis.{Axis}
 use Rattle.track_counts.specs.declared.counts.TrackCounts.{TrackCounts}
 use Rattle.name_resolver.specs.Types.{NonNamedGridPlacement}
 use Rattle.coordinates.specs.declared.line.GenericGridPlacement.TheVariants as Plain
-use Rattle.name_resolver.specs.Placements.{resolved_kind_of, resolved_number_of, resolved_of}
+use Rattle.name_resolver.specs.Placements.{resolved_kind_of, resolved_number_of, resolved_of, resolved_ends}
 use Rattle.panel_tables.specs.declared.Grid.{Grid}
 use Rattle.panel_rules.specs.Placing.{PlacementAnswer}
 use Rattle.panel_rules.specs.Calls.{shorter_store}
@@ -35,6 +35,11 @@ module _ (numbers : List ℤ) (i : ℕ) (p : PlacementAnswer) where
   -- the eight numbers of the placement stand there
   abbrev pub Stands : Type 0
   Stands = (j : ℕ) → j < 8 → number_at numbers i j ≡ get_or (numbers_of (placement_numbers p)) j (pos 0)
+
+  -- its ends
+  pub ends-settled : Stands → ends_at numbers i ≡ resolved_ends p.line
+  unfolding ends_at placement_numbers
+  ends-settled s = rw (s 2 (omega arith), s 3 (omega arith), s 4 (omega arith), s 5 (omega arith), end_back p.line.start, end_back p.line.end)
 
   pub hit-settled : (a : Axis) (c : TrackCounts) (q : Question) → Stands
       → is_hit (asked_of a c q) numbers i ≡ settled_hit a c q p
@@ -85,7 +90,7 @@ same-passing f g i (suc n) e =
 
 module _ (g : Grid) (l : Lent) (lent : List ℤ) where
   -- what the run leaves: all placements that there are, where the stores are long enough
-  pub run-stands : (n : ℕ) → n ≤ 256 → length lent ≡ 2048 → (i : ℕ) → i < n → Stands (sets lent 0 (run g l 0 n)) i (settled g l i)
+  pub run-stands : (n : ℕ) → n ≤ 512 → length lent ≡ 4096 → (i : ℕ) → i < n → Stands (sets lent 0 (run g l 0 n)) i (settled g l i)
   run-stands n few long i h j k =
       let e : 0 + i ≡ i = omega arith in
       read_back lent (run g l 0 n) (8 * i + j) (omega (arith, run_length g l 0 n)) (omega (arith, run_length g l 0 n))
@@ -93,25 +98,25 @@ module _ (g : Grid) (l : Lent) (lent : List ℤ) where
 
   -- the run is not refused where there is a placement
   pub run-left : (w : WrittenNumbers) → w ≡ placements_written g l.names l.areas l.placements 0 lent → 32768 ≤ shorter_store l.names → 0 < g.placements
-      → w.numbers ≡ sets lent 0 (run g l 0 (min 256 (g.placements - 0)))
+      → w.numbers ≡ sets lent 0 (run g l 0 (min 512 (g.placements - 0)))
   unfolding placements_written numbers_refusal numbers_count
   run-left w e stores some = ap (λ (x : WrittenNumbers). x.numbers) e ∙ rw (lt-leb g.placements 0 some, le-ltb (shorter_store l.names) 32768 stores)
 
   -- what is listed of it is what is listed of the settled placements
-  pub run-hits : (w : WrittenNumbers) (a : Axis) (q : Question) → w ≡ placements_written g l.names l.areas l.placements 0 lent → 32768 ≤ shorter_store l.names → length lent ≡ 2048
-      → passing (is_hit (asked_of a (counts_in g a) q) w.numbers) 0 (min g.placements 256) ≡ settled_hits g l a q
+  pub run-hits : (w : WrittenNumbers) (a : Axis) (q : Question) → w ≡ placements_written g l.names l.areas l.placements 0 lent → 32768 ≤ shorter_store l.names → length lent ≡ 4096
+      → passing (is_hit (asked_of a (counts_in g a) q) w.numbers) 0 (min g.placements 512) ≡ settled_hits g l a q
   unfolding settled_hits
   run-hits w a q e stores long =
-      same-passing _ _ 0 (min g.placements 256) (λ k h b.
-      let n : ℕ = min 256 (g.placements - 0) in
+      same-passing _ _ 0 (min g.placements 512) (λ k h b.
+      let n : ℕ = min 512 (g.placements - 0) in
       let below : k < n = omega arith in
       ap (λ (x : List ℤ). is_hit (asked_of a (counts_in g a) q) x k) (run-left w e stores (omega arith))
       ∙ hit-settled (sets lent 0 (run g l 0 n)) k (settled g l k) a (counts_in g a) q (run-stands n (omega arith) long k below))
 
   -- the same of what the code asks with
   pub settled-listed : (w : WrittenNumbers) (a : Axis) (q : Question) (c : TrackCounts) (hits : List ℕ) (r : Listed) → c ≡ counts_in g a
-      → w ≡ placements_written g l.names l.areas l.placements 0 lent → 32768 ≤ shorter_store l.names → length lent ≡ 2048
-      → r ≡ listed_of (passing (is_hit (asked_of a c q) w.numbers) 0 (min g.placements 256)) hits
+      → w ≡ placements_written g l.names l.areas l.placements 0 lent → 32768 ≤ shorter_store l.names → length lent ≡ 4096
+      → r ≡ listed_of (passing (is_hit (asked_of a c q) w.numbers) 0 (min g.placements 512)) hits
       → r ≡ listed_of (settled_hits g l a q) hits
   settled-listed w a q c hits r f run stores long listed =
       listed ∙ rw f (ap (λ (list : List ℕ). listed_of list hits) (run-hits w a q run stores long))

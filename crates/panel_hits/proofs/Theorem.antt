@@ -1,6 +1,6 @@
 -- What the two calls list is what document 02 words, in placement order and complete. Assumes nothing.
 use Prim.Native.Nat.{ℕ, zero, suc, ◌≤◌, ◌<◌, min}
-use mathlib.Core.Path.{◌≡◌, refl, sym, ap, ◌∙◌}
+use mathlib.Core.Path.{◌≡◌, refl, sym, ap₂, ◌∙◌}
 use mathlib.Core.Bool.{Bool, true, false, cond, ◌&&◌}
 use mathlib.Core.List.{List}
 use mathlib.Core.Logic.{⊎_elim}
@@ -18,6 +18,7 @@ use Rattle.name_rules.specs.Css.{free, at_line}
 use Rattle.name_resolver.specs.Placements.{resolved_ends}
 use Rattle.panel_tables.specs.declared.Grid.{Grid}
 use Rattle.panel_tables.specs.Axes.{grid_in}
+use Rattle.panel_tables.specs.Placements.{axis_mark}
 use Rattle.panel_tables.specs.Regions.{axis_words_in}
 use Rattle.coordinates.specs.Axes.{axis_number}
 use Rattle.panel_rules.specs.Calls.{shorter_store}
@@ -43,11 +44,19 @@ use Rattle.panel_hits.proofs.Answers.{lower-none}
 
 -- ---- an axis by its number
 
-same_axis_lem : (a b : Axis) → axis_number a ≡ axis_number b → a ≡ b
-same_axis_lem Column Column e = refl
-same_axis_lem Column Row e = absurd (omega (arith, e))
-same_axis_lem Row Column e = absurd (omega (arith, e))
-same_axis_lem Row Row e = refl
+same-mark : (a : Axis) (cell : Bool) (b : Axis) → axis_mark a cell ≡ axis_number b → (a ≡ b) × (cell ≡ false)
+same-mark Column false Column e = (refl, refl)
+same-mark Column false Row e = absurd (omega (arith, e))
+same-mark Row false Column e = absurd (omega (arith, e))
+same-mark Row false Row e = (refl, refl)
+same-mark Column true Column e = absurd (omega (arith, e))
+same-mark Column true Row e = absurd (omega (arith, e))
+same-mark Row true Column e = absurd (omega (arith, e))
+same-mark Row true Row e = absurd (omega (arith, e))
+
+axis_alone : (a : Axis) → axis_mark a false ≡ axis_number a
+axis_alone Column = refl
+axis_alone Row = refl
 
 both : (s t : Bool) → s && t ≡ true → (s ≡ true) × (t ≡ true)
 both true t e = (refl, e)
@@ -56,33 +65,33 @@ both false t e = absurd (let z : ◌≡◌ {A = ℕ} 0 1 = cc in omega arith)
 -- ---- a list of those that pass
 
 module _ (g : Grid) (l : Lent) (a : Axis) (q : Question) where
-  -- a placement is of the axis, and its answer holds
+  -- a placement is of the axis and no cell's half, and its answer holds
   pub hit-parts : (i : ℕ) → settled_hit a (counts_in g a) q (settled g l i) ≡ true
-      → ((settled g l i).axis ≡ a) × (answers q (occupied_of (counts_in g a) (resolved_ends (settled g l i).line)) ≡ true)
+      → (((settled g l i).axis ≡ a) × ((settled g l i).cell ≡ false)) × (answers q (occupied_of (counts_in g a) (resolved_ends (settled g l i).line)) ≡ true)
   unfolding settled_hit
   hit-parts i t =
-      let h = both (eqb (axis_number (settled g l i).axis) (axis_number a)) (answers q (occupied_of (counts_in g a) (resolved_ends (settled g l i).line))) t in
-      (same_axis_lem (settled g l i).axis a (eqb-true _ _ h.0), h.1)
+      let h = both (eqb (axis_mark (settled g l i).axis (settled g l i).cell) (axis_number a)) (answers q (occupied_of (counts_in g a) (resolved_ends (settled g l i).line))) t in
+      (same-mark (settled g l i).axis (settled g l i).cell a (eqb-true _ _ h.0), h.1)
 
-  pub parts-hit : (i : ℕ) → (settled g l i).axis ≡ a → answers q (occupied_of (counts_in g a) (resolved_ends (settled g l i).line)) ≡ true
+  pub parts-hit : (i : ℕ) → (settled g l i).axis ≡ a → (settled g l i).cell ≡ false → answers q (occupied_of (counts_in g a) (resolved_ends (settled g l i).line)) ≡ true
       → settled_hit a (counts_in g a) q (settled g l i) ≡ true
   unfolding settled_hit
-  parts-hit i e t = rw (eq-eqb (axis_number (settled g l i).axis) (axis_number a) (ap axis_number e), t)
+  parts-hit i e f t = rw (eq-eqb (axis_mark (settled g l i).axis (settled g l i).cell) (axis_number a) (ap₂ axis_mark e f ∙ axis_alone a), t)
 
-  -- in order, of all placements that the panel says it holds: those past 256 have no lines
+  -- in order, of all placements that the panel says it holds: those past 512 have no lines
   pub listed-in-order : (Member : ℕ → Type 0) → ((i : ℕ) → Member i → OnGrid (counts_in g a) (resolved_ends (settled g l i).line))
       → ((i : ℕ) → settled_hit a (counts_in g a) q (settled g l i) ≡ true → Member i) → ((i : ℕ) → Member i → settled_hit a (counts_in g a) q (settled g l i) ≡ true)
       → InOrder g.placements Member (settled_hits g l a q)
   unfolding settled_hits
   listed-in-order Member on to from =
-      let o = passing-in-order (λ i. settled_hit a (counts_in g a) q (settled g l i)) (min g.placements 256) Member (λ i h t. to i t) (λ i h m. from i m) in
+      let o = passing-in-order (λ i. settled_hit a (counts_in g a) q (settled g l i)) (min g.placements 512) Member (λ i h t. to i t) (λ i h m. from i m) in
       record {
-        complete = λ i h m. ⊎_elim (λ (b : i < 256). o.complete i (omega arith) m) (λ (b : 256 ≤ i). absurd (not-far i b m)) (lt_or_ge i 256);
-        only = λ i m. let p = o.only i m in let b : i < min g.placements 256 = p.0 in (omega arith, p.1);
+        complete = λ i h m. ⊎_elim (λ (b : i < 512). o.complete i (omega arith) m) (λ (b : 512 ≤ i). absurd (not-far i b m)) (lt_or_ge i 512);
+        only = λ i m. let p = o.only i m in let b : i < min g.placements 512 = p.0 in (omega arith, p.1);
         ascending = o.ascending;
       }
     where
-      not-far : (i : ℕ) → 256 ≤ i → Member i → ⊥
+      not-far : (i : ℕ) → 512 ≤ i → Member i → ⊥
       not-far i b m = let own = (on i m).own in let e : free ≡ at_line own.start = sym (far_free g l i b) ∙ own.first in let z : ◌≡◌ {A = ℕ} 0 1 = cc in omega arith
 
 -- ---- the two lists
@@ -94,8 +103,8 @@ unfolding answers
 around_in_order g l s not-0 =
     listed-in-order g l s.axis (AroundPlace (place_of (counts_in g s.axis) s.line)) (AroundLine g l s) (λ i m. m.lines.on)
     (λ i t. let h = hit-parts g l s.axis (AroundPlace (place_of (counts_in g s.axis) s.line)) i t in
-    record { axis = h.0; lines = around-between (counts_in g s.axis) s.line not-0 (resolved_ends (settled g l i).line) h.1 })
-    (λ i m. parts-hit g l s.axis (AroundPlace (place_of (counts_in g s.axis) s.line)) i m.axis (between-around (counts_in g s.axis) s.line not-0 (resolved_ends (settled g l i).line) m.lines))
+    record { axis = h.0.0; place = h.0.1; lines = around-between (counts_in g s.axis) s.line not-0 (resolved_ends (settled g l i).line) h.1 })
+    (λ i m. parts-hit g l s.axis (AroundPlace (place_of (counts_in g s.axis) s.line)) i m.axis m.place (between-around (counts_in g s.axis) s.line not-0 (resolved_ends (settled g l i).line) m.lines))
 
 -- within a span, where the lines inside it are those from place `below` on and before place `upto`
 pub within_in_order : (g : Grid) (words : List ℕ) (l : Lent) (items : List ℕ) (s : AxisSpan) (below upto : ℕ)
@@ -106,8 +115,8 @@ unfolding answers
 within_in_order g words l items s below upto to from =
     listed-in-order g l s.axis (WithinPlaces below upto) (InSpan g words l items s) (λ i m. m.lines.on)
     (λ i t. let h = hit-parts g l s.axis (WithinPlaces below upto) i t in
-    record { axis = h.0; lines = within-inside (counts_in g s.axis) (InsideSpan g words items s) below upto (resolved_ends (settled g l i).line) to h.1 })
-    (λ i m. parts-hit g l s.axis (WithinPlaces below upto) i m.axis (inside-within (counts_in g s.axis) (InsideSpan g words items s) below upto (resolved_ends (settled g l i).line) from m.lines))
+    record { axis = h.0.0; place = h.0.1; lines = within-inside (counts_in g s.axis) (InsideSpan g words items s) below upto (resolved_ends (settled g l i).line) to h.1 })
+    (λ i m. parts-hit g l s.axis (WithinPlaces below upto) i m.axis m.place (inside-within (counts_in g s.axis) (InsideSpan g words items s) below upto (resolved_ends (settled g l i).line) from m.lines))
 
 -- ---- the two calls
 

@@ -1,5 +1,5 @@
 -- Which placements the two lists hold, in the words of document 02, Req 01.
-use Rattle.std.specs.Prelude.{◌≡◌, List, ℕ, length}
+use Rattle.std.specs.Prelude.{◌≡◌, false, List, ℕ, length}
 use Rattle.std.proofs.lemmas.List.Edits.{sets}
 use Rattle.name_resolver.specs.Placements.{resolved_ends}
 use Rattle.panel_tables.specs.declared.Grid.{Grid}
@@ -19,14 +19,16 @@ abbrev pub InsideSpan : Grid → List ℕ → List ℕ → AxisSpan → ℕ → 
 InsideSpan g words items s k =
     Within (inner_in (grid_in g s.axis).space) (records_on (grid_in g s.axis) (axis_words_in s.axis words) items) (pixels s.bits.low) (pixels s.bits.high) k
 
--- placement i, as settled, is one of the axis "with both lines within a pixel span"
+-- placement i, as settled, is one of the axis and no cell's half, "with both lines within a pixel span"
 pub record InSpan (g : Grid) (words : List ℕ) (l : Lent) (items : List ℕ) (s : AxisSpan) (i : ℕ) : Type 0 where
   pub axis : (settled g l i).axis ≡ s.axis
+  pub place : (settled g l i).cell ≡ false
   pub lines : LinesInside (counts_in g s.axis) (InsideSpan g words items s) (resolved_ends (settled g l i).line)
 
--- placement i, as settled, is one of the axis "with a given grid line strictly between their own"
+-- placement i, as settled, is one of the axis and no cell's half, "with a given grid line strictly between their own"
 pub record AroundLine (g : Grid) (l : Lent) (s : Around) (i : ℕ) : Type 0 where
   pub axis : (settled g l i).axis ≡ s.axis
+  pub place : (settled g l i).cell ≡ false
   pub lines : LineBetween (counts_in g s.axis) s.line (resolved_ends (settled g l i).line)
 
 -- what a call writes where it refuses nothing: a list of just these, from the first place on

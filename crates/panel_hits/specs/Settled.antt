@@ -7,6 +7,7 @@ use Rattle.panel_tables.specs.declared.Grid.{Grid}
 use Rattle.panel_tables.specs.declared.LentPanel.{LentPanel}
 use Rattle.panel_tables.specs.Axes.{grid_in}
 use Rattle.coordinates.specs.Axes.{axis_number}
+use Rattle.panel_tables.specs.Placements.{most_placements, axis_mark}
 use Rattle.panel_rules.specs.Placing.{PlacementAnswer}
 use Rattle.panel_rules.specs.Calls.{NameTables, NamedWords, name_tables_in, area_table_in, placement_table_in, axis_tracks}
 use Rattle.panel_rules.specs.Placing.{resolve_placement}
@@ -34,12 +35,12 @@ settled g l i = resolve_placement g l.names l.areas l.placements i
 abbrev pub counts_in : Grid → Axis → TrackCounts
 counts_in g a = (axis_tracks (grid_in g a)).counts
 
--- a placement of the axis of which holds what is asked; one that is refused has no lines
+-- a placement of the axis of which holds what is asked, and no cell's half: cells "are in no cursor list"; one that is refused has no lines
 unfoldable pub settled_hit : Axis → TrackCounts → Question → PlacementAnswer → Bool
 unfolding answers occupied_of
-settled_hit a c q p = eqb (axis_number p.axis) (axis_number a) && answers q (occupied_of c (resolved_ends p.line))
+settled_hit a c q p = eqb (axis_mark p.axis p.cell) (axis_number a) && answers q (occupied_of c (resolved_ends p.line))
 
--- those of a panel, by their indexes; a panel holds 256 placements at most, and what stands past them has no lines
+-- those of a panel, by their indexes; a panel holds 512 placements at most, two for each cell, and what stands past them has no lines
 unfoldable pub settled_hits : Grid → Lent → Axis → Question → List ℕ
 unfolding settled_hit passing
-settled_hits g l a q = passing (λ i. settled_hit a (counts_in g a) q (settled g l i)) 0 (min g.placements 256)
+settled_hits g l a q = passing (λ i. settled_hit a (counts_in g a) q (settled g l i)) 0 (min g.placements most_placements)

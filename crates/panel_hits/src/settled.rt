@@ -6,9 +6,8 @@ ghost use Rattle.placement_hits.specs.Steps.{Listed, listed_of};
 ghost use Rattle.panel_hits.specs.Settled.{counts_in, lent_of, settled_hits};
 
 use coordinates::Axis;
-use coordinates::limit::PLACEMENT_RUN;
 use panel_calls::axis_track::axis_tracks;
-use panel_resolving::run::write_placements;
+use panel_resolving::run::{PLACEMENT_RUN, write_placements};
 use panel_tables::axis::grid_in;
 use panel_tables::{Grid, LentPanel};
 use placement_hits::list::{MOST_HITS, write_hits};
@@ -22,8 +21,8 @@ pub(crate) fn counts_in(grid: Grid, axis: Axis) -> TrackCounts
     axis_tracks(grid_in(grid, axis)).counts
 }
 
-// Writes the placements that answer a question, from the first place on, all of them resolved in one run; how many there are. A panel with
-// no placements has no run, and an empty list.
+// Writes the placements that answer a question, no halves of cells, from the first place on, all of them resolved in one run; how many there
+// are. A panel with no placements has no run, and an empty list.
 pub(crate) fn write_settled(
     grid: Grid,
     lent: LentPanel,

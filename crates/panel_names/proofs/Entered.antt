@@ -68,7 +68,7 @@ others_stay : (words : List ℕ) (a : Axis) (i v : ℕ) → i < 12480 →
 unfolding area_words_in placement_words_in
 others_stay words a i v h =
     let below : first_word a + i < 24960 = within a in
-    (set_before words 24960 128 v (first_word a + i) below, set_before words 25088 512 v (first_word a + i) (omega arith))
+    (set_before words 24960 128 v (first_word a + i) below, set_before words 25088 1280 v (first_word a + i) (omega arith))
   where
     within : (b : Axis) → first_word b + i < 24960
     within Column = omega arith

@@ -8,6 +8,8 @@ use Rattle.panel_answer.specs.Listed.{AnswerLine, answered_next}
 use Rattle.panel_answer.specs.declared.Filled.{Filled}
 use Rattle.panel_answer.specs.Answer.{GridHeld}
 use Rattle.panel_answer.specs.Text.{FillsText, text_from}
+use Rattle.panel_answer.specs.Printed.{PrintedFor}
+use Rattle.panel_program.specs.Printed.{zero_tables, zero_lands, PrintsAnswer}
 use lib.Seq.{sets-eq, take-append-add, take-append_seam, length-take-le}
 
 -- what was read before and some bytes more
@@ -66,10 +68,11 @@ part_ok {A} {E} {s} {r} t {out₀} {out} {h} {at} {filled} {before} {mid} after 
     go (Err d) y u v = record { if_ok = tt }
 
 -- the whole text, where nothing is left of it
-pub ok_whole : {A E : Type 0} {r : Result A E} {before after : Option (List ℕ)} {left whole text : List ℕ} → PrintedOk A E r before after left whole → left ≡ [] → whole ≡ text
-    → OnOk r (Appends before after text)
-ok_whole {A} {E} {r} {before} {after} {left} {whole} {text} p e w = go r p.if_ok
+pub ok_whole : {A E : Type 0} {r : Result A E} {before after : Option (List ℕ)} {left whole : List ℕ} (sheet : List ℕ) → PrintedOk A E r before after left whole → left ≡ []
+    → PrintedFor sheet zero_tables zero_lands whole
+    → OnOk r (PrintsAnswer sheet before after)
+ok_whole {A} {E} {r} {before} {after} {left} {whole} sheet p e w = go r p.if_ok
   where
-    go : (x : Result A E) → OnOk x (PrintedUpTo before after left whole) → OnOk x (Appends before after text)
-    go (Ok a) u = subst (Appends before after) w (all_printed u e)
+    go : (x : Result A E) → OnOk x (PrintedUpTo before after left whole) → OnOk x (PrintsAnswer sheet before after)
+    go (Ok a) u = record { text = whole; answer = w; printed = all_printed u e }
     go (Err d) u = tt

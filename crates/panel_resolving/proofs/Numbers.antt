@@ -23,7 +23,7 @@ use Rattle.name_resolver.specs.Types.{NonNamedGridPlacement}
 use Rattle.coordinates.specs.declared.line.GenericGridPlacement.TheVariants.{Auto, Line as AtLine, Span}
 use Rattle.name_resolver.specs.Placements.{resolved_kind_of}
 use Rattle.panel_tables.specs.declared.Grid.{Grid}
-use Rattle.coordinates.specs.Axes.{axis_number}
+use Rattle.panel_tables.specs.Placements.{axis_mark}
 use Rattle.panel_rules.specs.Calls.{NameTables, NamedWords, shorter_store}
 use Rattle.panel_rules.specs.declared.PlacedLine.{PlacedLine}
 use Rattle.panel_rules.specs.Placing.{answered_placement}
@@ -51,9 +51,11 @@ small-fault Unequal = omega arith
 small-fault Broken = omega arith
 small-fault Unplaced = omega arith
 
-small_axis : (a : Axis) → axis_number a < 2147483648
-small_axis Column = omega arith
-small_axis Row = omega arith
+small_axis : (a : Axis) (cell : Bool) → axis_mark a cell < 2147483648
+small_axis Column true = omega arith
+small_axis Column false = omega arith
+small_axis Row true = omega arith
+small_axis Row false = omega arith
 
 small_kind : (e : NonNamedGridPlacement) → resolved_kind_of e < 2147483648
 small_kind Auto = omega arith
@@ -74,7 +76,7 @@ small-numbers r =
     let a = answered_placement r in
     record {
       number = small_answer r;
-      axis = small_axis a.axis;
+      axis = small_axis a.axis a.cell;
       startkind = small_kind a.line.start;
       endkind = small_kind a.line.end;
       startheld = small-mark a.held.start;

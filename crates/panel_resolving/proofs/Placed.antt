@@ -24,31 +24,31 @@ module _ (p : Grid) (t : NameTables) (areas placements : NamedWords) (index : �
   -- the placement read, its ends, the resolver's answer and the stores' lengths make the answer
   pub placed : index < p.placements → (place : PlacementPlace) (line : WrittenLine) (r : Resolution) (is_short : Bool) (answer : PlacementAnswer) →
       place ≡ placement_at placements.words index → line ≡ line_placement place → r ≡ resolution_of (names_in p t areas place.axis) placements.bytes line →
-      is_short ≡ short_names t → answer ≡ placed_by r place.axis is_short → answer ≡ resolve_placement p t areas placements index
+      is_short ≡ short_names t → answer ≡ placed_by r place.axis place.cell is_short → answer ≡ resolve_placement p t areas placements index
   unfolding resolve_placement
   placed h place line r is_short answer at ends by stores is = rw (lt-ltb index p.placements h)
-      (is ∙ ap (λ (x : Bool). placed_by r place.axis x) stores ∙ ap (λ (x : Resolution). placed_by x place.axis (short_names t)) by
-      ∙ ap (λ (x : WrittenLine). placed_by (resolution_of (names_in p t areas place.axis) placements.bytes x) place.axis (short_names t)) ends
-      ∙ ap (λ (x : PlacementPlace). placed_by (resolution_of (names_in p t areas x.axis) placements.bytes (line_placement x)) x.axis (short_names t)) at)
+      (is ∙ ap (λ (x : Bool). placed_by r place.axis place.cell x) stores ∙ ap (λ (x : Resolution). placed_by x place.axis place.cell (short_names t)) by
+      ∙ ap (λ (x : WrittenLine). placed_by (resolution_of (names_in p t areas place.axis) placements.bytes x) place.axis place.cell (short_names t)) ends
+      ∙ ap (λ (x : PlacementPlace). placed_by (resolution_of (names_in p t areas x.axis) placements.bytes (line_placement x)) x.axis x.cell (short_names t)) at)
 
 -- what the stores' lengths make of the answer for long ones
-module _ (r : Resolution) (a : Axis) where
-  abbrev placed_if : (s t : Bool) → Resolution → Axis → PlacementAnswer
-  placed_if s t r a = cond s (cond t (refused_placement short) (record { refusal = no_refusal; axis = a; line = r.line; held = r.held })) (refused_placement r.refusal.number)
+module _ (r : Resolution) (a : Axis) (cell : Bool) where
+  abbrev placed_if : (s t : Bool) → PlacementAnswer
+  placed_if s t = cond s (cond t (refused_placement short) (record { refusal = no_refusal; axis = a; cell = cell; line = r.line; held = r.held })) (refused_placement r.refusal.number)
 
   -- a refusal of the resolver comes before theirs
-  pub refused-placed : (fault : Fault) (s : Bool) → answered_placement (Err fault) ≡ placed_by r a false → answered_placement (Err fault) ≡ placed_by r a s
+  pub refused-placed : (fault : Fault) (s : Bool) → answered_placement (Err fault) ≡ placed_by r a cell false → answered_placement (Err fault) ≡ placed_by r a cell s
   refused-placed fault s = go (eqb r.refusal.number 0)
     where
-      go : (b : Bool) → answered_placement (Err fault) ≡ placed_if b false r a → answered_placement (Err fault) ≡ placed_if b s r a
+      go : (b : Bool) → answered_placement (Err fault) ≡ placed_if b false → answered_placement (Err fault) ≡ placed_if b s
       go true e = absurd (fault_some fault (ap (λ (x : PlacementAnswer). x.refusal.number) e))
       go false e = e
 
   -- a placement that was answered is refused by short ones
-  pub short-placed : (x : PlacedLine) → answered_placement (Ok x) ≡ placed_by r a false → refused_placement short ≡ placed_by r a true
+  pub short-placed : (x : PlacedLine) → answered_placement (Ok x) ≡ placed_by r a cell false → refused_placement short ≡ placed_by r a cell true
   short-placed x = go (eqb r.refusal.number 0) refl
     where
-      go : (b : Bool) → eqb r.refusal.number 0 ≡ b → answered_placement (Ok x) ≡ placed_if b false r a → refused_placement short ≡ placed_if b true r a
+      go : (b : Bool) → eqb r.refusal.number 0 ≡ b → answered_placement (Ok x) ≡ placed_if b false → refused_placement short ≡ placed_if b true
       go true f e = refl
       go false f e = absurd (eqb-false r.refusal.number 0 f (sym (ap (λ (y : PlacementAnswer). y.refusal.number) e)))
 

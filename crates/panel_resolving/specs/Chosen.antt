@@ -28,7 +28,7 @@ on_axis a placements i = eqb (axis_number (placement_at placements i).axis) (axi
 -- its numbers, by what resolves a placement
 abbrev pub numbers_by : (WrittenLine → Resolution) → List ℕ → ℕ → List ℤ
 numbers_by resolve placements i =
-    numbers_of (placement_numbers (placed_by (resolve (line_placement (placement_at placements i))) (placement_at placements i).axis false))
+    numbers_of (placement_numbers (placed_by (resolve (line_placement (placement_at placements i))) (placement_at placements i).axis (placement_at placements i).cell false))
 
 -- the same run beside entries that are kept in another way
 abbrev pub run_grouped : Run → Grouping → Run

@@ -40,9 +40,9 @@ run_numbers g t areas placements first (suc n) =
 unfoldable pub numbers_refusal : ℕ → ℕ → ℕ → ℕ
 numbers_refusal held shorter first = cond (leb held first) count (cond (ltb shorter 32768) short 0)
 
--- how many placements are written: as many as there are, and as fit in the 2,048 numbers that are lent
+-- how many placements are written: as many as there are, and as fit in the 4,096 numbers that are lent
 unfoldable pub numbers_count : ℕ → ℕ → ℕ
-numbers_count held first = min 256 (held - first)
+numbers_count held first = min 512 (held - first)
 
 -- the answer, and what the lent numbers hold
 pub record WrittenNumbers : Type 0 where

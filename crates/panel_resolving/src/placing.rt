@@ -25,16 +25,20 @@ use panel_rules::PlacedLine;
 use panel_tables::axis::grid_in;
 use panel_tables::placement::placement_at;
 use panel_tables::region::{PANEL_BYTES, PANEL_WORDS, placement_words};
-use panel_tables::{Grid, LentPanel};
+use panel_tables::{Grid, LentPanel, PlacementPlace};
 
-// The answer for a placement of an axis, or the resolver's refusal.
+// The answer for a placement, or the resolver's refusal.
 pub(crate) fn placed_on(
     resolved: Result<ResolvedPlacement, Fault>,
-    axis: Axis,
+    place: PlacementPlace,
 ) -> Result<PlacedLine, Fault>
-    ensures { answered_placement result ≡ placed_by (answered_resolution resolved) axis false }
+    ensures { answered_placement result ≡ placed_by (answered_resolution resolved) place.axis place.cell false }
 {
-    resolved.map(|placed| PlacedLine { axis, placed })
+    resolved.map(|placed| PlacedLine {
+        axis: place.axis,
+        cell: place.cell,
+        placed,
+    })
 }
 
 // What a placement of an axis is resolved beside, its name entries kept together.
@@ -89,7 +93,7 @@ pub fn resolve_placement(grid: Grid, lent: LentPanel, index: u32) -> Result<Plac
         return Err(Fault::Count);
     }
     let place = placement_at(placement_words(lent.words), index);
-    let placed = placed_on(resolve_in(grid, lent, index), place.axis)?;
+    let placed = placed_on(resolve_in(grid, lent, index), place)?;
     LentNames::from(lent).check_stores()?;
     Ok(placed)
 }

@@ -67,7 +67,7 @@ pub(crate) fn write_beside(
             put_placement(
                 numbers,
                 PLACEMENT_NUMBERS * i as usize,
-                placed_on(last, place.axis),
+                placed_on(last, place),
             );
         }
     }

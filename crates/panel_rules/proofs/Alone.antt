@@ -20,7 +20,7 @@ use Rattle.sheet_rules.proofs.Chosen.{accepted_former, display_former_lem, whole
 use Rattle.panel_rules.specs.Runs.{Call}
 use Rattle.panel_rules.specs.Book.{added_from}
 use Rattle.panel_rules.specs.Alone.{row_template_line, without_rows, kept_lines, column_calls}
-use Rattle.panel_rules.proofs.ColumnView.{only_columns, column_step, line_columns, row_line_lem}
+use Rattle.panel_rules.proofs.ColumnView.{only_columns, only-twice, column_step, line_columns, row_line_lem}
 
 -- ---- the sheet
 
@@ -40,13 +40,13 @@ kept_columns (l ∷ ls) v = go (row_template_line (split 9 l)) refl (kept_column
 
     go : (t : Bool) → row_template_line (split 9 l) ≡ t → columns_from (only_columns v) ls ≡ columns_from (only_columns v) (without_rows ls)
         → columns_from w ls ≡ columns_from w (without_rows ls) → columns_from w ls ≡ columns_from (only_columns v) (cond t (without_rows ls) (l ∷ without_rows ls))
-    go true e x y = ap (λ (u : PanelView). columns_from u ls) (row_line_lem (only_columns v) (split 9 l) e) ∙ x
+    go true e x y = ap (λ (u : PanelView). columns_from u ls) (row_line_lem (only_columns v) (split 9 l) e ∙ only-twice v) ∙ x
     go false e x y = y
 
 -- nothing stands after the last line feed, and that does nothing
 last_line_lem : (v : PanelView) → column_step (only_columns v) (split 9 []) ≡ only_columns v
 unfolding split index same record_step
-last_line_lem v = rw (no_record ([] ∷ []) (omega arith))
+last_line_lem v = rw (no_record ([] ∷ []) (omega arith)) (only-twice v)
 
 ended_view : (n : ℕ) (v : PanelView) → (ended n v).view ≡ v
 unfolding ended

@@ -25,7 +25,7 @@ use Rattle.panel_tables.specs.Axes.{grid_in, view_in}
 use Rattle.panel_tables.specs.Placements.{placement_at as place_at}
 use Rattle.panel_tables.specs.Written.{placement_words, placement_store}
 use Rattle.panel_tables.proofs.Axes.{axis_in_fits}
-use Rattle.panel_tables.proofs.Fits.{FitsPanel}
+use Rattle.panel_tables.proofs.Fits.{FitsPanel, few_placements}
 use Rattle.sheet_rules.specs.Sheet as Sheet
 use Rattle.sheet_rules.specs.Sheet.{counted, explicit_of, end_fault}
 use Rattle.sheet_rules.specs.Panels.{Tables, entry_words, sized_state, sized_panel, tables_of}
@@ -43,7 +43,7 @@ use Rattle.panel_rules.proofs.Ends.{no_fault}
 use Rattle.panel_rules.proofs.BookBack.{book-back}
 use Rattle.panel_rules.proofs.AxisBack.{explicit_few, template-held, spares_held, tracks-held}
 use Rattle.panel_rules.proofs.AreasBack.{areas-held}
-use Rattle.panel_rules.proofs.PlacingBack.{axis-held, start-held, end-held}
+use Rattle.panel_rules.proofs.PlacingBack.{axis-held, cell-held, start-held, end-held}
 
 -- neither store is short
 long_stores : (a b : ℕ) → (ltb a 32768 || ltb b 32768) ≡ false → (32768 ≤ a) × (32768 ≤ b)
@@ -167,15 +167,15 @@ module _ (v : PanelView) (f : FitsPanel v) (range : PanelRange v) (ok : end_faul
   -- ---- a placement
 
   -- the answer for two ends, by the rule over the names of an axis
-  abbrev answer_for : Axis → Css.Placement → Css.Placement → PlacementAnswer
-  answer_for a p q =
+  abbrev answer_for : Axis → Bool → Css.Placement → Css.Placement → PlacementAnswer
+  answer_for a cell p q =
       let x : AxisNames = names_after v a (es a) in
-      record { refusal = no_refusal; axis = a; line = ends_of (resolve x.explicit (named? x) p q); held = held_answer (held_ends x.explicit (named? x) p q) }
+      record { refusal = no_refusal; axis = a; cell = cell; line = ends_of (resolve x.explicit (named? x) p q); held = held_answer (held_ends x.explicit (named? x) p q) }
 
   -- placement i as its words and bytes hold it, and the names of its axis
   module _ (i : ℕ) (k : i < length v.placements) where
     abbrev place : PlacementPlace
-    place = place_at (placement_words v.placements) i
+    place = place_at (placement_words v.placements v.cells) i
 
     abbrev bytes : List ℕ
     bytes = placement_store v.placements
@@ -192,18 +192,20 @@ module _ (v : PanelView) (f : FitsPanel v) (range : PanelRange v) (ok : end_faul
         ∙ resolution-accepted (names_after v place.axis (es place.axis)) bytes (line_placement place) (explicit_few (view_in v place.axis) (no_fault v ok place.axis))
 
     -- the resolver's answer is the rule's for the sheet's placement
-    placed-after : placed_by (resolution_of names bytes (line_placement place)) place.axis (short_names (names_of h.tables))
-        ≡ answer_for (placement_at v i).axis (css_end (placement_at v i).start) (css_end (placement_at v i).end)
+    placed-after : placed_by (resolution_of names bytes (line_placement place)) place.axis place.cell (short_names (names_of h.tables))
+        ≡ answer_for (placement_at v i).axis (placement_at v i).cell (css_end (placement_at v i).start) (css_end (placement_at v i).end)
     placed-after =
         let g = f.placed in
         let s = range.placements in
         rw (
           resolved-after,
           long_after,
-          start-held v.placements g s f.placements i k,
-          end-held v.placements g s f.placements i k,
-          axis-held v.placements g s f.placements i k,
+          start-held v.placements v.cells g s (few_placements v f) i k,
+          end-held v.placements v.cells g s (few_placements v f) i k,
+          axis-held v.placements v.cells g s (few_placements v f) i k,
         )
+        (ap (λ (cell : Bool). answer_for (placement_at v i).axis cell (css_end (placement_at v i).start) (css_end (placement_at v i).end))
+        (cell-held v.placements v.cells g s (few_placements v f) i k))
 
   -- `resolve_placement`
   pub placement-after : (i : ℕ) → placement_of h i ≡ placement_after v es i

@@ -64,6 +64,7 @@ placed_on x a p =
     record {
       refusal = no_refusal;
       axis = a;
+      cell = p.cell;
       line = ends_of (resolve x.explicit (named? x) (css_end p.start) (css_end p.end));
       held = held_answer (held_ends x.explicit (named? x) (css_end p.start) (css_end p.end));
     }

@@ -24,6 +24,7 @@ pub record SameCounts (p q : Panel) : Type 0 where
   pub areas : p.grid.areas ≡ q.grid.areas
   pub areabytes : p.room.areabytes ≡ q.room.areabytes
   pub placements : p.grid.placements ≡ q.grid.placements
+  pub cells : p.grid.cells ≡ q.grid.cells
   pub placementbytes : p.room.placementbytes ≡ q.room.placementbytes
   -- of an axis's state, the entries and the bytes used alone may differ
   pub state : (a : Axis) → state_in p a ≡ with_entries (state_in q a) (state_in p a).grid.entries (state_in p a).room.used
@@ -44,6 +45,7 @@ join_counts p q r x y =
       areas = x.areas ∙ y.areas;
       areabytes = x.areabytes ∙ y.areabytes;
       placements = x.placements ∙ y.placements;
+      cells = x.cells ∙ y.cells;
       placementbytes = x.placementbytes ∙ y.placementbytes;
       state = λ a. x.state a ∙ ap (λ (s : AxisState). with_entries s (state_in p a).grid.entries (state_in p a).room.used) (y.state a);
     }
@@ -61,7 +63,7 @@ join h k l x y =
 -- ---- one call
 
 same_counts : (p : Panel) → SameCounts p p
-same_counts p = record { areas = refl; areabytes = refl; placements = refl; placementbytes = refl; state = λ a. refl }
+same_counts p = record { areas = refl; areabytes = refl; placements = refl; cells = refl; placementbytes = refl; state = λ a. refl }
 
 -- one entry more on an axis
 state-entered : (p : Panel) (length : ℕ) (a b : Axis) → let q : Panel = with_state p a (with_entry (state_in p a) length) in
@@ -72,8 +74,8 @@ state-entered p length Row Column = refl
 state-entered p length Row Row = refl
 
 panel-entered : (p : Panel) (a : Axis) (length : ℕ) → SameCounts (with_state p a (with_entry (state_in p a) length)) p
-panel-entered p Column length = record { areas = refl; areabytes = refl; placements = refl; placementbytes = refl; state = state-entered p length Column }
-panel-entered p Row length = record { areas = refl; areabytes = refl; placements = refl; placementbytes = refl; state = state-entered p length Row }
+panel-entered p Column length = record { areas = refl; areabytes = refl; placements = refl; cells = refl; placementbytes = refl; state = state-entered p length Column }
+panel-entered p Row length = record { areas = refl; areabytes = refl; placements = refl; cells = refl; placementbytes = refl; state = state-entered p length Row }
 
 words_entered : (t : NameTables) (s : AxisState) (line : ℕ) (name : Bytes) (a b : Axis) → take 8384 (words_in (entered_in t a s line name) b) ≡ take 8384 (words_in t b)
 words_entered t s line name Column Column = take-set-le 8384 t.columns (8384 + s.grid.entries) (word_of line s.room.used (length name)) (omega arith)

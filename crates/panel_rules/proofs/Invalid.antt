@@ -27,7 +27,7 @@ use Rattle.panel_rules.specs.Placing.{PlacementAnswer}
 use Rattle.panel_rules.specs.Placing.{refused_placement}
 use Rattle.panel_rules.specs.Added.{sheet_axis, added}
 use Rattle.panel_rules.specs.Alone.{Run}
-use Rattle.panel_rules.specs.Invalid.{without_template, emptied, InvalidBesideEmpty, SameAnswers}
+use Rattle.panel_rules.specs.Invalid.{without_template, emptied, unlined, InvalidBesideEmpty, SameAnswers}
 use Rattle.panel_rules.proofs.Counted.{size_for, counted-size}
 use Rattle.panel_rules.proofs.Runs.{run-entries, run-sizes, run-lists, run-names, run-records, run-placements, run-filled, run-fill}
 
@@ -120,6 +120,15 @@ unfolding placement_after
 placement_alike Column v h es i = let a = (placement_at v i).axis in ap (placed_by v i) (named-alike Column v h a (es a))
 placement_alike Row v h es i = let a = (placement_at v i).axis in ap (placed_by v i) (named-alike Row v h a (es a))
 
+-- no answer turns on where lines stood
+unlined-names : (v : PanelView) (a : Axis) (es : List Entry) → names_after v a es ≡ names_after (unlined v) a es
+unlined-names v Column es = refl
+unlined-names v Row es = refl
+
+unlined-placed : (v : PanelView) (es : Axis → List Entry) (i : ℕ) → placement_after v es i ≡ placement_after (unlined v) es i
+unfolding placement_after
+unlined-placed v es i = let a = (placement_at v i).axis in ap (placed_by v i) (unlined-names v a (es a))
+
 -- ---- two runs
 pub as_if_empty : (a : Axis) (p q : Run) → InvalidBesideEmpty a p q → SameAnswers p q
 as_if_empty a p q h =
@@ -143,7 +152,9 @@ as_if_empty a p q h =
       placements = λ i.
           run-placements p.sheet p.tables p.calls h.first i
           ∙ placement_alike a (sheet_of p.sheet).view h.invalid (λ b. added p.sheet b p.calls) i
+          ∙ unlined-placed (emptied a (sheet_of p.sheet).view) (λ b. added p.sheet b p.calls) i
           ∙ ap₂ (λ (v : PanelView) (es : Axis → List Entry). placement_after v es i) (sym h.panel) (λ j b. h.entries b j)
+          ∙ sym (unlined-placed (sheet_of q.sheet).view (λ b. added q.sheet b q.calls) i)
           ∙ sym (run-placements q.sheet q.tables q.calls h.second i);
       records = λ b items i.
           run-records p.sheet p.tables p.calls h.first b items i
@@ -157,7 +168,8 @@ as_if_empty a p q h =
     }
   where
     alike : (b : Axis) → Alike (sheet_axis p.sheet b) (sheet_axis q.sheet b)
-    alike b = subst (λ (w : PanelView). Alike (sheet_axis p.sheet b) (view_in w b)) (sym h.panel) (emptied-alike a (sheet_of p.sheet).view h.invalid b)
+    alike Column = subst (λ (w : PanelView). Alike (sheet_axis p.sheet Column) w.columns) (sym h.panel) (emptied-alike a (sheet_of p.sheet).view h.invalid Column)
+    alike Row = subst (λ (w : PanelView). Alike (sheet_axis p.sheet Row) w.rows) (sym h.panel) (emptied-alike a (sheet_of p.sheet).view h.invalid Row)
 
     filled-alike : (b : Axis) (items : List ℕ) (run : List GridTrack)
         → run_after (tracks_after (sheet_axis p.sheet b)) (components_of (counted (sheet_axis p.sheet b))) (map sizes_of (sheet_axis p.sheet b).spares) items run

@@ -9,15 +9,16 @@ use lib.ListN.{length, drop, length-append, length-replicate}
 use Rattle.coordinates.specs.declared.axis.Axis.{Axis}
 use Rattle.coordinates.specs.declared.axis.Axis.TheVariants.{Column, Row}
 use Rattle.sheet_forms.specs.Said.{Record}
-use Rattle.sheet_forms.specs.Said.{Fault, Axis as AxisLine, Area as AreaLine, Name, Track, Repeat, End as EndLine, Spare, Extra, Item, Place, PictureRow}
+use Rattle.sheet_forms.specs.Said.{Fault, Axis as AxisLine, Area as AreaLine, Name, Track, Repeat, End as EndLine, Spare, Extra, Item, Place, PictureRow, Cell}
 use Rattle.sheet_forms.specs.Words.{at}
 use Rattle.sheet_forms.specs.Records.{record_of}
 use Rattle.sheet_forms.proofs.Bounds.{Bounded}
 use Rattle.sheet_forms.proofs.Theorem.{record_bounded}
 use Rattle.axis_tables.specs.View.{AxisView, AxisOutcome, empty_axis, track_step, repeat_step, end_step, name_step, spare_step, item_step, extra_step, axis_step, named_fault}
-use Rattle.axis_tables.proofs.Runs.{all_append}
+use Rattle.axis_tables.proofs.Runs.{All, all_append}
 use Rattle.panel_tables.specs.declared.AreaEdges.{AreaEdges}
-use Rattle.panel_tables.specs.View.{Area, End, Placement, PanelView, empty_view, refused, accepted, raised, edges_outside, end_outside, area_step, place_step}
+use Rattle.panel_tables.specs.View.{Area, End, Placement, PanelView, empty_view, refused, accepted, raised, edges_outside, area_step, ends_fault, lower, limited_step, with_item, place_step, half, cell_step}
+use Rattle.panel_tables.proofs.Fits.{limited_by}
 use Rattle.panel_tables.specs.Areas.{edges_in}
 use Rattle.panel_tables.specs.Axes.{view_in, step_in}
 use Rattle.sheet_rules.specs.Lines.{bit, late_at, edges_of, placed_end, record_step, at_stage}
@@ -61,7 +62,7 @@ area_range v n e r = go (edges_outside e) (ltb 32 (length n)) (leb 64 (length v.
     x = record { name = n; edges = e }
 
     w : PanelView
-    w = record { columns = raised v.columns e.columnend; rows = raised v.rows e.rowend; areas = v.areas ++ (x ∷ []); picture = v.picture; placements = v.placements; stage = v.stage }
+    w = record { columns = raised v.columns e.columnend; rows = raised v.rows e.rowend; areas = v.areas ++ (x ∷ []); picture = v.picture; placements = v.placements; cells = v.cells; stage = v.stage; lines = v.lines }
 
     more : (a : Axis) → max (spanned a v) ((edges_in e a).end - 1) ≡ spanned a w
     more a = omega (arith, largest-more a v.areas x)
@@ -76,27 +77,24 @@ area_range v n e r = go (edges_outside e) (ltb 32 (length n)) (leb 64 (length v.
     go false false true = r
     go false false false = record { axes = both; placements = r.placements; even = r.even }
 
-place_range : (v : PanelView) (a : Axis) (s e : End) → EndRange s → EndRange e → PanelRange v → PanelRange (place_step v a s e).panel
-unfolding place_step
-place_range v a s e h k r = go (end_outside s.end) (end_outside e.end) (ltb 32 (length s.name)) (ltb 32 (length e.name)) (leb 256 (length v.placements))
+-- one item more, whose placements keep to their ranges
+placed_range : (v : PanelView) (fault : ℕ) (ps : List Placement) (cs : List ℕ) → All PlacementRange ps → PanelRange v → PanelRange (limited_step v fault (with_item v ps cs)).panel
+placed_range v fault ps cs h r = limited_by PanelRange v fault (with_item v ps cs) r (λ x y. record { axes = both; placements = h; even = r.even })
   where
-    x : Placement
-    x = record { axis = a; start = s; end = e }
-
-    w : PanelView
-    w = record { columns = v.columns; rows = v.rows; areas = v.areas; picture = v.picture; placements = v.placements ++ (x ∷ []); stage = v.stage }
-
-    both : (b : Axis) → AxisRange (spanned b v) (view_in w b)
+    both : (b : Axis) → AxisRange (spanned b v) (view_in (with_item v ps cs) b)
     both Column = r.axes Column
     both Row = r.axes Row
 
-    go : (c d f g i : Bool) → PanelRange (cond c (refused (named_fault (length s.name) (named_fault (length e.name) 4)) v) (cond d (refused (named_fault (length s.name) (named_fault (length e.name) 4)) v) (cond f (refused 2 v) (cond g (refused 2 v) (cond i (refused 8 v) (accepted w)))))).panel
-    go true d f g i = r
-    go false true f g i = r
-    go false false true g i = r
-    go false false false true i = r
-    go false false false false true = r
-    go false false false false false = record { axes = both; placements = all_append PlacementRange v.placements (x ∷ []) r.placements ((h, k), tt); even = r.even }
+place_range : (v : PanelView) (a : Axis) (s e : End) → EndRange s → EndRange e → PanelRange v → PanelRange (place_step v a s e).panel
+unfolding place_step
+place_range v a s e h k r = placed_range v (ends_fault s e) _ v.cells (all_append PlacementRange v.placements (_ ∷ []) r.placements ((h, k), tt)) r
+
+cell_range : (v : PanelView) (cs ce rs re : End) → EndRange cs → EndRange ce → EndRange rs → EndRange re → PanelRange v → PanelRange (cell_step v cs ce rs re).panel
+unfolding cell_step
+cell_range v cs ce rs re h k l m r =
+    let c : Placement = half Column cs ce in
+    placed_range v (lower (ends_fault cs ce) (ends_fault rs re)) _ _
+    (all_append PlacementRange (v.placements ++ (c ∷ [])) (half Row rs re ∷ []) (all_append PlacementRange v.placements (c ∷ []) r.placements ((h, k), tt)) ((l, m), tt)) r
 
 -- a row that may be drawn, where all areas are the picture's
 row_range : (v : PanelView) (ws : List Word) → v.areas ≡ areas_of v.picture → PanelRange v → PanelRange (picture_step v ws).panel
@@ -148,6 +146,7 @@ record_range v fs (Spare a min max) b p f r = in_range v a (spare_step (view_in 
 record_range v fs (Extra a m n) b p f r = in_range v a (extra_step (view_in v a) m n) r (extra-range (spanned a v) (view_in v a) m n b.0 b.1)
 record_range v fs (Item a i) b p f r = in_range v a (item_step (view_in v a) i) r (item-range (spanned a v) (view_in v a) i)
 record_range v fs (Place a s e) b p f r = place_range v a (placed_end (at fs 3) s) (placed_end (at fs 6) e) p.0 p.1 r
+record_range v fs (Cell cs ce rs re) b p f r = cell_range v (placed_end (at fs 2) cs) (placed_end (at fs 5) ce) (placed_end (at fs 8) rs) (placed_end (at fs 11) re) p.0.0 p.0.1 p.1.0 p.1.1 r
 record_range v fs (PictureRow n) b p f r = go (late_at 2 v.stage) refl
   where
     go : (t : Bool) → late_at 2 v.stage ≡ t → PanelRange (cond t (accepted v) (picture_step v (drop 1 fs))).panel

@@ -27,6 +27,8 @@ pub mod Order
 pub mod Tracks
 pub mod Runs
 pub mod Invalid
+--   the halves of cells: `settled_as_places`
+pub mod Cells
 --   one more name: `one-more-name`
 pub mod OneMoreName
 pub mod RegularTest

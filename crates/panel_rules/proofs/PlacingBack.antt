@@ -47,22 +47,25 @@ ranged [] i r h = absurd (omega arith)
 ranged (p ∷ ps) zero r h = r.0
 ranged (p ∷ ps) (suc i) r h = ranged ps i r.1 (omega arith)
 
-module _ (ps : List Placement) (g : All GoodPlacement ps) (r : All PlacementRange ps) (few : length ps ≤ 256) (i : ℕ) (h : i < length ps) where
+module _ (ps : List Placement) (lines : List ℕ) (g : All GoodPlacement ps) (r : All PlacementRange ps) (few : length ps ≤ 512) (i : ℕ) (h : i < length ps) where
   -- what the tables hold of placement i
   abbrev place : PlacementPlace
-  place = placement_at (placement_words ps) i
+  place = placement_at (placement_words ps lines) i
 
   -- placement i of the sheet
   abbrev wanted : Placement
   wanted = get_or ps i no_placement
 
   -- read back, one is the other
-  whole : placement_in (placement_words ps) (placement_store ps) i ≡ wanted
-  whole = placement_held ps g few i h
+  whole : placement_in (placement_words ps lines) (placement_store ps) i ≡ wanted
+  whole = placement_held ps lines g few i h
 
   -- so is its axis, and so is what each end says
   pub axis-held : place.axis ≡ wanted.axis
   axis-held = ap (λ (p : Placement). p.axis) whole
+
+  pub cell-held : place.cell ≡ wanted.cell
+  cell-held = ap (λ (p : Placement). p.cell) whole
 
   pub start-held : placement_of (placement_store ps) (end_placement place.start) ≡ css_end wanted.start
   start-held = end_reads (placement_store ps) place.start wanted.start (ap (λ (p : Placement). p.start) whole) (ranged ps i r h).0

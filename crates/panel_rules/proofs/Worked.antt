@@ -11,11 +11,13 @@ use lib.ListN.{length, get_or}
 use borrow.Author.Tests.{eq-eqb}
 use Rattle.coordinates.specs.declared.axis.Axis.{Axis}
 use Rattle.coordinates.specs.declared.axis.Axis.TheVariants.{Column, Row}
+use Rattle.coordinates.specs.declared.line.GenericGridPlacement.TheVariants as Placed
 use Rattle.coordinates.specs.Refusals.{count}
 use Rattle.name_rules.specs.Css.{Bytes, Entry}
 use Rattle.name_rules.specs.Conditions.{SameMembers}
 use Rattle.name_rules.specs.Rule.{seek, named?}
 use Rattle.name_rules.specs.Template.{repeated, passed, rule_from}
+use Rattle.name_resolver.specs.Types.{NonNamedGridPlacement, ResolvedLine}
 use Rattle.text.specs.Split.{split, onto, same, index}
 use Rattle.text.specs.Whole.{digits_of, natural_of, non_negative, negative, whole_of, count_in, index_in}
 use Rattle.text.specs.Hexadecimal.{bits_from, bits_of}
@@ -30,8 +32,8 @@ use Rattle.template_rules.specs.Whole.{floor_of, ceiling_of}
 use Rattle.sheet_forms.specs.Faults.{rank_of, first_of}
 use Rattle.sheet_forms.specs.Fields.{axis_of, rule_of, count_of, repetition_of, codes, name_fault}
 use Rattle.sheet_forms.specs.Sizes.{kind_of, size_of as size_read, inner_of}
-use Rattle.sheet_forms.specs.Ends.{end_kind, end_name, end_number, end_of}
-use Rattle.sheet_forms.specs.Records.{axis_line, area_line, name_line, sizes_line, repeat_line, end_line, extra_line, item_line, place_line, fixed_kind, by_kind, record_of as record_read}
+use Rattle.sheet_forms.specs.Ends.{end_kind, end_name, end_number, end_within}
+use Rattle.sheet_forms.specs.Records.{axis_line, area_line, name_line, sizes_line, repeat_line, end_line, extra_line, item_line, place_line, cell_line, fixed_kind, by_kind, record_of as record_read}
 use Rattle.name_entries.specs.Names.{is_name}
 use Rattle.std.proofs.lemmas.Bool.{and_parts}
 use Rattle.name_entries.specs.LineNames.{shown_after, explicit_line_names}
@@ -40,7 +42,7 @@ use Rattle.track_rules.specs.Tracks.{refused_record}
 use Rattle.track_rules.specs.Written.{written_out}
 use Rattle.track_rules.specs.Records.{listed, open_to, all_tracks, records_of, axis_refusal, record_answer_of}
 use Rattle.axis_tables.specs.View.{Item, AxisView, components_of, empty_axis, track_step, repeat_step, end_step, name_step, spare_step, item_step, extra_step, axis_step}
-use Rattle.panel_tables.specs.View.{PanelView, empty_view, area_step, place_step}
+use Rattle.panel_tables.specs.View.{PanelView, empty_view, area_step, end_fault as end_own, lower, limited_step, place_step, cell_step}
 use Rattle.panel_tables.specs.Axes.{view_in}
 use Rattle.panel_cells.specs.Steps.{shares, sharing_from}
 use Rattle.sheet_rules.specs.Lines.{record_step, record_fault, strict_fault, line_fault, shared_at, line_step}
@@ -55,14 +57,14 @@ use Rattle.sheet_rules.specs.Read.{SheetRead, short_stores, read_by}
 use Rattle.panel_rules.specs.Placing.{PlacementAnswer}
 use Rattle.axis_tables.specs.declared.AxisSize.{AxisSize}
 use Rattle.panel_rules.specs.Placing.{refused_placement}
-use Rattle.panel_rules.specs.Runs.{Held, Call, Accepted, run_of, marks_of, size_of, name_of, record_of}
-use Rattle.panel_rules.specs.Views.{size_after, lists_after, name_after, record_after, placement_after}
+use Rattle.panel_rules.specs.Runs.{Held, Call, Accepted, run_of, marks_of, size_of, placement_of, name_of, record_of}
+use Rattle.panel_rules.specs.Views.{span_of, size_after, lists_after, name_after, record_after, placement_after}
 use Rattle.panel_rules.specs.Added.{sheet_axis, found_in, added}
 use Rattle.panel_rules.specs.Book.{CssTemplate, as_written, sheet_book, sheet_tracks, table_refusal, added_from, book, AllValid, RegularAxis, Regular}
 use Rattle.panel_rules.specs.Order.{SamePanel, SameEntries}
 use Rattle.panel_rules.specs.Alone.{row_template_line, without_rows, kept_lines, column_calls, held_by, DifferInRows}
 use Rattle.panel_rules.specs.Worked.{AxisWorked, Worked, accepted, AxisAnswers, Answers, view_of, found, Met, MetButValid, run_from, lent, sample_sheet, sample, row_sheet, row_run, other_sheet, other_run, called_sheet, first_order, second_order, named_sheet, named_run, bench_sheet, bench_four, empty_sheet, bench_empty}
-use Rattle.panel_rules.specs.Invalid.{emptied, InvalidBesideEmpty}
+use Rattle.panel_rules.specs.Invalid.{emptied, unlined, InvalidBesideEmpty}
 use Rattle.panel_rules.proofs.RegularTest.{regular_test, regular-by-test, valid_test, valid_by_test, invalid_by_test, non_zero_test, non_zero_by_test, all_among, all_among_lem}
 use Rattle.panel_rules.proofs.Sheets.{read_former}
 use Rattle.panel_rules.proofs.Run.{added_to}
@@ -208,7 +210,7 @@ record All : Type 0 where
   of_named : computed named_run ≡ expected named_run
   of_bench : computed bench_four ≡ expected bench_four
   of_empty : computed bench_empty ≡ expected bench_empty
-  emptied_bench : view_of bench_empty ≡ emptied Column (view_of bench_four)
+  emptied_bench : unlined (view_of bench_empty) ≡ unlined (emptied Column (view_of bench_four))
   -- which templates are valid
   sample_valid : ValidIn sample
   row_valid : ValidIn row_run
@@ -238,8 +240,8 @@ all : All
 unfolding sample_sheet sample row_sheet row_run other_sheet other_run called_sheet first_order second_order named_sheet named_run bench_sheet bench_four empty_sheet bench_empty
     split onto same index digits_of natural_of non_negative negative whole_of count_in index_in bits_from bits_of
     up_to minimum_kind largest_of value_in_range length_in_range float_up_to sizing_of_kind sizing_of rank_of first_of axis_of rule_of count_of repetition_of codes name_fault
-    kind_of size_read inner_of end_kind end_name end_number end_of axis_line area_line name_line sizes_line repeat_line end_line extra_line item_line place_line fixed_kind by_kind record_read
-    empty_axis track_step repeat_step end_step name_step spare_step item_step extra_step axis_step empty_view area_step place_step
+    kind_of size_read inner_of end_kind end_name end_number end_within axis_line area_line name_line sizes_line repeat_line end_line extra_line item_line place_line cell_line fixed_kind by_kind record_read
+    empty_axis track_step repeat_step end_step name_step spare_step item_step extra_step axis_step empty_view area_step end_own lower limited_step place_step cell_step
     template_size_of outside_count automatic_count before_count automatic_tracks any_empty all_fixed every_fixed outside_space repetition_space fitting_of held_of repetitions_of floor_of ceiling_of
     repeated passed rule_from record_step record_fault line_step shares sharing_from strict_fault line_fault shared_at template_size counted entries_of end_fault ended run fold_of broken_at broken_from broken_of is_kind display_of overlap_from overlap_of sheet_of of_bits add sub mul div lt of_int
     sheet_book sheet_tracks table_refusal added_from book is_name
@@ -387,6 +389,19 @@ named-entries = same_runs first_order named_run all.named_columns all.named_rows
 
 -- ---- two runs that differ in nothing but row names and row template, and do differ
 
+-- the line that a settled placement starts at, 0 where it starts at none
+abbrev starts_at : NonNamedGridPlacement → ℕ
+starts_at (Placed.Line g) = span_of g.0
+starts_at Placed.Auto = 0
+starts_at (Placed.Span n) = 0
+
+abbrev first_line : ResolvedLine → ℕ
+first_line l = starts_at l.start
+
+-- the rows of the cell, which is placements 3 and 4 from 0 on
+abbrev cell_rows : Held → ResolvedLine
+cell_rows h = (placement_of h 4).line
+
 kept-lines : kept_lines row_run.sheet ≡ kept_lines other_run.sheet
 unfolding row_run other_run row_sheet other_sheet without_rows row_template_line split onto same
 kept-lines = refl
@@ -406,3 +421,11 @@ module _ (t u : Tables) (long : short_stores t ≡ false) (further : short_store
       let four : (size_of (held_by (run_from row_run t)) Row).explicit ≡ 4 = ap (λ (x : AxisSize). x.explicit) (row_answers t long).rows.sizes in
       let two : (size_of (held_by (run_from other_run u)) Row).explicit ≡ 2 = ap (λ (x : AxisSize). x.explicit) (other-answers u further).rows.sizes in
       omega (arith, sym four ∙ ap (λ (h : Held). (size_of h Row).explicit) e ∙ two)
+
+  -- nor are a cell's rows from line 3 those from line 5, so that where it lands is no column answer
+  pub cell_rows_differ : cell_rows (held_by (run_from row_run t)) ≡ cell_rows (held_by (run_from other_run u)) → ⊥
+  unfolding row_run other_run
+  cell_rows_differ e =
+      let third : first_line (cell_rows (held_by (run_from row_run t))) ≡ 3 = ap (λ (l : List PlacementAnswer). first_line (get_or l 4 (refused_placement count)).line) (row_answers t long).placements in
+      let fifth : first_line (cell_rows (held_by (run_from other_run u))) ≡ 5 = ap (λ (l : List PlacementAnswer). first_line (get_or l 4 (refused_placement count)).line) (other-answers u further).placements in
+      omega (arith, sym third ∙ ap first_line e ∙ fifth)

@@ -60,7 +60,8 @@ pub record DifferInRows (p q : Run) : Type 0 where
   pub lines : kept_lines p.sheet ≡ kept_lines q.sheet
   pub calls : column_calls p.calls ≡ column_calls q.calls
 
--- the column answers after two runs, and those of their entry calls on the columns, are the same
+-- the column answers after two runs, and those of their entry calls on the columns, are the same; "where a cell lands" is none of them, "its
+-- settled fields are" (document 02, request 10): its columns are one of the placements, its rows another
 pub record SameColumns (p q : Run) : Type 0 where
   -- the columns' part of the state that the last call gave back
   pub state : state_in (held_by p).panel Column ≡ state_in (held_by q).panel Column

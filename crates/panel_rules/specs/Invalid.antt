@@ -29,13 +29,27 @@ without_template v =
 abbrev pub emptied : Axis → PanelView → PanelView
 emptied a v = with_view v a (without_template (view_in v a))
 
+-- a panel apart from where its lines stood: fewer lines before a `cell` give it another number
+abbrev pub unlined : PanelView → PanelView
+unlined v =
+    record {
+      columns = v.columns;
+      rows = v.rows;
+      areas = v.areas;
+      picture = v.picture;
+      placements = v.placements;
+      cells = [];
+      stage = v.stage;
+      lines = 0;
+    }
+
 -- the template of an axis is invalid in the first run; the second is over the same panel with an empty one, and has the same accepted entries: the
 -- bytes of the first's `name` records stay used, so a full store can refuse an entry there and not here
 pub record InvalidBesideEmpty (a : Axis) (p q : Run) : Type 0 where
   pub first : AcceptedRun p
   pub second : AcceptedRun q
   pub invalid : ValidTemplate (sheet_axis p.sheet a).template → ⊥
-  pub panel : (sheet_of q.sheet).view ≡ emptied a (sheet_of p.sheet).view
+  pub panel : unlined (sheet_of q.sheet).view ≡ unlined (emptied a (sheet_of p.sheet).view)
   pub entries : (b : Axis) → added p.sheet b p.calls ≡ added q.sheet b q.calls
 
 -- every answer is the same, on both axes

@@ -9,5 +9,6 @@ pub mod Order
 pub mod Ranges
 pub mod Alone
 pub mod Invalid
+pub mod Cells
 pub mod OneMoreName
 pub mod Worked

@@ -18,6 +18,7 @@ pub record SamePanel (v w : PanelView) : Type 0 where
   pub areas : SameMembers v.areas w.areas
   -- "the same areas means the same rows too" (document 02, request 07); as many rows of the same width are enough
   pub pictures : (a : Axis) → drawn_in a v.picture ≡ drawn_in a w.picture
+  -- of the `place` and `cell` lines; the numbers of these lines may differ
   pub placements : v.placements ≡ w.placements
 
 -- "the same accepted entries in any order", of the sheet's names and of the calls together

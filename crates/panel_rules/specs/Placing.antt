@@ -1,5 +1,5 @@
 -- `resolve_placement`: a placement of the table as layer 4 reads it, and the answer (document 01, layer 4).
-use Rattle.std.specs.Prelude.{ℕ, zero, suc, min, Bool, cond, eqb, ltb, ℤ, pos, negsuc, Result, Ok, Err}
+use Rattle.std.specs.Prelude.{ℕ, zero, suc, min, Bool, false, cond, eqb, ltb, ℤ, pos, negsuc, Result, Ok, Err}
 use Rattle.coordinates.specs.declared.axis.Axis.{Axis}
 use Rattle.coordinates.specs.declared.axis.Axis.TheVariants.{Column}
 use Rattle.coordinates.specs.declared.refusal.Fault.{Fault}
@@ -44,27 +44,28 @@ end_placement e = end_by e.end.kind e
 abbrev pub line_placement : PlacementPlace → WrittenLine
 line_placement p = record { start = end_placement p.start; end = end_placement p.end }
 
--- a resolved placement with its axis and the marks of its ends, or a refusal and zeros
+-- a resolved placement with its axis, whether it is a cell's half, and the marks of its ends, or a refusal and zeros
 pub record PlacementAnswer : Type 0 where
   pub refusal : Refusal
   pub axis : Axis
+  pub cell : Bool
   pub line : ResolvedLine
   pub held : HeldEnds
 
 -- a refused answer: its number, line 0 and zeros
 abbrev pub refused_placement : ℕ → PlacementAnswer
-refused_placement n = record { refusal = refusal_of n; axis = Column; line = zero_line; held = no_marks }
+refused_placement n = record { refusal = refusal_of n; axis = Column; cell = false; line = zero_line; held = no_marks }
 
 -- the numbers and values of what a call answers
 abbrev pub answered_placement : Result PlacedLine Fault → PlacementAnswer
-answered_placement (Ok p) = record { refusal = no_refusal; axis = p.axis; line = p.placed.line; held = p.placed.held }
+answered_placement (Ok p) = record { refusal = no_refusal; axis = p.axis; cell = p.cell; line = p.placed.line; held = p.placed.held }
 answered_placement (Err fault) = refused_placement (number_of fault)
 
--- the answer of the resolver, for the placement's axis; 10 comes after every other number
-abbrev pub placed_by : Resolution → Axis → Bool → PlacementAnswer
-placed_by r a is_short =
+-- the answer of the resolver, for the placement's axis and whether it is a cell's half; 10 comes after every other number
+abbrev pub placed_by : Resolution → Axis → Bool → Bool → PlacementAnswer
+placed_by r a cell is_short =
     cond (eqb r.refusal.number 0)
-    (cond is_short (refused_placement short) (record { refusal = no_refusal; axis = a; line = r.line; held = r.held }))
+    (cond is_short (refused_placement short) (record { refusal = no_refusal; axis = a; cell = cell; line = r.line; held = r.held }))
     (refused_placement r.refusal.number)
 
 -- "a placement index that isn't held" is 4
@@ -72,5 +73,5 @@ unfoldable pub resolve_placement : Grid → NameTables → NamedWords → NamedW
 resolve_placement g t areas placements index =
     cond (ltb index g.placements)
     (let place : PlacementPlace = placement_at placements.words index in
-    placed_by (resolution_of (names_in g t areas place.axis) placements.bytes (line_placement place)) place.axis (short_names t))
+    placed_by (resolution_of (names_in g t areas place.axis) placements.bytes (line_placement place)) place.axis place.cell (short_names t))
     (refused_placement count)

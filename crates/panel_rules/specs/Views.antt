@@ -87,7 +87,7 @@ areas_in a list = map (area_in a) list
 abbrev pub names_after : PanelView → Axis → List Entry → AxisNames
 names_after v a es = record { explicit = explicit_of (view_in v a); book = entries_after (view_in v a) es; areas = areas_in a v.areas }
 
--- an end of a `place` line in the words of CSS: kinds `auto line named span nspan` are 0 to 4
+-- an end of a `place` or `cell` line in the words of CSS: kinds `auto line named span nspan` are 0 to 4
 abbrev pub span_of : ℤ → ℕ
 span_of (pos n) = n
 span_of (negsuc k) = 0
@@ -109,7 +109,7 @@ placement_at v i = get_or v.placements i no_placement
 
 -- an answer that is not refused: of the placement's axis, with these ends and marks
 abbrev pub answer_at : Placement → Css.ResolvedEnds → HeldEnds → PlacementAnswer
-answer_at p r h = record { refusal = no_refusal; axis = p.axis; line = ends_of r; held = held_answer h }
+answer_at p r h = record { refusal = no_refusal; axis = p.axis; cell = p.cell; line = ends_of r; held = held_answer h }
 
 -- an answer to a placement that is not refused, is of the placement's axis and has the ends that CSS counts to over x
 pub record PlacedByCss (x : AxisNames) (p : Placement) (r : PlacementAnswer) : Type 0 where

@@ -1,5 +1,5 @@
 -- Worked runs: sheets as bytes, entry calls, and what the calls on the panel answer then. proofs/Worked.antt shows that they answer so.
-use Rattle.std.specs.Prelude.{ℕ, suc, ◌≡◌, true, false, pos, length, replicate}
+use Rattle.std.specs.Prelude.{ℕ, suc, ◌≡◌, Bool, true, false, pos, length, replicate}
 use mathlib.Core.List.{List, [], ◌∷◌, ◌++◌, map, Memᴰ}
 use Rattle.std.specs.Float.{binary32}
 use Rattle.std.specs.Float.Ieee.{of_bits}
@@ -137,8 +137,11 @@ gutter bits = gutter_of (of_length bits) false
 abbrev shut_gutter : GridTrack
 shut_gutter = gutter_of (of_length 0) true
 
+abbrev settled : Axis → Bool → NonNamedGridPlacement → NonNamedGridPlacement → PlacementAnswer
+settled a cell start end = record { refusal = no_refusal; axis = a; cell = cell; line = record { start = start; end = end }; held = no_marks }
+
 abbrev placed : Axis → NonNamedGridPlacement → NonNamedGridPlacement → PlacementAnswer
-placed a start end = record { refusal = no_refusal; axis = a; line = record { start = start; end = end }; held = no_marks }
+placed a start end = settled a false start end
 
 abbrev line : ℕ → NonNamedGridPlacement
 line n = Placed.Line (grid_line_of (pos n))
@@ -148,6 +151,10 @@ span n = Placed.Span n
 
 abbrev auto : NonNamedGridPlacement
 auto = Placed.Auto
+
+-- a cell: its columns from a line on, and its rows
+abbrev cell_from : ℕ → ℕ → List PlacementAnswer
+cell_from column row = settled Column true (line column) auto ∷ settled Row true (line row) auto ∷ []
 
 abbrev pub entry : Axis → ℕ → Bytes → Call
 entry a n name = record { axis = a; line = n; name = name }
@@ -203,7 +210,7 @@ sample =
       placements = placed Column (line 2) auto ∷ [];
     }
 
--- ---- rows: names, a `fit` repeat with items, an area, placements with a named span and a plain one; columns by the area, `spare` and `extra`
+-- ---- rows: names, a `fit` repeat with items, an area, placements with a named span and a plain one, a cell; columns by the area, `spare` and `extra`
 
 unfoldable pub row_sheet : List ℕ
 row_sheet =
@@ -239,6 +246,8 @@ row_sheet =
     ∷ 112 ∷ 108 ∷ 97 ∷ 99 ∷ 101 ∷ 9 ∷ 114 ∷ 9 ∷ 110 ∷ 97 ∷ 109 ∷ 101 ∷ 100 ∷ 9 ∷ 97 ∷ 9 ∷ 48 ∷ 9 ∷ 115 ∷ 112 ∷ 97 ∷ 110 ∷ 9 ∷ 45 ∷ 9 ∷ 50 ∷ 10
     -- place c nspan a-start 1 line - 2
     ∷ 112 ∷ 108 ∷ 97 ∷ 99 ∷ 101 ∷ 9 ∷ 99 ∷ 9 ∷ 110 ∷ 115 ∷ 112 ∷ 97 ∷ 110 ∷ 9 ∷ 97 ∷ 45 ∷ 115 ∷ 116 ∷ 97 ∷ 114 ∷ 116 ∷ 9 ∷ 49 ∷ 9 ∷ 108 ∷ 105 ∷ 110 ∷ 101 ∷ 9 ∷ 45 ∷ 9 ∷ 50 ∷ 10
+    -- cell line - 1 auto - 0 named middle 2 auto - 0
+    ∷ 99 ∷ 101 ∷ 108 ∷ 108 ∷ 9 ∷ 108 ∷ 105 ∷ 110 ∷ 101 ∷ 9 ∷ 45 ∷ 9 ∷ 49 ∷ 9 ∷ 97 ∷ 117 ∷ 116 ∷ 111 ∷ 9 ∷ 45 ∷ 9 ∷ 48 ∷ 9 ∷ 110 ∷ 97 ∷ 109 ∷ 101 ∷ 100 ∷ 9 ∷ 109 ∷ 105 ∷ 100 ∷ 100 ∷ 108 ∷ 101 ∷ 9 ∷ 50 ∷ 9 ∷ 97 ∷ 117 ∷ 116 ∷ 111 ∷ 9 ∷ 45 ∷ 9 ∷ 48 ∷ 10
     ∷ []
 
 -- three repetitions; of its tracks only the second holds an item
@@ -273,7 +282,7 @@ row_run =
             ∷ shut_gutter
             ∷ [];
       };
-      placements = placed Row (line 3) (line 5) ∷ placed Row (line 2) (span 2) ∷ placed Column (line 1) (line 2) ∷ [];
+      placements = placed Row (line 3) (line 5) ∷ placed Row (line 2) (span 2) ∷ placed Column (line 1) (line 2) ∷ cell_from 1 3;
     }
 
 abbrev last : Bytes
@@ -304,6 +313,8 @@ other_sheet =
     ∷ 112 ∷ 108 ∷ 97 ∷ 99 ∷ 101 ∷ 9 ∷ 114 ∷ 9 ∷ 110 ∷ 97 ∷ 109 ∷ 101 ∷ 100 ∷ 9 ∷ 97 ∷ 9 ∷ 48 ∷ 9 ∷ 115 ∷ 112 ∷ 97 ∷ 110 ∷ 9 ∷ 45 ∷ 9 ∷ 50 ∷ 10
     -- place c nspan a-start 1 line - 2
     ∷ 112 ∷ 108 ∷ 97 ∷ 99 ∷ 101 ∷ 9 ∷ 99 ∷ 9 ∷ 110 ∷ 115 ∷ 112 ∷ 97 ∷ 110 ∷ 9 ∷ 97 ∷ 45 ∷ 115 ∷ 116 ∷ 97 ∷ 114 ∷ 116 ∷ 9 ∷ 49 ∷ 9 ∷ 108 ∷ 105 ∷ 110 ∷ 101 ∷ 9 ∷ 45 ∷ 9 ∷ 50 ∷ 10
+    -- cell line - 1 auto - 0 named middle 2 auto - 0
+    ∷ 99 ∷ 101 ∷ 108 ∷ 108 ∷ 9 ∷ 108 ∷ 105 ∷ 110 ∷ 101 ∷ 9 ∷ 45 ∷ 9 ∷ 49 ∷ 9 ∷ 97 ∷ 117 ∷ 116 ∷ 111 ∷ 9 ∷ 45 ∷ 9 ∷ 48 ∷ 9 ∷ 110 ∷ 97 ∷ 109 ∷ 101 ∷ 100 ∷ 9 ∷ 109 ∷ 105 ∷ 100 ∷ 100 ∷ 108 ∷ 101 ∷ 9 ∷ 50 ∷ 9 ∷ 97 ∷ 117 ∷ 116 ∷ 111 ∷ 9 ∷ 45 ∷ 9 ∷ 48 ∷ 10
     ∷ []
 
 unfoldable pub other_run : Worked
@@ -323,7 +334,7 @@ other_run =
             ∷ shut_gutter
             ∷ [];
       };
-      placements = placed Row (line 5) (line 6) ∷ placed Row (line 2) (span 2) ∷ placed Column (line 1) (line 2) ∷ [];
+      placements = placed Row (line 5) (line 6) ∷ placed Row (line 2) (span 2) ∷ placed Column (line 1) (line 2) ∷ cell_from 1 5;
     }
 
 -- ---- an automatic repeat, and names that arrive in different orders

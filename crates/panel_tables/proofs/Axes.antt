@@ -20,5 +20,5 @@ axis_in_fits v Column f = f.columns
 axis_in_fits v Row f = f.rows
 
 pub step_in_fits : (v : PanelView) (axis : Axis) (o : AxisOutcome) → FitsPanel v → Fits o.axis → FitsPanel (step_in v axis o).panel
-step_in_fits v Column o f k = record { columns = k; rows = f.rows; areas = f.areas; drawn = f.drawn; placements = f.placements; placed = f.placed }
-step_in_fits v Row o f k = record { columns = f.columns; rows = k; areas = f.areas; drawn = f.drawn; placements = f.placements; placed = f.placed }
+step_in_fits v Column o f k = record { columns = k; rows = f.rows; areas = f.areas; drawn = f.drawn; items = f.items; cells = f.cells; placed = f.placed; lines = f.lines }
+step_in_fits v Row o f k = record { columns = f.columns; rows = k; areas = f.areas; drawn = f.drawn; items = f.items; cells = f.cells; placed = f.placed; lines = f.lines }

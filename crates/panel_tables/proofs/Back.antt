@@ -4,7 +4,7 @@ use mathlib.Core.Path.{◌≡◌, refl, sym, ap, ◌∙◌}
 use mathlib.Core.List.{List, [], ◌∷◌, ◌++◌}
 use mathlib.Core.Bool.{Bool, true, false, cond}
 use native.Mathlib.Omega.{arith}
-use lib.Dec.{leb, ltb}
+use lib.Dec.{eqb, leb, ltb}
 use lib.IntN.{ℤ, pos, negsuc}
 use lib.ListN.{length, get_or, take, get_or-map}
 use lib.Seq.{take-suc, take-length}
@@ -15,7 +15,8 @@ use Rattle.text.specs.Split.{same}
 use Rattle.axis_tables.specs.Runs.{bytes_of, words_from, part_of}
 use Rattle.name_entries.specs.Places.{name_word}
 use Rattle.name_entries.specs.Places.{name_place}
-use Rattle.axis_tables.proofs.Lays.{lay-get, pad-get, pad-is}
+use Rattle.axis_tables.specs.Lay.{lay}
+use Rattle.axis_tables.proofs.Lays.{lay-get, pad-is}
 use Rattle.axis_tables.proofs.Runs.{All, word_at, name-part, name-room}
 use Rattle.axis_tables.proofs.Back.{place-back}
 use Rattle.panel_tables.specs.declared.AreaEdges.{AreaEdges}
@@ -23,10 +24,10 @@ use Rattle.panel_tables.specs.declared.PlacementEnd.{PlacementEnd}
 use Rattle.panel_tables.specs.View.{Area, Placement, has_area, edge_outside, edges_outside, number_outside, end_outside, no_area, no_end, no_placement}
 use Rattle.panel_tables.specs.Numbers.{count_of, number_of}
 use Rattle.panel_tables.specs.Areas.{edges_word, edges_of, word_of, area_at, area_in, named_in, has_area_in}
-use Rattle.coordinates.specs.Axes.{axis_number, axis_of}
-use Rattle.panel_tables.specs.Placements.{end_word, end_of, placement_at, end_in, placement_in}
-use Rattle.panel_tables.specs.Written.{area_name_of, area_edges_word, area_name_word, area_bytes_of, area_regions, area_words, area_store, AxisEnd, ends_of, end_name_of, axis_end_word, placement_bytes_of, placement_words, placement_store}
-use Rattle.panel_tables.proofs.Fits.{GoodArea, GoodEnd, GoodPlacement, area-bytes, placement_bytes_lem}
+use Rattle.coordinates.specs.Axes.{axis_of}
+use Rattle.panel_tables.specs.Placements.{axis_mark, cell_line, end_word, end_of, placement_at, end_in, placement_in}
+use Rattle.panel_tables.specs.Written.{area_name_of, area_edges_word, area_name_word, area_bytes_of, area_regions, area_words, area_store, AxisEnd, ends_of, end_name_of, axis_end_word, placement_bytes_of, placement_regions, placement_words, placement_store}
+use Rattle.panel_tables.proofs.Fits.{GoodArea, GoodEnd, GoodPlacement, GoodLine, area-bytes, placement_bytes_lem}
 use Rattle.panel_tables.proofs.Same.{length_ends}
 
 true_false : true ≡ false → ⊥
@@ -216,13 +217,23 @@ module _ (e : PlacementEnd) (h : end_outside e ≡ false) (offset length axis : 
   unfolding end_word
   axis_back_lem = end-axis e.kind (count_of e.number) offset length axis end-small (count_small e.number) o l a
 
-axis_number_back : (x : Axis) → axis_of (axis_number x) ≡ x
-axis_number_back Column = refl
-axis_number_back Row = refl
+mark_axis : (x : Axis) (cell : Bool) → axis_of (axis_mark x cell % 2) ≡ x
+mark_axis Column true = refl
+mark_axis Column false = refl
+mark_axis Row true = refl
+mark_axis Row false = refl
 
-axis_small : (x : Axis) → axis_number x < 256
-axis_small Column = omega arith
-axis_small Row = omega arith
+mark-cell : (x : Axis) (cell : Bool) → eqb (axis_mark x cell / 2 % 2) 1 ≡ cell
+mark-cell Column true = refl
+mark-cell Column false = refl
+mark-cell Row true = refl
+mark-cell Row false = refl
+
+mark-small : (x : Axis) (cell : Bool) → axis_mark x cell < 256
+mark-small Column true = omega arith
+mark-small Column false = omega arith
+mark-small Row true = omega arith
+mark-small Row false = omega arith
 
 -- ---- placements
 abbrev no_axis_end : AxisEnd
@@ -234,7 +245,7 @@ placed_at (p ∷ ps) zero g h = g.0
 placed_at (p ∷ ps) (suc i) g h = placed_at ps i g.1 (omega arith)
 
 start-at : (ps : List Placement) (i : ℕ) → i < length ps
-    → get_or (ends_of ps) (i + i) no_axis_end ≡ record { axis = axis_number (get_or ps i no_placement).axis; end = (get_or ps i no_placement).start }
+    → get_or (ends_of ps) (i + i) no_axis_end ≡ record { axis = axis_mark (get_or ps i no_placement).axis (get_or ps i no_placement).cell; end = (get_or ps i no_placement).start }
 start-at [] i h = absurd (omega arith)
 start-at (p ∷ ps) zero h = refl
 start-at (p ∷ ps) (suc i) h =
@@ -249,24 +260,24 @@ finish_at (p ∷ ps) (suc i) h =
     ap (λ (k : ℕ). get_or (ends_of (p ∷ ps)) k no_axis_end) z ∙ finish_at ps i (omega arith)
 
 -- an end at a place of the row of ends: its word and its name
-module _ (ps : List Placement) (few : length ps ≤ 256) (k : ℕ) (h : k < length (ends_of ps)) where
-  end-word-at : get_or (placement_words ps) k 0 ≡ axis_end_word (get_or (ends_of ps) k no_axis_end) (length (bytes_of end_name_of (take k (ends_of ps))))
-  unfolding placement_words
+module _ (ps : List Placement) (lines : List ℕ) (few : length ps ≤ 512) (k : ℕ) (h : k < length (ends_of ps)) where
+  end-word-at : get_or (placement_words ps lines) k 0 ≡ axis_end_word (get_or (ends_of ps) k no_axis_end) (length (bytes_of end_name_of (take k (ends_of ps))))
+  unfolding placement_words placement_regions
   end-word-at =
       let z : 0 + length (bytes_of end_name_of (take k (ends_of ps))) ≡ length (bytes_of end_name_of (take k (ends_of ps))) = omega arith in
-      pad-get 512 (words_from axis_end_word end_name_of 0 (ends_of ps)) k (omega (arith, length_ends ps))
+      lay-get (placement_regions ps lines) 0 k k (omega (arith, length_ends ps)) (omega arith)
       ∙ word_at axis_end_word end_name_of 0 (ends_of ps) k no_axis_end h
       ∙ ap (axis_end_word (get_or (ends_of ps) k no_axis_end)) z
 
-module _ (ps : List Placement) (g : All GoodPlacement ps) (few : length ps ≤ 256) (rest : List ℕ) where
+module _ (ps : List Placement) (lines : List ℕ) (g : All GoodPlacement ps) (few : length ps ≤ 512) (rest : List ℕ) where
   small-used : (k : ℕ) → k < length (ends_of ps) → length (bytes_of end_name_of (take k (ends_of ps))) < 65536
   small-used k h = omega (arith, name-room axis_end_word end_name_of (ends_of ps) k no_axis_end h, placement_bytes_lem ps g)
 
   end_read : (k : ℕ) (x : AxisEnd) → k < length (ends_of ps) → get_or (ends_of ps) k no_axis_end ≡ x → GoodEnd x.end → x.axis < 256
-      → end_in (placement_bytes_of ps ++ rest) (end_of (get_or (placement_words ps) k 0)) ≡ x.end
+      → end_in (placement_bytes_of ps ++ rest) (end_of (get_or (placement_words ps lines) k 0)) ≡ x.end
   end_read k x h e good a =
       let u : ℕ = length (bytes_of end_name_of (take k (ends_of ps))) in
-      let w : get_or (placement_words ps) k 0 ≡ axis_end_word x u = end-word-at ps few k h ∙ ap (λ (y : AxisEnd). axis_end_word y u) e in
+      let w : get_or (placement_words ps lines) k 0 ≡ axis_end_word x u = end-word-at ps lines few k h ∙ ap (λ (y : AxisEnd). axis_end_word y u) e in
       let n : part_of (placement_bytes_of ps ++ rest) u (length x.end.name) ≡ x.end.name =
       ap (λ (y : AxisEnd). part_of (placement_bytes_of ps ++ rest) u (length y.end.name)) (sym e)
       ∙ name-part axis_end_word end_name_of (ends_of ps) k no_axis_end rest h
@@ -274,33 +285,48 @@ module _ (ps : List Placement) (g : All GoodPlacement ps) (few : length ps ≤ 2
       rw (w, end_back x.end.end good.end u (length x.end.name) x.axis (small-used k h) (omega (arith, good.short)) a, n)
 
   axis-read : (k : ℕ) (x : AxisEnd) → k < length (ends_of ps) → get_or (ends_of ps) k no_axis_end ≡ x → GoodEnd x.end → x.axis < 256
-      → get_or (placement_words ps) k 0 / 72057594037927936 ≡ x.axis
+      → get_or (placement_words ps lines) k 0 / 72057594037927936 ≡ x.axis
   axis-read k x h e good a =
       let u : ℕ = length (bytes_of end_name_of (take k (ends_of ps))) in
-      let w : get_or (placement_words ps) k 0 ≡ axis_end_word x u = end-word-at ps few k h ∙ ap (λ (y : AxisEnd). axis_end_word y u) e in
+      let w : get_or (placement_words ps lines) k 0 ≡ axis_end_word x u = end-word-at ps lines few k h ∙ ap (λ (y : AxisEnd). axis_end_word y u) e in
       ap (λ (j : ℕ). j / 72057594037927936) w
       ∙ axis_back_lem x.end.end good.end u (length x.end.name) x.axis (small-used k h) (omega (arith, good.short)) a
 
-  pub placement-back : (i : ℕ) → i < length ps → placement_in (placement_words ps) (placement_bytes_of ps ++ rest) i ≡ get_or ps i no_placement
+  pub placement-back : (i : ℕ) → i < length ps → placement_in (placement_words ps lines) (placement_bytes_of ps ++ rest) i ≡ get_or ps i no_placement
   unfolding placement_at
   placement-back i h =
       let p : Placement = get_or ps i no_placement in
-      let s : AxisEnd = record { axis = axis_number p.axis; end = p.start } in
+      let s : AxisEnd = record { axis = axis_mark p.axis p.cell; end = p.start } in
       let f : AxisEnd = record { axis = 0; end = p.end } in
       let good : GoodPlacement p = placed_at ps i g h in
       let j : i + i < length (ends_of ps) = omega (arith, length_ends ps) in
       let k : i + i + 1 < length (ends_of ps) = omega (arith, length_ends ps) in
       rw (
-        lt-ltb i 256 (omega arith),
-        end_read (i + i) s j (start-at ps i h) good.start (axis_small p.axis),
-        axis-read (i + i) s j (start-at ps i h) good.start (axis_small p.axis),
-        axis_number_back p.axis,
+        lt-ltb i 512 (omega arith),
+        end_read (i + i) s j (start-at ps i h) good.start (mark-small p.axis p.cell),
+        axis-read (i + i) s j (start-at ps i h) good.start (mark-small p.axis p.cell),
+        mark_axis p.axis p.cell,
+        mark-cell p.axis p.cell,
         end_read (i + i + 1) f k (finish_at ps i h) good.end (omega arith),
       )
 
 -- the same in the store
-pub placement_held : (ps : List Placement) → All GoodPlacement ps → length ps ≤ 256 → (i : ℕ) → i < length ps → placement_in (placement_words ps) (placement_store ps) i ≡ get_or ps i no_placement
+pub placement_held : (ps : List Placement) (lines : List ℕ) → All GoodPlacement ps → length ps ≤ 512 → (i : ℕ) → i < length ps → placement_in (placement_words ps lines) (placement_store ps) i ≡ get_or ps i no_placement
 unfolding placement_store
-placement_held ps g few i h =
-    ap (λ (s : List ℕ). placement_in (placement_words ps) s i) (pad-is 16384 (placement_bytes_of ps) (omega (arith, placement_bytes_lem ps g)))
-    ∙ placement-back ps g few _ i h
+placement_held ps lines g few i h =
+    ap (λ (s : List ℕ). placement_in (placement_words ps lines) s i) (pad-is 32768 (placement_bytes_of ps) (omega (arith, placement_bytes_lem ps g)))
+    ∙ placement-back ps lines g few _ i h
+
+-- the line of a cell
+line_at : (lines : List ℕ) (k : ℕ) → All GoodLine lines → k < length lines → get_or lines k 0 ≤ 32768
+line_at [] k g h = absurd (omega arith)
+line_at (n ∷ lines) zero g h = g.0
+line_at (n ∷ lines) (suc k) g h = line_at lines k g.1 (omega arith)
+
+pub line-back : (ps : List Placement) (lines : List ℕ) → All GoodLine lines → length lines ≤ 256 → (k : ℕ) → k < length lines → cell_line (placement_words ps lines) k ≡ get_or lines k 0
+unfolding cell_line placement_words placement_regions
+line-back ps lines g few k h =
+    let e : get_or (lay (placement_regions ps lines)) (1024 + k) 0 ≡ get_or lines k 0 = lay-get (placement_regions ps lines) 1 k (1024 + k) (omega arith) (omega arith) in
+    let small : get_or lines k 0 ≤ 32768 = line_at lines k g h in
+    let r : get_or lines k 0 % 4294967296 ≡ get_or lines k 0 = omega arith in
+    rw (lt-ltb k 256 (omega arith), e, r)

@@ -26,7 +26,7 @@ words_tiled w e =
     before-rest w 0 12480 _
     (before-rest w 12480 12480 _
     (before-rest w 24960 128 _
-    (last_rest w 25088 512 e)))
+    (last_rest w 25088 1280 e)))
 
 pub bytes_tiled : (b : List ℕ) → length b ≡ panel_bytes → marks_in Column b ++ (marks_in Row b ++ (area_bytes_in b ++ placement_bytes_in b)) ≡ b
 unfolding marks_in area_bytes_in placement_bytes_in
@@ -34,7 +34,7 @@ bytes_tiled b e =
     before-rest b 0 30000 _
     (before-rest b 30000 30000 _
     (before-rest b 60000 2048 _
-    (last_rest b 62048 16384 e)))
+    (last_rest b 62048 32768 e)))
 
 -- ---- the words of an axis were lent and are back
 module _ (w ys : List ℕ) (l : length w ≡ panel_words) (e : length ys ≡ 12480) where
@@ -60,8 +60,8 @@ module _ (w ys : List ℕ) (l : length w ≡ panel_words) (e : length ys ≡ 124
 
   pub placements-stay : (a : Axis) → placement_words_in (with_part w (first_word a) 12480 ys) ≡ placement_words_in w
   unfolding placement_words_in
-  placements-stay Column = lent-after w ys 0 12480 (omega arith) e 25088 512 (omega arith)
-  placements-stay Row = lent-after w ys 12480 12480 (omega arith) e 25088 512 (omega arith)
+  placements-stay Column = lent-after w ys 0 12480 (omega arith) e 25088 1280 (omega arith)
+  placements-stay Row = lent-after w ys 12480 12480 (omega arith) e 25088 1280 (omega arith)
 
 -- a part by its first place and the place after its last
 pub mid_here : (s : List ℕ) (f n : ℕ) → mid_of f (f + n - f) s ≡ part_of s f n

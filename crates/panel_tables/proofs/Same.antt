@@ -4,9 +4,9 @@ use mathlib.Core.Path.{◌≡◌, refl, sym, ap, ◌∙◌}
 use mathlib.Core.List.{List, [], ◌∷◌, ◌++◌, map-append}
 use mathlib.Core.Bool.{Bool, true, false}
 use native.Mathlib.Omega.{arith}
-use lib.Dec.{leb, ltb}
+use lib.Dec.{eqb, leb, ltb}
 use lib.ListN.{length, set, replicate, length-append, length-map}
-use borrow.Author.Tests.{ltb-false, le-ltb, leb-false}
+use borrow.Author.Tests.{ltb-false, le-ltb, leb-true, leb-false, le-leb, lt-leb, eqb-true}
 use Rattle.coordinates.specs.declared.axis.Axis.{Axis}
 use Rattle.coordinates.specs.declared.axis.Axis.TheVariants.{Column, Row}
 use Rattle.axis_tables.specs.Lay.{pad, Region, joined}
@@ -18,18 +18,17 @@ use Rattle.name_entries.specs.Places.{name_word}
 use Rattle.axis_tables.specs.Store.{zero_state, zero_reading}
 use Rattle.axis_tables.specs.Written.{regions_of, words_with, axis_words, names_store, state_of, reading_of, Held, held_of}
 use Rattle.axis_tables.proofs.Same.{axis_empty}
-use Rattle.axis_tables.proofs.Lays.{length-pad, pad-put, pad_puts, pad-none, lay-put, lay-none}
+use Rattle.axis_tables.proofs.Lays.{length-pad, pad_puts, pad-none, lay-put, lay-none}
 use Rattle.axis_tables.proofs.Runs.{bytes-more, length-words, words_more}
 use Rattle.axis_tables.proofs.Regions.{zeros_part}
 use Rattle.panel_tables.specs.declared.AreaEdges.{AreaEdges}
-use Rattle.panel_tables.specs.View.{Area, End, Placement, PanelView, empty_view, edges_outside, area_step, end_outside, place_step}
-use Rattle.panel_tables.specs.Areas.{edges_word, put_area}
-use Rattle.coordinates.specs.Axes.{axis_number}
-use Rattle.panel_tables.specs.Placements.{end_word, placement_fault, put_placement}
+use Rattle.panel_tables.specs.View.{Area, End, Placement, PanelView, empty_view, accepted, edges_outside, area_step, lower, ends_fault, items, limited_step, with_item, with_placement, place_step, next_line, half, with_cell, cell_step}
+use Rattle.panel_tables.specs.Areas.{edges_word, InAreas, put, put_area}
+use Rattle.panel_tables.specs.Placements.{end_word, axis_mark, first_line, names_length, write_half, then_half, then_line, no_item, item_fault, put_item, put_placement, write_cell, put_cell}
 use Rattle.panel_tables.specs.Regions.{panel_words, panel_bytes, axis_words_in, area_words_in, placement_words_in, marks_in, area_bytes_in, placement_bytes_in}
 use Rattle.picture_rules.specs.Steps.{rows_from}
-use Rattle.panel_tables.specs.Written.{zero_panel, zero_panel_reading, area_name_of, area_edges_word, area_name_word, area_bytes_of, area_regions, area_words, area_store, AxisEnd, ends_of, end_name_of, axis_end_word, placement_bytes_of, placement_words, placement_store, panel_of, PanelHeld, panel_held_of, held_panel, stepped, of_areas, of_placements, picture_reading_of}
-use Rattle.panel_tables.proofs.Fits.{FitsPanel, area-bytes, placement_bytes_lem}
+use Rattle.panel_tables.specs.Written.{zero_panel, zero_panel_reading, area_name_of, area_edges_word, area_name_word, area_bytes_of, area_regions, area_words, area_store, AxisEnd, ends_of, end_name_of, axis_end_word, placement_bytes_of, placement_regions, placement_words, placement_store, panel_of, PanelHeld, panel_held_of, held_panel, stepped, of_areas, of_placements, picture_reading_of}
+use Rattle.panel_tables.proofs.Fits.{GoodEnd, GoodPlacement, FitsPanel, area-bytes, placement_bytes_lem, few_placements, good_ends, good-cell}
 
 -- bytes in a store that has room
 pub put-pad : (all : ℕ) (b n : List ℕ) → length b + length n ≤ all → put_bytes (pad all b) (length b) n ≡ pad all (b ++ n)
@@ -86,16 +85,16 @@ module _ (v : PanelView) (f : FitsPanel v) where
 
 -- ---- placements
 ends_more : (ps : List Placement) (p : Placement)
-    → ends_of (ps ++ (p ∷ [])) ≡ (ends_of ps ++ (record { axis = axis_number p.axis; end = p.start } ∷ [])) ++ (record { axis = 0; end = p.end } ∷ [])
+    → ends_of (ps ++ (p ∷ [])) ≡ (ends_of ps ++ (record { axis = axis_mark p.axis p.cell; end = p.start } ∷ [])) ++ (record { axis = 0; end = p.end } ∷ [])
 ends_more [] p = refl
-ends_more (q ∷ ps) p = ap (λ (l : List AxisEnd). record { axis = axis_number q.axis; end = q.start } ∷ record { axis = 0; end = q.end } ∷ l) (ends_more ps p)
+ends_more (q ∷ ps) p = ap (λ (l : List AxisEnd). record { axis = axis_mark q.axis q.cell; end = q.start } ∷ record { axis = 0; end = q.end } ∷ l) (ends_more ps p)
 
 pub length_ends : (ps : List Placement) → length (ends_of ps) ≡ length ps + length ps
 length_ends [] = refl
 length_ends (p ∷ ps) = omega (arith, length_ends ps)
 
 abbrev start_of : Placement → AxisEnd
-start_of p = record { axis = axis_number p.axis; end = p.start }
+start_of p = record { axis = axis_mark p.axis p.cell; end = p.start }
 
 abbrev finish_of : Placement → AxisEnd
 finish_of p = record { axis = 0; end = p.end }
@@ -125,26 +124,25 @@ module _ (ps : List Placement) (p : Placement) where
       ∙ ap (λ (l : List ℕ). l ++ (axis_end_word (finish_of p) (u + length p.start.name) ∷ []))
       (words_more axis_end_word end_name_of 0 (ends_of ps) (start_of p) u (omega arith))
 
-  placement-words : length ps < 256
-      → set (set (placement_words ps) (length ps + length ps) (end_word (axis_number p.axis) p.start.end (length (placement_bytes_of ps)) (length p.start.name)))
+  placement-words : (lines : List ℕ) → length ps < 512
+      → set (set (placement_words ps lines) (length ps + length ps) (end_word (axis_mark p.axis p.cell) p.start.end (length (placement_bytes_of ps)) (length p.start.name)))
       (length ps + length ps + 1) (end_word 0 p.end.end (length (placement_bytes_of ps) + length p.start.name) (length p.end.name))
-      ≡ placement_words (ps ++ (p ∷ []))
-  unfolding placement_words
-  placement-words h =
+      ≡ placement_words (ps ++ (p ∷ [])) lines
+  unfolding placement_words placement_regions
+  placement-words lines h =
+      let rs : List Region = placement_regions ps lines in
       let l : List ℕ = words_from axis_end_word end_name_of 0 (ends_of ps) in
       let n : ℕ = length ps in
       let u : ℕ = length (placement_bytes_of ps) in
       let x : ℕ = axis_end_word (start_of p) u in
       let y : ℕ = axis_end_word (finish_of p) (u + length p.start.name) in
-      let a : n + n ≡ length l = sym (length-words axis_end_word end_name_of 0 (ends_of ps) ∙ length_ends ps) in
-      let b : n + n + 1 ≡ length (l ++ (x ∷ [])) = omega (arith, length-append l (x ∷ [])) in
-      ap (λ (k : ℕ). set (set (pad 512 l) k x) (n + n + 1) y) a
-      ∙ ap (λ (w : List ℕ). set w (n + n + 1) y) (pad-put 512 l x (omega arith))
-      ∙ ap (λ (k : ℕ). set (pad 512 (l ++ (x ∷ []))) k y) b
-      ∙ pad-put 512 (l ++ (x ∷ [])) y (omega arith)
-      ∙ ap (pad 512) (sym words-twice)
+      let a : length l ≡ n + n = length-words axis_end_word end_name_of 0 (ends_of ps) ∙ length_ends ps in
+      let b : length (l ++ (x ∷ [])) ≡ n + n + 1 = omega (arith, length-append l (x ∷ [])) in
+      ap (λ (w : List ℕ). set w (n + n + 1) y) (lay-put rs 0 x (n + n) (n + n) a (omega arith) (omega arith))
+      ∙ lay-put (joined rs 0 x) 0 y (n + n + 1) (n + n + 1) b (omega arith) (omega arith)
+      ∙ sym (rw words-twice)
 
-  placement-store : length (placement_bytes_of ps) + length p.start.name + length p.end.name ≤ 16384
+  placement-store : length (placement_bytes_of ps) + (length p.start.name + length p.end.name) ≤ 32768
       → put_bytes (put_bytes (placement_store ps) (length (placement_bytes_of ps)) p.start.name) (length (placement_bytes_of ps) + length p.start.name) p.end.name
       ≡ placement_store (ps ++ (p ∷ []))
   unfolding placement_store
@@ -152,47 +150,105 @@ module _ (ps : List Placement) (p : Placement) where
       let l : List ℕ = placement_bytes_of ps in
       let m : List ℕ = p.start.name in
       let e : length l + length m ≡ length (l ++ m) = sym (length-append l m) in
-      ap (λ (b : List ℕ). put_bytes b (length l + length m) p.end.name) (put-pad 16384 l m (omega arith))
-      ∙ ap (λ (k : ℕ). put_bytes (pad 16384 (l ++ m)) k p.end.name) e
-      ∙ put-pad 16384 (l ++ m) p.end.name (omega arith)
-      ∙ ap (pad 16384) (sym bytes-twice)
+      ap (λ (b : List ℕ). put_bytes b (length l + length m) p.end.name) (put-pad 32768 l m (omega arith))
+      ∙ ap (λ (k : ℕ). put_bytes (pad 32768 (l ++ m)) k p.end.name) e
+      ∙ put-pad 32768 (l ++ m) p.end.name (omega arith)
+      ∙ ap (pad 32768) (sym bytes-twice)
+
+-- the lines of the cells
+line_words_lem : (ps : List Placement) (lines : List ℕ) (n : ℕ) → length lines < 256
+    → set (placement_words ps lines) (first_line + length lines) n ≡ placement_words ps (lines ++ (n ∷ []))
+unfolding placement_words placement_regions
+line_words_lem ps lines n h = lay-put (placement_regions ps lines) 1 n (length lines) (1024 + length lines) refl h (omega arith)
+
+-- the placements of a view, and that of one with one placement more, or one line of a cell
+abbrev placed_in : PanelView → InAreas
+placed_in v = record { answer = put 0 (panel_of v); words = placement_words v.placements v.cells; bytes = placement_store v.placements }
+
+half-same : (v : PanelView) (p : Placement) → length v.placements < 512 → length (placement_bytes_of v.placements) + names_length p.start p.end ≤ 32768
+    → then_half (axis_mark p.axis p.cell) (placed_in v) p.start p.end ≡ placed_in (with_placement v p)
+half-same v p few room =
+    let ps : List Placement = v.placements in
+    rw (placement-words ps p v.cells few, placement-store ps p room, ← (length-twice ps p), length-append ps (p ∷ []))
+
+line_same : (v : PanelView) (line : ℕ) → length v.cells < 256 → then_line (placed_in v) line ≡ placed_in (with_item v v.placements (v.cells ++ (line ∷ [])))
+line_same v line few = rw (line_words_lem v.placements v.cells line few, length-append v.cells (line ∷ []))
 
 module _ (v : PanelView) (f : FitsPanel v) where
-  pub place_same : (axis : Axis) (s e : End)
-      → of_placements (held_panel v) (put_placement (panel_of v) (placement_words v.placements) (placement_store v.placements) axis s.end s.name e.end e.name)
-      ≡ stepped (place_step v axis s e)
-  unfolding put_placement placement_fault place_step held_panel
-  place_same axis s e = go (end_outside s.end) (end_outside e.end) (ltb 32 (length s.name)) (ltb 32 (length e.name)) (leb 256 (length v.placements)) refl refl refl refl refl
+  -- there is room for an item and its names exactly where the view has fewer than 256
+  room-same : (bytes : ℕ) → items v < 256 → length (placement_bytes_of v.placements) + bytes ≤ 32768 → no_item (panel_of v) bytes ≡ false
+  unfolding no_item
+  room-same bytes h k =
+      rw (lt-leb 256 (items v) h, lt-leb 256 (length v.cells) (omega (arith, f.cells)), le-ltb 32768 (length (placement_bytes_of v.placements) + bytes) k)
+
+  crowded-same : (bytes : ℕ) → 256 ≤ items v → no_item (panel_of v) bytes ≡ true
+  unfolding no_item
+  crowded-same bytes h = rw (le-leb 256 (items v) h)
+
+  -- an item whose ends have that fault
+  limited-same : (fault bytes : ℕ) (x : InAreas) (after : PanelView)
+      → (fault ≡ 0 → items v < 256 → length (placement_bytes_of v.placements) + bytes ≤ 32768)
+      → (fault ≡ 0 → items v < 256 → of_placements (held_panel v) x ≡ stepped (accepted after))
+      → of_placements (held_panel v) (put_item (item_fault (panel_of v) fault bytes) (panel_of v) (placement_words v.placements v.cells) (placement_store v.placements) x)
+      ≡ stepped (limited_step v fault after)
+  unfolding item_fault limited_step held_panel
+  limited-same fault bytes x after room same = go (eqb fault 0) (leb 256 (items v)) refl refl
     where
-      go : (a b c d g : Bool) → end_outside s.end ≡ a → end_outside e.end ≡ b → ltb 32 (length s.name) ≡ c → ltb 32 (length e.name) ≡ d → leb 256 (length v.placements) ≡ g
-          → of_placements (held_panel v) (put_placement (panel_of v) (placement_words v.placements) (placement_store v.placements) axis s.end s.name e.end e.name)
-          ≡ stepped (place_step v axis s e)
-      go true b true d g w x y z t = rw (w, y)
-      go true b false true g w x y z t = rw (w, y, z)
-      go true b false false g w x y z t = rw (w, y, z)
-      go false true true d g w x y z t = rw (w, x, y)
-      go false true false true g w x y z t = rw (w, x, y, z)
-      go false true false false g w x y z t = rw (w, x, y, z)
-      go false false true d g w x y z t = rw (w, x, y)
-      go false false false true g w x y z t = last (leb 256 (length v.placements)) (ltb 16384 (length (placement_bytes_of v.placements) + length s.name)) refl refl
-        where
-          last : (i j : Bool) → leb 256 (length v.placements) ≡ i → ltb 16384 (length (placement_bytes_of v.placements) + length s.name) ≡ j
-              → of_placements (held_panel v) (put_placement (panel_of v) (placement_words v.placements) (placement_store v.placements) axis s.end s.name e.end e.name)
-              ≡ stepped (place_step v axis s e)
-          last true j p q = rw (w, x, y, z, p)
-          last false true p q = rw (w, x, y, z, p, q)
-          last false false p q = rw (w, x, y, z, p, q)
-      go false false false false true w x y z t = rw (w, x, y, z, t)
-      go false false false false false w x y z t =
-          let ps : List Placement = v.placements in
-          let p : Placement = record { axis = axis; start = s; end = e } in
-          let h : length ps < 256 = leb-false 256 (length ps) t in
-          let m : length s.name ≤ 32 = ltb-false 32 (length s.name) y in
-          let n : length e.name ≤ 32 = ltb-false 32 (length e.name) z in
-          let k : length (placement_bytes_of ps) + length s.name + length e.name ≤ 16384 = omega (arith, placement_bytes_lem ps f.placed) in
-          let q : ltb 16384 (length (placement_bytes_of ps) + length s.name) ≡ false = le-ltb 16384 (length (placement_bytes_of ps) + length s.name) (omega arith) in
-          let r : ltb 16384 (length (placement_bytes_of ps) + length s.name + length e.name) ≡ false = le-ltb 16384 (length (placement_bytes_of ps) + length s.name + length e.name) k in
-          simp (w, x, y, z, t, q, r, placement-words ps p h, placement-store ps p k, length-append ps (p ∷ []), length-twice ps p)
+      go : (s t : Bool) → eqb fault 0 ≡ s → leb 256 (items v) ≡ t
+          → of_placements (held_panel v) (put_item (item_fault (panel_of v) fault bytes) (panel_of v) (placement_words v.placements v.cells) (placement_store v.placements) x)
+          ≡ stepped (limited_step v fault after)
+      go true true a b = rw (a, b, crowded-same bytes (leb-true 256 (items v) b))
+      go true false a b =
+          let z : fault ≡ 0 = eqb-true fault 0 a in
+          let k : items v < 256 = leb-false 256 (items v) b in
+          rw (a, b, room-same bytes k (room z k)) (same z k)
+      go false t a b = rw (a, a)
+
+  pub place_same : (axis : Axis) (s e : End)
+      → of_placements (held_panel v) (put_placement (panel_of v) (placement_words v.placements v.cells) (placement_store v.placements) axis s e) ≡ stepped (place_step v axis s e)
+  unfolding put_placement place_step
+  place_same axis s e =
+      let p : Placement = record { axis = axis; cell = false; start = s; end = e } in
+      limited-same (ends_fault s e) 64 (write_half (axis_mark axis false) (panel_of v) (placement_words v.placements v.cells) (placement_store v.placements) s e) (with_placement v p)
+      (λ x y. omega (arith, placement_bytes_lem v.placements f.placed, f.cells))
+      (λ x y. ap (of_placements (held_panel v)) (half-same v p (omega (arith, f.cells)) (room x y)) ∙ unfold held_panel in refl)
+    where
+      room : ends_fault s e ≡ 0 → items v < 256 → length (placement_bytes_of v.placements) + names_length s e ≤ 32768
+      room x y =
+          let g = good_ends s e x in
+          omega (arith, placement_bytes_lem v.placements f.placed, f.cells, g.0.short, g.1.short)
+
+  pub cell_same : (cs ce rs re : End)
+      → of_placements (held_panel v) (put_cell (panel_of v) (placement_words v.placements v.cells) (placement_store v.placements) (next_line v.lines) cs ce rs re) ≡ stepped (cell_step v cs ce rs re)
+  unfolding put_cell cell_step
+  cell_same cs ce rs re =
+      limited-same (lower (ends_fault cs ce) (ends_fault rs re)) 128 (write_cell (panel_of v) (placement_words v.placements v.cells) (placement_store v.placements) (next_line v.lines) cs ce rs re) (with_cell v c r)
+      (λ x y. omega (arith, placement_bytes_lem v.placements f.placed, f.cells))
+      (λ x y. ap (of_placements (held_panel v)) (written x y) ∙ unfold held_panel in refl)
+    where
+      c : Placement
+      c = half Column cs ce
+
+      r : Placement
+      r = half Row rs re
+
+      w : PanelView
+      w = with_placement v c
+
+      room : lower (ends_fault cs ce) (ends_fault rs re) ≡ 0 → items v < 256 → length (placement_bytes_of v.placements) + (names_length cs ce + names_length rs re) ≤ 32768
+      room x y =
+          let g = good-cell cs ce rs re x in
+          omega (arith, placement_bytes_lem v.placements f.placed, f.cells, g.0.start.short, g.0.end.short, g.1.start.short, g.1.end.short)
+
+      written : lower (ends_fault cs ce) (ends_fault rs re) ≡ 0 → items v < 256
+          → write_cell (panel_of v) (placement_words v.placements v.cells) (placement_store v.placements) (next_line v.lines) cs ce rs re ≡ placed_in (with_cell v c r)
+      written x y =
+          let few : length v.cells < 256 = omega (arith, f.cells) in
+          let k : length (placement_bytes_of v.placements) + (names_length cs ce + names_length rs re) ≤ 32768 = room x y in
+          let one : length (v.placements ++ (c ∷ [])) ≡ length v.placements + 1 = length-append v.placements (c ∷ []) in
+          ap (λ (z : InAreas). then_line (then_half (axis_mark Row true) z rs re) (next_line v.lines)) (half-same v c (omega (arith, f.cells)) (omega arith))
+          ∙ ap (λ (z : InAreas). then_line z (next_line v.lines)) (half-same w r (omega (arith, f.cells)) (omega (arith, length-twice v.placements c)))
+          ∙ line_same (with_placement w r) (next_line v.lines) few
 
 -- ---- the empty panel is zeros
 words_none : axis_words empty_axis ≡ replicate 12480 0
@@ -223,23 +279,23 @@ area_bytes_none : area_store [] ≡ replicate 2048 0
 unfolding area_store
 area_bytes_none = pad-none 2048
 
-placements_none : placement_words [] ≡ replicate 512 0
-unfolding placement_words
-placements_none = pad-none 512
+placements_none : placement_words [] [] ≡ replicate 1280 0
+unfolding placement_words placement_regions
+placements_none = lay-none (1024 ∷ 256 ∷ [])
 
-placement_bytes_none : placement_store [] ≡ replicate 16384 0
+placement_bytes_none : placement_store [] ≡ replicate 32768 0
 unfolding placement_store
-placement_bytes_none = pad-none 16384
+placement_bytes_none = pad-none 32768
 
 -- what is held, from its parts
 abbrev held : AxisState → AxisReading → List ℕ → List ℕ → List ℕ → List ℕ → List ℕ → List ℕ → List ℕ → PanelHeld
 held s r w m n a b p q =
     record {
       panel = record {
-        grid = record { columns = s.grid; rows = s.grid; areas = 0; placements = 0 };
+        grid = record { columns = s.grid; rows = s.grid; areas = 0; placements = 0; cells = 0 };
         room = record { columns = s.room; rows = s.room; areabytes = 0; placementbytes = 0 };
       };
-      reading = record { stage = 0; picture = record { rows = 0; width = 0; broken = false }; columns = r; rows = r };
+      reading = record { stage = 0; lines = 0; picture = record { rows = 0; width = 0; broken = false }; columns = r; rows = r };
       columns = w;
       rows = w;
       column_marks = m;
@@ -257,11 +313,11 @@ parts : (s s2 : AxisState) (r r2 : AxisReading) (w w2 m m2 n n2 a a2 b b2 p p2 q
 parts s s2 r r2 w w2 m m2 n n2 a a2 b b2 p p2 q q2 e1 e2 e3 e4 e5 e6 e7 e8 e9 = cc
 
 empty_same : held_panel empty_view
-    ≡ held zero_state zero_reading (replicate 12480 0) (replicate 30000 0) (replicate 32768 0) (replicate 128 0) (replicate 2048 0) (replicate 512 0) (replicate 16384 0)
+    ≡ held zero_state zero_reading (replicate 12480 0) (replicate 30000 0) (replicate 32768 0) (replicate 128 0) (replicate 2048 0) (replicate 1280 0) (replicate 32768 0)
 unfolding held_panel empty_view picture_reading_of rows_from
 empty_same =
     parts (state_of empty_axis) zero_state (reading_of empty_axis) zero_reading (axis_words empty_axis) (replicate 12480 0) empty_axis.marks (replicate 30000 0) (names_store empty_axis) (replicate 32768 0)
-    (area_words []) (replicate 128 0) (area_store []) (replicate 2048 0) (placement_words []) (replicate 512 0) (placement_store []) (replicate 16384 0)
+    (area_words []) (replicate 128 0) (area_store []) (replicate 2048 0) (placement_words [] []) (replicate 1280 0) (placement_store []) (replicate 32768 0)
     state-none reading_none words_none marks_none bytes-none areas-none area_bytes_none placements_none placement_bytes_none
 
 -- the same, in words and bytes of which each region is zeros
@@ -276,12 +332,12 @@ unfolding axis_words_in marks_in area_words_in area_bytes_in placement_words_in 
 zeros_same =
     empty_same
     ∙ sym
-    (zeros_held (replicate panel_words 0) (replicate panel_bytes 0) (replicate 32768 0) (replicate 12480 0) (replicate 30000 0) (replicate 128 0) (replicate 2048 0) (replicate 512 0) (replicate 16384 0)
+    (zeros_held (replicate panel_words 0) (replicate panel_bytes 0) (replicate 32768 0) (replicate 12480 0) (replicate 30000 0) (replicate 128 0) (replicate 2048 0) (replicate 1280 0) (replicate 32768 0)
     (zeros_part panel_words 0 12480 (omega arith))
     (zeros_part panel_words 12480 12480 (omega arith))
     (zeros_part panel_bytes 0 30000 (omega arith))
     (zeros_part panel_bytes 30000 30000 (omega arith))
     (zeros_part panel_words 24960 128 (omega arith))
     (zeros_part panel_bytes 60000 2048 (omega arith))
-    (zeros_part panel_words 25088 512 (omega arith))
-    (zeros_part panel_bytes 62048 16384 (omega arith)))
+    (zeros_part panel_words 25088 1280 (omega arith))
+    (zeros_part panel_bytes 62048 32768 (omega arith)))

@@ -82,7 +82,7 @@ raised r e =
 abbrev pub with_area : Panel → AreaEdges → ℕ → Panel
 with_area p e length =
     record {
-      grid = record { columns = p.grid.columns; rows = p.grid.rows; areas = p.grid.areas + 1; placements = p.grid.placements };
+      grid = record { columns = p.grid.columns; rows = p.grid.rows; areas = p.grid.areas + 1; placements = p.grid.placements; cells = p.grid.cells };
       room = record {
         columns = (raised p.room e).columns;
         rows = (raised p.room e).rows;

@@ -30,8 +30,8 @@ abbrev pub reading_in : Reading → Axis → AxisReading
 reading_in r a = of_axis a r.columns r.rows
 
 abbrev pub with_grid : Grid → Axis → AxisGrid → Grid
-with_grid g Column own = record { columns = own; rows = g.rows; areas = g.areas; placements = g.placements }
-with_grid g Row own = record { columns = g.columns; rows = own; areas = g.areas; placements = g.placements }
+with_grid g Column own = record { columns = own; rows = g.rows; areas = g.areas; placements = g.placements; cells = g.cells }
+with_grid g Row own = record { columns = g.columns; rows = own; areas = g.areas; placements = g.placements; cells = g.cells }
 
 abbrev pub with_room : Room → Axis → AxisRoom → Room
 with_room r Column own = record { columns = own; rows = r.rows; areabytes = r.areabytes; placementbytes = r.placementbytes }
@@ -41,8 +41,8 @@ abbrev pub with_state : Panel → Axis → AxisState → Panel
 with_state p a s = record { grid = with_grid p.grid a s.grid; room = with_room p.room a s.room }
 
 abbrev pub with_reading : Reading → Axis → AxisReading → Reading
-with_reading r Column a = record { stage = r.stage; picture = r.picture; columns = a; rows = r.rows }
-with_reading r Row a = record { stage = r.stage; picture = r.picture; columns = r.columns; rows = a }
+with_reading r Column a = record { stage = r.stage; lines = r.lines; picture = r.picture; columns = a; rows = r.rows }
+with_reading r Row a = record { stage = r.stage; lines = r.lines; picture = r.picture; columns = r.columns; rows = a }
 
 -- the answer of a record, for the panel: its refusal's number, and the panel and the reading after it
 pub record PanelRead : Type 0 where
@@ -56,8 +56,8 @@ view_in v Column = v.columns
 view_in v Row = v.rows
 
 abbrev pub with_view : PanelView → Axis → AxisView → PanelView
-with_view v Column a = record { columns = a; rows = v.rows; areas = v.areas; picture = v.picture; placements = v.placements; stage = v.stage }
-with_view v Row a = record { columns = v.columns; rows = a; areas = v.areas; picture = v.picture; placements = v.placements; stage = v.stage }
+with_view v Column a = record { columns = a; rows = v.rows; areas = v.areas; picture = v.picture; placements = v.placements; cells = v.cells; stage = v.stage; lines = v.lines }
+with_view v Row a = record { columns = v.columns; rows = a; areas = v.areas; picture = v.picture; placements = v.placements; cells = v.cells; stage = v.stage; lines = v.lines }
 
 abbrev pub step_in : PanelView → Axis → AxisOutcome → PanelOutcome
 step_in v axis o = record { fault = o.fault; panel = with_view v axis o.axis }

@@ -12,10 +12,11 @@ pub record PictureReading : Type 0 where
   pub width : ℕ
   pub broken : Bool
 
--- the kind order (0 where nothing but `axis` records was read, 1 after an `area`, 2 after a `row`, 3 after any other), the picture, and what
--- each axis needs
+-- the kind order (0 where nothing but `axis` records was read, 1 after an `area`, 2 after a `row`, 3 after any other), how many lines were
+-- accepted, the picture, and what each axis needs
 pub record Reading : Type 0 where
   pub stage : ℕ
+  pub lines : ℕ
   pub picture : PictureReading
   pub columns : AxisReading
   pub rows : AxisReading
@@ -36,4 +37,4 @@ abbrev pub picture_reading : HeldPicture → PictureReading
 picture_reading p = record { rows = p.rows; width = width_number p.width; broken = p.broken }
 
 abbrev pub panel_reading : HeldReading → Reading
-panel_reading r = record { stage = stage_number r.stage; picture = picture_reading r.picture; columns = axis_reading r.columns; rows = axis_reading r.rows }
+panel_reading r = record { stage = stage_number r.stage; lines = r.lines; picture = picture_reading r.picture; columns = axis_reading r.columns; rows = axis_reading r.rows }

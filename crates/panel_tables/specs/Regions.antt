@@ -1,16 +1,16 @@
 -- What is lent with a panel beside its line-name stores: one table of words and one of bytes, each made of regions one after the other.
--- Words: the columns' 12,480, the rows' 12,480, 128 of areas, 512 of placements. Bytes: the item marks of the columns, 30,000, and of
--- the rows, 2,048 of the names of areas, 16,384 of the names of placements.
+-- Words: the columns' 12,480, the rows' 12,480, 128 of areas, 1,280 of placements. Bytes: the item marks of the columns, 30,000, and of
+-- the rows, 2,048 of the names of areas, 32,768 of the names of placements.
 use Rattle.std.specs.Prelude.{ℕ, List}
 use Rattle.coordinates.specs.declared.axis.Axis.{Axis}
 use Rattle.coordinates.specs.declared.axis.Axis.TheVariants.{Column, Row}
 use Rattle.axis_tables.specs.Runs.{part_of}
 
 abbrev pub panel_words : ℕ
-panel_words = 25600
+panel_words = 26368
 
 abbrev pub panel_bytes : ℕ
-panel_bytes = 78432
+panel_bytes = 94816
 
 -- where the words and the marks of an axis start
 abbrev pub first_word : Axis → ℕ
@@ -29,7 +29,7 @@ unfoldable pub area_words_in : List ℕ → List ℕ
 area_words_in words = part_of words 24960 128
 
 unfoldable pub placement_words_in : List ℕ → List ℕ
-placement_words_in words = part_of words 25088 512
+placement_words_in words = part_of words 25088 1280
 
 -- the item marks of an axis, the bytes of the names of areas and of placements
 unfoldable pub marks_in : Axis → List ℕ → List ℕ
@@ -39,4 +39,4 @@ unfoldable pub area_bytes_in : List ℕ → List ℕ
 area_bytes_in bytes = part_of bytes 60000 2048
 
 unfoldable pub placement_bytes_in : List ℕ → List ℕ
-placement_bytes_in bytes = part_of bytes 62048 16384
+placement_bytes_in bytes = part_of bytes 62048 32768

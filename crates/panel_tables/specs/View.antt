@@ -1,7 +1,7 @@
--- A panel as lists, in the words of document 01's panel sheet, and what `area` and `place` do to it.
-use Rattle.std.specs.Prelude.{ℕ, ◌-◌, max, List, [], ◌∷◌, ◌++◌, Bool, true, false, cond, leb, ltb, ℤ, pos, negsuc, length}
+-- A panel as lists, in the words of document 01's panel sheet and of document 02's request 10, and what `area`, `place` and `cell` do to it.
+use Rattle.std.specs.Prelude.{ℕ, ◌+◌, ◌-◌, max, min, List, [], ◌∷◌, ◌++◌, Bool, true, false, cond, eqb, leb, ltb, ℤ, pos, negsuc, length}
 use Rattle.coordinates.specs.declared.axis.Axis.{Axis}
-use Rattle.coordinates.specs.declared.axis.Axis.TheVariants.{Column}
+use Rattle.coordinates.specs.declared.axis.Axis.TheVariants.{Column, Row}
 use Rattle.text.specs.Split.{same}
 use Rattle.picture_rules.specs.Picture.{Picture}
 use Rattle.axis_tables.specs.View.{AxisView, named_fault, empty_axis}
@@ -13,14 +13,16 @@ pub record Area : Type 0 where
   pub name : List ℕ
   pub edges : AreaEdges
 
--- an end of a `place` line: kind, number and name, which is empty where it is unused
+-- an end of a `place` or `cell` line: kind, number and name, which is empty where it is unused
 pub record End : Type 0 where
   pub end : PlacementEnd
   pub name : List ℕ
 
--- `place`, axis, start, end
+-- `place`, axis, start, end; or a half of a `cell`: start and end of its columns, or of its rows
 pub record Placement : Type 0 where
   pub axis : Axis
+  -- whether it is a cell's half
+  pub cell : Bool
   pub start : End
   pub end : End
 
@@ -32,7 +34,7 @@ abbrev pub no_end : End
 no_end = record { end = record { kind = 0; number = pos 0 }; name = [] }
 
 abbrev pub no_placement : Placement
-no_placement = record { axis = Column; start = no_end; end = no_end }
+no_placement = record { axis = Column; cell = false; start = no_end; end = no_end }
 
 pub record PanelView : Type 0 where
   pub columns : AxisView
@@ -40,12 +42,17 @@ pub record PanelView : Type 0 where
   pub areas : List Area
   -- the rows of words that were drawn
   pub picture : Picture
+  -- in sheet order; a cell is two of them, its columns and then its rows
   pub placements : List Placement
+  -- the lines of the cells in the sheet
+  pub cells : List ℕ
   -- kind order: 0 where nothing but `axis` records was read, 1 after an `area`, 2 after a `row`, 3 after any other
   pub stage : ℕ
+  -- how many lines were accepted
+  pub lines : ℕ
 
 unfoldable pub empty_view : PanelView
-empty_view = record { columns = empty_axis; rows = empty_axis; areas = []; picture = []; placements = []; stage = 0 }
+empty_view = record { columns = empty_axis; rows = empty_axis; areas = []; picture = []; placements = []; cells = []; stage = 0; lines = 0 }
 
 -- whether an area has that name
 abbrev pub has_area : List ℕ → List Area → Bool
@@ -97,7 +104,9 @@ area_step v n e =
       areas = v.areas ++ (record { name = n; edges = e } ∷ []);
       picture = v.picture;
       placements = v.placements;
+      cells = v.cells;
       stage = v.stage;
+      lines = v.lines;
     }))))
 
 -- line indexes are -32,768 to 32,767, spans 0 to 65,535; there are five kinds
@@ -108,19 +117,63 @@ number_outside (negsuc k) = ltb 32767 k
 abbrev pub end_outside : PlacementEnd → Bool
 end_outside e = cond (ltb 4 e.kind) true (number_outside e.number)
 
--- a name above 32 bytes is 2, a kind or number outside its range 4, a 257th placement 8
-unfoldable pub place_step : PanelView → Axis → End → End → PanelOutcome
-place_step v axis start end =
-    cond (end_outside start.end) (refused (named_fault (length start.name) (named_fault (length end.name) 4)) v)
-    (cond (end_outside end.end) (refused (named_fault (length start.name) (named_fault (length end.name) 4)) v)
-    (cond (ltb 32 (length start.name)) (refused 2 v)
-    (cond (ltb 32 (length end.name)) (refused 2 v)
-    (cond (leb 256 (length v.placements)) (refused 8 v)
-    (accepted (record {
+-- of an end: a name above 32 bytes is 2, a kind or number outside its range 4
+unfoldable pub end_fault : PlacementEnd → ℕ → ℕ
+end_fault e length = named_fault length (cond (end_outside e) 4 0)
+
+-- of two refusals the one with the lower number; 0 is none
+unfoldable pub lower : ℕ → ℕ → ℕ
+lower a b = cond (eqb a 0) b (cond (eqb b 0) a (min a b))
+
+abbrev pub ends_fault : End → End → ℕ
+ends_fault s e = lower (end_fault s.end (length s.name)) (end_fault e.end (length e.name))
+
+-- ---- `place` and `cell`: "cells count among the 256 placements"
+abbrev pub most_items : ℕ
+most_items = 256
+
+-- how many `place` and `cell` lines: each cell is two of the placements
+abbrev pub items : PanelView → ℕ
+items v = length v.placements - length v.cells
+
+-- the panel after one of them whose ends have that fault; a 257th is 8
+unfoldable pub limited_step : PanelView → ℕ → PanelView → PanelOutcome
+limited_step v fault after = cond (eqb fault 0) (cond (leb most_items (items v)) (refused 8 v) (accepted after)) (refused fault v)
+
+abbrev pub with_item : PanelView → List Placement → List ℕ → PanelView
+with_item v placements cells =
+    record {
       columns = v.columns;
       rows = v.rows;
       areas = v.areas;
       picture = v.picture;
-      placements = v.placements ++ (record { axis = axis; start = start; end = end } ∷ []);
+      placements = placements;
+      cells = cells;
       stage = v.stage;
-    }))))))
+      lines = v.lines;
+    }
+
+abbrev pub with_placement : PanelView → Placement → PanelView
+with_placement v p = with_item v (v.placements ++ (p ∷ [])) v.cells
+
+unfoldable pub place_step : PanelView → Axis → End → End → PanelOutcome
+place_step v axis start end = limited_step v (ends_fault start end) (with_placement v (record { axis = axis; cell = false; start = start; end = end }))
+
+-- the line after those that were accepted; a sheet of 32,768 bytes has no further line
+abbrev pub most_lines : ℕ
+most_lines = 32768
+
+abbrev pub next_line : ℕ → ℕ
+next_line lines = min (lines + 1) most_lines
+
+-- the half of a cell in an axis
+abbrev pub half : Axis → End → End → Placement
+half axis start end = record { axis = axis; cell = true; start = start; end = end }
+
+abbrev pub with_cell : PanelView → Placement → Placement → PanelView
+with_cell v columns rows = with_item v ((v.placements ++ (columns ∷ [])) ++ (rows ∷ [])) (v.cells ++ (next_line v.lines ∷ []))
+
+-- "one item, the six fields of a column placement and then six for its row"
+unfoldable pub cell_step : PanelView → End → End → End → End → PanelOutcome
+cell_step v column_start column_end row_start row_end =
+    limited_step v (lower (ends_fault column_start column_end) (ends_fault row_start row_end)) (with_cell v (half Column column_start column_end) (half Row row_start row_end))

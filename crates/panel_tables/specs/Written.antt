@@ -12,19 +12,18 @@ use Rattle.panel_tables.specs.declared.Panel.{Panel}
 use Rattle.panel_tables.specs.Readings.{PictureReading, Reading}
 use Rattle.panel_tables.specs.View.{Area, End, Placement, PanelView, PanelOutcome}
 use Rattle.panel_tables.specs.Areas.{edges_word, InAreas}
-use Rattle.coordinates.specs.Axes.{axis_number}
-use Rattle.panel_tables.specs.Placements.{end_word}
+use Rattle.panel_tables.specs.Placements.{end_word, axis_mark}
 use Rattle.panel_tables.specs.Regions.{axis_words_in, area_words_in, placement_words_in, marks_in, area_bytes_in, placement_bytes_in}
 
 abbrev pub zero_panel : Panel
 zero_panel =
     record {
-      grid = record { columns = zero_axis_grid; rows = zero_axis_grid; areas = 0; placements = 0 };
+      grid = record { columns = zero_axis_grid; rows = zero_axis_grid; areas = 0; placements = 0; cells = 0 };
       room = record { columns = zero_axis_room; rows = zero_axis_room; areabytes = 0; placementbytes = 0 };
     }
 
 abbrev pub zero_panel_reading : Reading
-zero_panel_reading = record { stage = 0; picture = record { rows = 0; width = 0; broken = false }; columns = zero_reading; rows = zero_reading }
+zero_panel_reading = record { stage = 0; lines = 0; picture = record { rows = 0; width = 0; broken = false }; columns = zero_reading; rows = zero_reading }
 
 -- ---- areas
 abbrev pub area_name_of : Area → List ℕ
@@ -48,14 +47,14 @@ area_words list = lay (area_regions list)
 unfoldable pub area_store : List Area → List ℕ
 area_store list = pad 2048 (area_bytes_of list)
 
--- ---- placements: the ends one after the other, the start with its axis
+-- ---- placements: the ends one after the other, the start with its axis' mark; then the lines of the cells
 pub record AxisEnd : Type 0 where
   pub axis : ℕ
   pub end : End
 
 abbrev pub ends_of : List Placement → List AxisEnd
 ends_of [] = []
-ends_of (p ∷ ps) = record { axis = axis_number p.axis; end = p.start } ∷ record { axis = 0; end = p.end } ∷ ends_of ps
+ends_of (p ∷ ps) = record { axis = axis_mark p.axis p.cell; end = p.start } ∷ record { axis = 0; end = p.end } ∷ ends_of ps
 
 abbrev pub end_name_of : AxisEnd → List ℕ
 end_name_of e = e.end.name
@@ -66,17 +65,26 @@ axis_end_word e offset = end_word e.axis e.end.end offset (length e.end.name)
 abbrev pub placement_bytes_of : List Placement → List ℕ
 placement_bytes_of ps = bytes_of end_name_of (ends_of ps)
 
-unfoldable pub placement_words : List Placement → List ℕ
-placement_words ps = pad 512 (words_from axis_end_word end_name_of 0 (ends_of ps))
+unfoldable pub placement_regions : List Placement → List ℕ → List Region
+placement_regions ps lines = region 1024 (words_from axis_end_word end_name_of 0 (ends_of ps)) ∷ region 256 lines ∷ []
+
+unfoldable pub placement_words : List Placement → List ℕ → List ℕ
+placement_words ps lines = lay (placement_regions ps lines)
 
 unfoldable pub placement_store : List Placement → List ℕ
-placement_store ps = pad 16384 (placement_bytes_of ps)
+placement_store ps = pad 32768 (placement_bytes_of ps)
 
 -- ---- the panel
 abbrev pub panel_of : PanelView → Panel
 panel_of v =
     record {
-      grid = record { columns = grid_of v.columns; rows = grid_of v.rows; areas = length v.areas; placements = length v.placements };
+      grid = record {
+        columns = grid_of v.columns;
+        rows = grid_of v.rows;
+        areas = length v.areas;
+        placements = length v.placements;
+        cells = length v.cells;
+      };
       room = record {
         columns = room_of v.columns;
         rows = room_of v.rows;
@@ -90,7 +98,7 @@ unfoldable pub picture_reading_of : Picture → PictureReading
 picture_reading_of p = record { rows = length p; width = width_of p; broken = (taken_of p).broken }
 
 abbrev pub panel_reading_of : PanelView → Reading
-panel_reading_of v = record { stage = v.stage; picture = picture_reading_of v.picture; columns = reading_of v.columns; rows = reading_of v.rows }
+panel_reading_of v = record { stage = v.stage; lines = v.lines; picture = picture_reading_of v.picture; columns = reading_of v.columns; rows = reading_of v.rows }
 
 -- state and tables together
 pub record PanelHeld : Type 0 where
@@ -138,7 +146,7 @@ held_panel v =
       row_bytes = names_store v.rows;
       areas = area_words v.areas;
       area_bytes = area_store v.areas;
-      placements = placement_words v.placements;
+      placements = placement_words v.placements v.cells;
       placement_bytes = placement_store v.placements;
     }
 

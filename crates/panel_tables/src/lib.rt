@@ -18,7 +18,8 @@ use coordinates::Axis;
 use region::{PANEL_BYTES, PANEL_WORDS};
 use stage::Stage;
 
-// What answers are read from, beside the tables: both axes, and how many areas and placements the tables hold.
+// What answers are read from, beside the tables: both axes, and how many areas, placements and cells the tables hold; of the placements each
+// cell is two, its columns and then its rows.
 #[repr(C)]
 #[derive(Clone, Copy, Debug, PartialEq, Eq, Default)]
 pub struct Grid {
@@ -26,6 +27,7 @@ pub struct Grid {
     pub rows: AxisGrid,
     pub areas: u32,
     pub placements: u32,
+    pub cells: u32,
 }
 
 // What only an edit reads: of both axes, and how many bytes the names of areas and of placements take.
@@ -65,10 +67,12 @@ pub struct PictureReading {
     ghost counted: { eqb rows 0 ≡ is_unread width },
 }
 
-// What only reading needs: how far the sheet has come in the order of its kinds, the picture, and what each axis needs.
+// What only reading needs: how far the sheet has come in the order of its kinds, how many lines were accepted, the picture, and what each
+// axis needs.
 #[derive(Clone, Copy, Debug, PartialEq, Eq)]
 pub struct Reading {
     pub stage: Stage,
+    pub lines: u32,
     pub picture: PictureReading,
     pub columns: AxisReading,
     pub rows: AxisReading,
@@ -106,10 +110,11 @@ pub struct EndPlace {
     pub length: u32,
 }
 
-// A placement as its table holds it.
+// A placement as its table holds it, and whether it is a cell's half.
 #[derive(Clone, Copy, Debug, PartialEq, Eq)]
 pub struct PlacementPlace {
     pub axis: Axis,
+    pub cell: bool,
     pub start: EndPlace,
     pub end: EndPlace,
 }

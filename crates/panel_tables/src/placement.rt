@@ -1,7 +1,6 @@
-// The placements: two words each, start and end; the bytes of their names one after the other.
+// The placements: two words each, start and end, then a word for the line of each cell; the bytes of their names one after the other.
 ghost use Rattle.std.specs.Prelude.{◌≡◌};
-ghost use Rattle.coordinates.specs.Axes.{axis_number};
-ghost use Rattle.panel_tables.specs.Placements.{end_of, end_word, placement_at};
+ghost use Rattle.panel_tables.specs.Placements.{axis_mark, cell_line, end_of, end_word, placement_at};
 
 use crate::number::{count_of, number_of};
 use crate::region::word_under;
@@ -9,15 +8,24 @@ use crate::{EndPlace, PlacementEnd, PlacementPlace};
 use coordinates::Axis;
 use coordinates::limit::LONGEST_NAME;
 
-// The most placements of a panel.
-pub const MOST_PLACEMENTS: u32 = coordinates::limit::MOST_PLACEMENTS as u32;
+// The most `place` and `cell` lines of a panel, together.
+pub const MOST_ITEMS: u32 = coordinates::limit::MOST_PLACEMENTS as u32;
 
-pub const PLACEMENT_WORDS: usize = 2 * MOST_PLACEMENTS as usize;
+// The most placements of the table: two for each cell.
+pub const MOST_PLACEMENTS: u32 = 2 * MOST_ITEMS;
 
-pub const PLACEMENT_BYTES: usize = PLACEMENT_WORDS * LONGEST_NAME;
+// Where the lines of the cells start, behind the words of the placements.
+pub const CELL_LINES: usize = 2 * MOST_PLACEMENTS as usize;
 
-// What the number of a placement's axis counts in its first word.
-const AXIS_PART: u64 = 0x100_0000_0000_0000;
+pub const PLACEMENT_WORDS: usize = CELL_LINES + MOST_ITEMS as usize;
+
+pub const PLACEMENT_BYTES: usize = CELL_LINES * LONGEST_NAME;
+
+// What the mark of a placement counts in its first word.
+const MARK_PART: u64 = 0x100_0000_0000_0000;
+
+// The mark of a placement is the number of its axis, and this more where it is a cell's half.
+const CELL_MARK: u32 = 2;
 
 impl From<u64> for EndPlace {
     ghost from_gives = { λ word end. end ≡ end_of word };
@@ -51,12 +59,13 @@ impl From<EndPlace> for u64 {
     }
 }
 
-// The first word of a placement: that of its start, with its axis.
+// The first word of a placement: that of its start, with its axis and whether it is a cell's half.
 #[tactic(auto, unfolding(crate::specs::Placements::end_word))]
-pub fn start_with_axis(axis: Axis, start: EndPlace) -> u64
-    ensures { result ≡ end_word (axis_number axis) start.end start.offset start.length }
+pub fn start_with_mark(axis: Axis, cell: bool, start: EndPlace) -> u64
+    ensures { result ≡ end_word (axis_mark axis cell) start.end start.offset start.length }
 {
-    u64::from(start) + u64::from(u32::from(axis)) * AXIS_PART
+    let mark = u32::from(axis) + if cell { CELL_MARK } else { 0 };
+    u64::from(start) + u64::from(mark) * MARK_PART
 }
 
 // Placement i of the table. Any words give one.
@@ -66,8 +75,23 @@ pub fn placement_at(words: &[u64], index: u32) -> PlacementPlace
 {
     let at = index as usize;
     let first = word_under(words, index, MOST_PLACEMENTS, at + at);
-    let axis = Axis::from((first / AXIS_PART) as u32);
+    let mark = (first / MARK_PART) as u32;
+    let axis = Axis::from(mark % CELL_MARK);
     let start = EndPlace::from(first);
     let end = EndPlace::from(word_under(words, index, MOST_PLACEMENTS, at + at + 1));
-    PlacementPlace { axis, start, end }
+    PlacementPlace {
+        axis,
+        cell: mark / CELL_MARK % 2 == 1,
+        start,
+        end,
+    }
+}
+
+// The sheet's line of cell i of the table, 0 past the last. Any words give one.
+#[tactic(auto, unfolding(crate::specs::Placements::cell_line))]
+pub fn cell_line(words: &[u64], index: u32) -> u32
+    ensures { result ≡ cell_line words.now index }
+{
+    let line = word_under(words, index, MOST_ITEMS, CELL_LINES + index as usize);
+    (line % 0x1_0000_0000) as u32
 }

@@ -63,7 +63,7 @@ pub fn area_words(words: &[u64; PANEL_WORDS]) -> &[u64]
     &words[AREAS..AREAS + AREA_WORDS]
 }
 
-// The words of the placements.
+// The words of the placements, with the lines of the cells.
 #[tactic(auto, unfolding(crate::specs::Regions::placement_words_in))]
 pub fn placement_words(words: &[u64; PANEL_WORDS]) -> &[u64]
     ensures { result.now ≡ placement_words_in words.now }

@@ -14,6 +14,7 @@ impl Default for Reading {
     fn default() -> Reading {
         Reading {
             stage: Stage::Axes,
+            lines: 0,
             picture: PictureReading {
                 rows: 0,
                 width: None,

@@ -15,7 +15,7 @@ use Rattle.track_rules.specs.declared.TrackSource.TheVariants as Source
 use Rattle.coordinates.specs.declared.line.GenericGridPlacement.TheVariants as End
 use Rattle.text.specs.Decimal.{decimal, decimal_up_to}
 use Rattle.panel_text.specs.Numerals.{hexadecimal_digits}
-use Rattle.panel_text.specs.Lines.{size_line, record_line, place_line, refused_line}
+use Rattle.panel_text.specs.Lines.{size_line, record_line, place_line, cell_line, refused_line}
 
 -- the bytes of a text of codes below 128
 abbrev pub bytes_of : String → List ℕ
@@ -53,6 +53,7 @@ cases =
     ∷ case (record_line 7 (track Source.Area 0)) "7\ttrack\tn\tlen\t00000000\tlen\t00000000\tg\n"
     ∷ case (record_line 59999 (record { kind = Track; collapsed = false; source = Source.Positive; size = record { min = Auto; max = FitContentPercent (of_bits binary32 0x4120_0000) } }))
     "59999\ttrack\tn\tauto\t00000000\tfitp\t41200000\tp\n"
+    ∷ case (cell_line (record { columns = record { start = 2; end = 4 }; rows = record { start = 1; end = 10001 } })) "cell\t2\t4\t1\t10001\n"
     ∷ case (refused_line (record { number = 1; line = 0 })) "refused\t1\t0\n"
     ∷ []
 
@@ -61,5 +62,5 @@ every [] = true
 every (c ∷ cs) = same c.line (bytes_of c.text) && every cs
 
 pub printed : T (every cases)
-unfolding cases same size_line record_line place_line refused_line decimal decimal_up_to hexadecimal_digits printed_bits of_bits
+unfolding cases same size_line record_line place_line cell_line refused_line decimal decimal_up_to hexadecimal_digits printed_bits of_bits
 printed = tt

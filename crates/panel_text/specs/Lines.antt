@@ -13,6 +13,7 @@ use Rattle.track_rules.specs.Numbers.{kind_number, source_number}
 use Rattle.name_resolver.specs.Types.{NonNamedGridPlacement}
 use Rattle.name_resolver.specs.Types.{ResolvedLine}
 use Rattle.name_resolver.specs.Placements.{resolved_kind_of, resolved_number_of}
+use Rattle.free_cells.specs.declared.Rectangle.{Rectangle}
 use Rattle.text.specs.Decimal.{decimal}
 use Rattle.panel_text.specs.Numerals.{whole_number, hexadecimal}
 
@@ -63,6 +64,10 @@ end_fields e = get_or end_words (resolved_kind_of e) [] ∷ whole_number (resolv
 -- `place`, axis, then kind and number twice
 unfoldable pub place_line : Axis → ResolvedLine → List ℕ
 place_line axis l = line_of ((112 ∷ 108 ∷ 97 ∷ 99 ∷ 101 ∷ []) ∷ axis_word axis ∷ (end_fields l.start ++ end_fields l.end))
+
+-- `cell`, "its two column lines and two row lines" (document 02, Req 10)
+unfoldable pub cell_line : Rectangle → List ℕ
+cell_line r = line_of ((99 ∷ 101 ∷ 108 ∷ 108 ∷ []) ∷ decimal r.columns.start ∷ decimal r.columns.end ∷ decimal r.rows.start ∷ decimal r.rows.end ∷ [])
 
 -- `refused`, number, line
 unfoldable pub refused_line : Refusal → List ℕ

@@ -2,7 +2,7 @@
 
 #![tactic(auto)]
 
-ghost use Rattle.panel_text.specs.Lines.{size_line, record_line, place_line, refused_line};
+ghost use Rattle.panel_text.specs.Lines.{size_line, record_line, place_line, cell_line, refused_line};
 ghost use Rattle.panel_text.specs.Written.{WritesLine};
 
 mod fields;
@@ -10,6 +10,7 @@ mod line;
 mod numerals;
 
 use coordinates::Axis;
+use free_cells::Rectangle;
 use line::PrintedLine;
 use name_resolver::ResolvedLine;
 use text::{LINE_FEED, TAB};
@@ -55,6 +56,19 @@ pub fn place_line(out: &mut [u8], axis: Axis, line: ResolvedLine) -> usize
     text.end_number(line.start, TAB);
     text.end_kind(line.end);
     text.end_number(line.end, LINE_FEED);
+    text.put(out)
+}
+
+// The line of a cell, by where it lands.
+pub fn cell_line(out: &mut [u8], land: Rectangle) -> usize
+    ensures { WritesLine out.old (cell_line land) out.new result }
+{
+    let mut text = PrintedLine::new();
+    text.field(b"cell", TAB);
+    text.count(land.columns.start, TAB);
+    text.count(land.columns.end, TAB);
+    text.count(land.rows.start, TAB);
+    text.count(land.rows.end, LINE_FEED);
     text.put(out)
 }
 

@@ -1,4 +1,4 @@
-// What the records of a panel write beside those of its axes: `area` and `place`.
+// What the records of a panel write beside those of its axes: `area`, `place` and `cell`.
 
 #![tactic(auto)]
 

@@ -11,13 +11,13 @@ use Rattle.text.specs.Split.{before, split, same, index}
 use Rattle.text.proofs.Places.{parts_whole, parts_next}
 use Rattle.text.proofs.Which.{same_equal, unequal, index_word}
 use Rattle.sheet_forms.specs.Words.{at, kind_words}
-use Rattle.sheet_forms.specs.Forms.{Kind, area, name, track, repeat, end, spare, extra, item, place, row, kind_number}
+use Rattle.sheet_forms.specs.Forms.{Kind, area, name, track, repeat, end, spare, extra, item, place, row, cell, kind_number}
 use Rattle.sheet_forms.proofs.LineRows.{word-index, kind_below}
 use Rattle.sheet_rules.specs.Kinds.{is_kind}
 use Rattle.std.specs.Prelude.{Option, Some, None}
 use Rattle.sheet_lines.specs.Fields.{line_kind_number as number_of_kind}
 use Rattle.sheet_lines.specs.declared.kinds.LineKind.{LineKind}
-use Rattle.sheet_lines.specs.declared.kinds.LineKind.TheVariants.{Axis, Area, Name, Track, Repeat, End, Spare, Extra, Item, Place, Row}
+use Rattle.sheet_lines.specs.declared.kinds.LineKind.TheVariants.{Axis, Area, Name, Track, Repeat, End, Spare, Extra, Item, Place, Row, Cell}
 use Rattle.picture_end.specs.Steps.{class_of, fields_or_none, later_fields, row_by, class_by}
 
 -- ---- by the kind's number
@@ -53,12 +53,13 @@ not_row Extra h e = absurd (omega arith)
 not_row Item h e = absurd (omega arith)
 not_row Place h e = absurd (omega arith)
 not_row Row h e = h refl
+not_row Cell h e = absurd (omega arith)
 
 -- by the kind itself
 module _ (n : ℕ) (some : 1 ≤ n) where
   pub of_no_kind : 0 ≡ class_by (number_of_kind None) n
   unfolding later_fields
-  of_no_kind = class-between 11 n 0 (λ e. omega (arith, e)) refl (λ e. omega (arith, e, some))
+  of_no_kind = class-between 12 n 0 (λ e. omega (arith, e)) refl (λ e. omega (arith, e, some))
 
   module _ (kind : LineKind) (m : Option ℕ) (other : kind ≡ Row → ⊥) (asked : fields_or_none m ≡ later_fields (number_of_kind (Some kind))) where
     pub of_later : m ≡ Some n → 2 ≡ class_by (number_of_kind (Some kind)) n
@@ -94,7 +95,7 @@ abbrev by_number : ℕ → ℕ → ℕ
 by_number i n =
     cond (eqb i 10 && leb 2 n) 1
     (cond ((eqb i 1 && eqb n 6) || ((eqb i 2 && eqb n 3) || ((eqb i 3 && eqb n 6) || ((eqb i 4 && eqb n 3) || ((eqb i 5 && eqb n 2)
-    || ((eqb i 6 && eqb n 6) || ((eqb i 7 && eqb n 4) || ((eqb i 8 && eqb n 3) || ((eqb i 9 && eqb n 8) || false))))))))) 2 0)
+    || ((eqb i 6 && eqb n 6) || ((eqb i 7 && eqb n 4) || ((eqb i 8 && eqb n 3) || ((eqb i 9 && eqb n 8) || ((eqb i 11 && eqb n 13) || false)))))))))) 2 0)
 
 or_false : (t : Bool) → ◌≡◌ {A = ℕ} (cond t 2 0) (cond (t || false) 2 0)
 or_false true = refl
@@ -113,9 +114,10 @@ by_number_lem (suc (suc (suc (suc (suc (suc (suc zero))))))) n h = or_false (eqb
 by_number_lem (suc (suc (suc (suc (suc (suc (suc (suc zero)))))))) n h = or_false (eqb n 3)
 by_number_lem (suc (suc (suc (suc (suc (suc (suc (suc (suc zero))))))))) n h = or_false (eqb n 8)
 by_number_lem (suc (suc (suc (suc (suc (suc (suc (suc (suc (suc zero)))))))))) n h = refl
-by_number_lem (suc (suc (suc (suc (suc (suc (suc (suc (suc (suc (suc j))))))))))) n h = other (suc (suc (suc (suc (suc (suc (suc (suc (suc (suc (suc j))))))))))) n h (omega arith)
+by_number_lem (suc (suc (suc (suc (suc (suc (suc (suc (suc (suc (suc zero))))))))))) n h = or_false (eqb n 13)
+by_number_lem (suc (suc (suc (suc (suc (suc (suc (suc (suc (suc (suc (suc j)))))))))))) n h = other (suc (suc (suc (suc (suc (suc (suc (suc (suc (suc (suc (suc j)))))))))))) n h (omega arith)
   where
-    other : (i n : ℕ) → 1 ≤ n → 11 ≤ i → class_by i n ≡ by_number i n
+    other : (i n : ℕ) → 1 ≤ n → 12 ≤ i → class_by i n ≡ by_number i n
     other i n h k =
         rw (
           ne_eqb i 10 (λ e. omega arith),
@@ -128,6 +130,7 @@ by_number_lem (suc (suc (suc (suc (suc (suc (suc (suc (suc (suc (suc j))))))))))
           ne_eqb i 7 (λ e. omega arith),
           ne_eqb i 8 (λ e. omega arith),
           ne_eqb i 9 (λ e. omega arith),
+          ne_eqb i 11 (λ e. omega arith),
           ne_eqb n 0 (λ e. omega arith),
         )
 
@@ -145,6 +148,7 @@ class_same fs k n e f h =
       kind_test fs extra,
       kind_test fs item,
       kind_test fs place,
+      kind_test fs cell,
       ← e,
       ← f,
     ) (by_number_lem k n h)

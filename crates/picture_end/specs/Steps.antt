@@ -32,7 +32,8 @@ later_fields k =
     (cond (eqb k 6) 6
     (cond (eqb k 7) 4
     (cond (eqb k 8) 3
-    (cond (eqb k 9) 8 0))))))))
+    (cond (eqb k 9) 8
+    (cond (eqb k 11) 13 0)))))))))
 
 -- of the fields that a line must have, if any: 0 for none
 abbrev pub fields_or_none : Option ℕ → ℕ

@@ -5,8 +5,8 @@ ghost use Rattle.sheet_lines.specs.Fields.{line_kind_number};
 ghost use Rattle.picture_end.specs.Steps.{class_number, class_of, fields_or_none, later_fields, row_by, class_by};
 
 use sheet_lines::fields::{
-    AREA_FIELDS, END_FIELDS, EXTRA_FIELDS, Fields, ITEM_FIELDS, NAME_FIELDS, PLACE_FIELDS,
-    REPEAT_FIELDS, SIZES_FIELDS,
+    AREA_FIELDS, CELL_FIELDS, END_FIELDS, EXTRA_FIELDS, Fields, ITEM_FIELDS, NAME_FIELDS,
+    PLACE_FIELDS, REPEAT_FIELDS, SIZES_FIELDS,
 };
 use sheet_lines::{LineKind, kind};
 use text::field;
@@ -38,6 +38,7 @@ fn later_fields(kind: LineKind) -> Option<usize>
         LineKind::Item => Some(ITEM_FIELDS),
         LineKind::Place => Some(PLACE_FIELDS),
         LineKind::Row => None,
+        LineKind::Cell => Some(CELL_FIELDS),
     }
 }
 

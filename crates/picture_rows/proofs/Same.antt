@@ -108,7 +108,7 @@ module _ (width row : ℕ) where
   abbrev made : Panel → List PictureArea → ℕ → ℕ → Panel
   made p l columns rows =
       record {
-        grid = record { columns = p.grid.columns; rows = p.grid.rows; areas = length (table_of l); placements = p.grid.placements };
+        grid = record { columns = p.grid.columns; rows = p.grid.rows; areas = length (table_of l); placements = p.grid.placements; cells = p.grid.cells };
         room = record {
           columns = with_areas p.room.columns columns;
           rows = with_areas p.room.rows rows;
@@ -123,7 +123,7 @@ module _ (width row : ℕ) where
   spanned-pictured : (p : Panel) (l : List PictureArea) → TableFits p l → spanned p (picture_edges width row) ≡ pictured p l width row
   spanned-pictured p l fit =
       ap₂ (λ (n u : ℕ). record {
-        grid = record { columns = p.grid.columns; rows = p.grid.rows; areas = n; placements = p.grid.placements };
+        grid = record { columns = p.grid.columns; rows = p.grid.rows; areas = n; placements = p.grid.placements; cells = p.grid.cells };
         room = record {
           columns = with_areas p.room.columns (max p.room.columns.areas (width + 1 - 1));
           rows = with_areas p.room.rows (max p.room.rows.areas (row + 1 - 1));

@@ -12,7 +12,7 @@ use Rattle.picture_rows.specs.Steps.{picture_edges}
 abbrev pub pictured : Panel → List PictureArea → ℕ → ℕ → Panel
 pictured p l width row =
     record {
-      grid = record { columns = p.grid.columns; rows = p.grid.rows; areas = length (table_of l); placements = p.grid.placements };
+      grid = record { columns = p.grid.columns; rows = p.grid.rows; areas = length (table_of l); placements = p.grid.placements; cells = p.grid.cells };
       room = record {
         columns = (raised p.room (picture_edges width row)).columns;
         rows = (raised p.room (picture_edges width row)).rows;

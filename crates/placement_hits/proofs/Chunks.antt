@@ -34,10 +34,10 @@ module _ (numbers : List ℤ) (n : ℕ) (own rest : List ℤ) (cut : drop (8 * n
       sym (drop-append_seam own rest) ∙ ap (drop (length own)) (sym cut) ∙ ap (λ (k : ℕ). drop k (drop (8 * n) numbers)) whole ∙ drop-drop 8 (8 * n) numbers
       ∙ ap (λ (k : ℕ). drop k numbers) (omega arith)
 
-  -- one of the 256
-  pub one-held : length numbers ≡ 2048 → n < 256
+  -- one of the 512
+  pub one-held : length numbers ≡ 4096 → n < 512
   one-held e = omega (arith, ap length cut, length-append own rest, length-drop (8 * n) numbers, whole, e)
 
 -- fewer than eight numbers are left once all were looked at
-pub all-held : (numbers : List ℤ) (n : ℕ) → length numbers ≡ 2048 → length (drop (8 * n) numbers) < 8 → 256 ≤ n
+pub all-held : (numbers : List ℤ) (n : ℕ) → length numbers ≡ 4096 → length (drop (8 * n) numbers) < 8 → 512 ≤ n
 all-held numbers n e h = omega (arith, length-drop (8 * n) numbers, e)

@@ -4,10 +4,13 @@ ghost use Rattle.placement_hits.specs.Steps.{Listed, is_hit, listed_of, one_list
 
 use crate::Asked;
 use crate::member::Placement;
-use coordinates::limit::{MOST_PLACEMENTS, PLACEMENT_NUMBERS, PLACEMENT_RUN};
+use coordinates::limit::{MOST_PLACEMENTS, PLACEMENT_NUMBERS};
 
-// The most placements of a list, which is as many as a panel holds.
-pub const MOST_HITS: usize = MOST_PLACEMENTS;
+// The most placements of a list, which is as many as a panel holds: two for each cell.
+pub const MOST_HITS: usize = 2 * MOST_PLACEMENTS;
+
+// The numbers of a run of as many.
+pub const RUN_NUMBERS: usize = MOST_HITS * PLACEMENT_NUMBERS;
 
 // Writes the index of a placement after those written so far where it is asked for; how many there are then.
 fn put_hit(
@@ -17,7 +20,7 @@ fn put_hit(
     written: u32,
     hits: &mut [u32; MOST_HITS],
 ) -> u32
-    requires { written < 256 }
+    requires { written < 512 }
     ensures { record { count = result; hits = hits.new } ≡ one_listed (is_hit asked placement.entry.numbers.now 0) index (record { count = written; hits = hits.old }) }
 {
     if placement.is_hit(asked) {
@@ -30,11 +33,11 @@ fn put_hit(
 // Writes the indexes of the placements of a run that are asked for, ascending, from the first place on; how many there are.
 pub fn write_hits(
     asked: Asked,
-    numbers: &[i32; PLACEMENT_RUN],
+    numbers: &[i32; RUN_NUMBERS],
     count: u32,
     hits: &mut [u32; MOST_HITS],
 ) -> u32
-    ensures { record { count = result; hits = hits.new } ≡ listed_of (passing (is_hit asked numbers.now) 0 (min count 256)) hits.old }
+    ensures { record { count = result; hits = hits.new } ≡ listed_of (passing (is_hit asked numbers.now) 0 (min count 512)) hits.old }
 {
     let mut written: u32 = 0;
     for (index, chunk) in (0..count).zip(numbers.chunks_exact(PLACEMENT_NUMBERS)) {

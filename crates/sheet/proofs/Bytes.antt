@@ -12,7 +12,7 @@ use Rattle.coordinates.specs.declared.axis.Axis.TheVariants.{Column, Row}
 use Rattle.text.specs.Split.{split}
 use Rattle.text.proofs.Cut.{join, join-split}
 use Rattle.sheet_forms.specs.Said.{Record}
-use Rattle.sheet_forms.specs.Said.{Fault, Axis as AxisLine, Area, Name, Track, Repeat, End as EndLine, Spare, Extra, Item, Place, PictureRow}
+use Rattle.sheet_forms.specs.Said.{Fault, Axis as AxisLine, Area, Name, Track, Repeat, End as EndLine, Spare, Extra, Item, Place, PictureRow, Cell}
 use Rattle.sheet_forms.specs.Words.{at}
 use Rattle.sheet_forms.specs.Forms.{name as name_kind, Of}
 use Rattle.sheet_forms.specs.Records.{record_of}
@@ -21,7 +21,8 @@ use Rattle.sheet_forms.proofs.Theorem.{record_bounded}
 use Rattle.axis_tables.specs.Runs.{bytes_of}
 use Rattle.axis_tables.specs.View.{AxisView, NameRecord, empty_axis, name_of, axis_names, axis_bytes, name_step, named_fault}
 use Rattle.panel_tables.specs.declared.AreaEdges.{AreaEdges}
-use Rattle.panel_tables.specs.View.{End, PanelView, PanelOutcome, empty_view, refused as refused_panel, accepted as accepted_panel, raised, area_step, place_step, edges_outside, end_outside}
+use Rattle.panel_tables.specs.View.{End, Placement, PanelView, PanelOutcome, empty_view, refused as refused_panel, accepted as accepted_panel, raised, area_step, ends_fault, lower, limited_step, with_item, place_step, cell_step, edges_outside}
+use Rattle.panel_tables.proofs.Fits.{limited_by}
 use Rattle.panel_tables.specs.Axes.{view_in, with_view}
 use Rattle.picture_rules.specs.Picture.{Word}
 use Rattle.sheet_rules.specs.Pictures.{areas_of, with_words, other_width, drawn_row, picture_step}
@@ -92,29 +93,27 @@ module _ (v : PanelView) (n k : ℕ) (p : BothWithin n v) where
         areas = v.areas ++ (record { name = m; edges = e } ∷ []);
         picture = v.picture;
         placements = v.placements;
+        cells = v.cells;
         stage = v.stage;
+        lines = v.lines;
       }) a))
       drawn Column = stays Column
       drawn Row = stays Row
 
-  place-within : (b : Axis) (s e : End) → BothWithin (n + k) (place_step v b s e).panel
-  unfolding place_step
-  place-within b s e =
-      cond-within (end_outside s.end) (refused_panel (named_fault (length s.name) (named_fault (length e.name) 4)) v) _ stays
-      (cond-within (end_outside e.end) (refused_panel (named_fault (length s.name) (named_fault (length e.name) 4)) v) _ stays
-      (cond-within (ltb 32 (length s.name)) (refused_panel 2 v) _ stays
-      (cond-within (ltb 32 (length e.name)) (refused_panel 2 v) _ stays (cond-within (leb 256 (length v.placements)) (refused_panel 8 v) _ stays placed))))
+  item-within : (fault : ℕ) (ps : List Placement) (cs : List ℕ) → BothWithin (n + k) (limited_step v fault (with_item v ps cs)).panel
+  item-within fault ps cs = limited_by (BothWithin (n + k)) v fault (with_item v ps cs) stays (λ x y. placed)
     where
-      placed : (a : Axis) → Within (n + k) (axis_names (view_in (record {
-        columns = v.columns;
-        rows = v.rows;
-        areas = v.areas;
-        picture = v.picture;
-        placements = v.placements ++ (record { axis = b; start = s; end = e } ∷ []);
-        stage = v.stage;
-      }) a))
+      placed : (a : Axis) → Within (n + k) (axis_names (view_in (with_item v ps cs) a))
       placed Column = stays Column
       placed Row = stays Row
+
+  place-within : (b : Axis) (s e : End) → BothWithin (n + k) (place_step v b s e).panel
+  unfolding place_step
+  place-within b s e = item-within (ends_fault s e) _ _
+
+  cell-within : (cs ce rs re : End) → BothWithin (n + k) (cell_step v cs ce rs re).panel
+  unfolding cell_step
+  cell-within cs ce rs re = item-within (lower (ends_fault cs ce) (ends_fault rs re)) _ _
 
   row_within : (ws : List Word) → BothWithin (n + k) (picture_step v ws).panel
   unfolding picture_step
@@ -143,6 +142,7 @@ module _ (v : PanelView) (n k : ℕ) (p : BothWithin n v) where
   record-within fs (Extra a m l) h = kept a _ (extra-names (view_in v a) m l)
   record-within fs (Item a i) h = kept a _ (item-names (view_in v a) i)
   record-within fs (Place a s e) h = place-within a (placed_end (at fs 3) s) (placed_end (at fs 6) e)
+  record-within fs (Cell cs ce rs re) h = cell-within (placed_end (at fs 2) cs) (placed_end (at fs 5) ce) (placed_end (at fs 8) rs) (placed_end (at fs 11) re)
   record-within fs (PictureRow m) h = cond-within (late_at 2 v.stage) (accepted_panel v) _ stays (row_within (drop 1 fs))
 
 -- the kind order holds no name

@@ -47,7 +47,7 @@ held_sized v =
       row_bytes = names_store v.rows;
       areas = area_words v.areas;
       area_bytes = area_store v.areas;
-      placements = placement_words v.placements;
+      placements = placement_words v.placements v.cells;
       placement_bytes = placement_store v.placements;
     }
 

@@ -29,7 +29,7 @@ use Rattle.sheet_rules.specs.declared.LineFault.{LineFault}
 use Rattle.sheet_rules.specs.Answers.{noted, NumberedPair}
 use Rattle.sheet_rules.specs.Sheet.{no_overlap}
 use Rattle.sheet_rules.specs.Contents.{Line, lines_from}
-use Rattle.sheet_forms.specs.Said.{Record, Fault, Axis as AxisLine, Area, Name, Track, Repeat, End, Spare, Extra, Item, Place, PictureRow}
+use Rattle.sheet_forms.specs.Said.{Record, Fault, Axis as AxisLine, Area, Name, Track, Repeat, End, Spare, Extra, Item, Place, PictureRow, Cell}
 use Rattle.sheet_forms.specs.Records.{record_of}
 use Rattle.panel_tables.specs.declared.AreaEdges.{AreaEdges}
 use Rattle.panel_tables.specs.Areas.{area_at}
@@ -111,6 +111,7 @@ shared-in-few h (Extra a n p) = omega arith
 shared-in-few h (Item a i) = omega arith
 shared-in-few h (Place a s e) = omega arith
 shared-in-few h (PictureRow n) = omega arith
+shared-in-few h (Cell cs ce rs re) = omega arith
 
 pub shared-few : (h : PanelHeld) (fs : List (List ℕ)) → line_shared h fs ≤ 64
 unfolding line_shared

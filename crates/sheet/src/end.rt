@@ -23,7 +23,7 @@ use sheet_step::{Draft, first_refusal};
 // One axis, in its part of the words.
 fn end_in(axis: Axis, before: AxisAfter, words: &mut [u64; PANEL_WORDS]) -> Result<AxisState, Fault>
     ensures ended { record { answer = answered_end before.state result; words = words.new } ≡ ended_in axis before.state (axis_reading before.reading) words.old }
-    ensures length { length words.new ≡ 25600 }
+    ensures length { length words.new ≡ 26368 }
 {
     let first = first_word(axis);
     let end = first + AXIS_WORDS;

@@ -8,7 +8,7 @@ use borrow.Author.Tests.{eq-eqb}
 use Rattle.coordinates.specs.declared.axis.Axis.{Axis}
 use Rattle.coordinates.specs.declared.axis.Axis.TheVariants.{Column, Row}
 use Rattle.sheet_forms.specs.Said.{Record}
-use Rattle.sheet_forms.specs.Said.{Fault, Axis as AxisLine, Area, Name, Track, Repeat, End, Spare, Extra, Item, Place, PictureRow}
+use Rattle.sheet_forms.specs.Said.{Fault, Axis as AxisLine, Area, Name, Track, Repeat, End, Spare, Extra, Item, Place, PictureRow, Cell}
 use Rattle.sheet_forms.specs.Words.{at}
 use Rattle.sheet_forms.specs.Faults.{first_of}
 use Rattle.sheet_forms.specs.Records.{record_of, fault_of}
@@ -64,6 +64,7 @@ stage_same v (Extra a n p) = refl
 stage_same v (Item a i) = refl
 stage_same v (Place a s e) = refl
 stage_same v (PictureRow n) = refl
+stage_same v (Cell cs ce rs re) = refl
 
 -- late
 late-same : (v : PanelView) (r : Record) → late_in v.stage r ≡ late_fault v r
@@ -88,6 +89,7 @@ module _ (v : PanelView) (sheet : FitsSheet v) (fs : List (List ℕ)) where
   twice_same (Item a i) = refl
   twice_same (Place a s e) = refl
   twice_same (PictureRow n) = refl
+  twice_same (Cell cs ce rs re) = refl
 
   -- the faults before
   before_same : (r : Record) → fault_before (held_panel v) fs r ≡ first_of (fault_of r) (first_of (twice_fault v fs r) (late_fault v r))
@@ -159,6 +161,7 @@ shared_with_lem v f (Extra a n p) = refl
 shared_with_lem v f (Item a i) = refl
 shared_with_lem v f (Place a s e) = refl
 shared_with_lem v f (PictureRow n) = refl
+shared_with_lem v f (Cell cs ce rs re) = refl
 
 -- a line notes what it notes on the view
 pub line_shared_lem : (v : PanelView) → FitsSheet v → (fs : List (List ℕ)) → line_shared (held_panel v) fs ≡ shared_at v fs

@@ -2,10 +2,11 @@
 -- the sheet's reader drops what it holds then.
 use Rattle.std.specs.Prelude.{ℕ, List, cond, eqb}
 use Rattle.sheet_forms.specs.Said.{Record}
-use Rattle.sheet_forms.specs.Said.{Fault, Axis as AxisLine, Area, Name, Track, Repeat, End, Spare, Extra, Item, Place, PictureRow}
+use Rattle.sheet_forms.specs.Said.{Fault, Axis as AxisLine, Area, Name, Track, Repeat, End, Spare, Extra, Item, Place, PictureRow, Cell}
 use Rattle.sheet_forms.specs.Words.{at}
 use Rattle.sheet_forms.specs.Faults.{first_of}
 use Rattle.sheet_forms.specs.Records.{record_of, fault_of}
+use Rattle.panel_tables.specs.View.{next_line}
 use Rattle.panel_tables.specs.Areas.{has_area_in}
 use Rattle.panel_tables.specs.Axes.{reading_in}
 use Rattle.panel_tables.specs.Written.{PanelHeld, PanelStepped}
@@ -27,6 +28,7 @@ twice_in h fs (Extra a n p) = 0
 twice_in h fs (Item a i) = 0
 twice_in h fs (Place a s e) = 0
 twice_in h fs (PictureRow n) = 0
+twice_in h fs (Cell cs ce rs re) = 0
 
 -- the place of a record in the kind order; a line that is no record keeps the one reached
 abbrev pub stage_in : ℕ → Record → ℕ
@@ -42,6 +44,7 @@ stage_in stage (Extra a n p) = 3
 stage_in stage (Item a i) = 3
 stage_in stage (Place a s e) = 3
 stage_in stage (PictureRow n) = 2
+stage_in stage (Cell cs ce rs re) = 3
 
 -- late: a record earlier in kind than one before it
 abbrev pub late_in : ℕ → Record → ℕ
@@ -65,16 +68,18 @@ shared_in h (Extra a n p) = 0
 shared_in h (Item a i) = 0
 shared_in h (Place a s e) = 0
 shared_in h (PictureRow n) = 0
+shared_in h (Cell cs ce rs re) = 0
 
 -- that number where an overlap is the first fault: after those before it is written, and before that of writing it
 abbrev pub noted_by : ℕ → ℕ → ℕ → ℕ
 noted_by before shared written = cond (eqb (first_of before (first_of (cond (eqb shared 0) 0 12) written)) 12) shared 0
 
+-- one line more is read
 abbrev pub at_stage : ℕ → PanelHeld → PanelHeld
 at_stage n h =
     record {
       panel = h.panel;
-      reading = record { stage = n; picture = h.reading.picture; columns = h.reading.columns; rows = h.reading.rows };
+      reading = record { stage = n; lines = next_line h.reading.lines; picture = h.reading.picture; columns = h.reading.columns; rows = h.reading.rows };
       columns = h.columns;
       rows = h.rows;
       column_marks = h.column_marks;

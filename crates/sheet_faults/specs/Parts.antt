@@ -3,16 +3,17 @@ use Rattle.std.specs.Prelude.{ℕ, List, [], ◌∷◌, cond}
 use Rattle.coordinates.specs.declared.axis.Axis.{Axis}
 use Rattle.coordinates.specs.declared.axis.Axis.TheVariants.{Column, Row}
 use Rattle.sheet_forms.specs.Said.{Record}
-use Rattle.sheet_forms.specs.Said.{Fault, Axis as AxisLine, Area, Name, Track, Repeat, End, Spare, Extra, Item, Place, PictureRow}
+use Rattle.sheet_forms.specs.Said.{Fault, Axis as AxisLine, Area, Name, Track, Repeat, End, Spare, Extra, Item, Place, PictureRow, Cell}
 use Rattle.sheet_forms.specs.Said.{PlaceEnd}
 use Rattle.sheet_forms.specs.Faults.{first_of}
 use Rattle.sheet_forms.specs.Records.{fault_of}
 use Rattle.panel_tables.specs.declared.Panel.{Panel}
 use Rattle.panel_tables.specs.Readings.{Reading}
 use Rattle.panel_tables.specs.declared.AreaEdges.{AreaEdges}
+use Rattle.panel_tables.specs.View.{next_line}
 use Rattle.panel_tables.specs.Areas.{has_area_in, InAreas, put_area}
 use Rattle.panel_cells.specs.Steps.{first_sharing_in}
-use Rattle.panel_tables.specs.Placements.{put_placement}
+use Rattle.panel_tables.specs.Placements.{put_placement, put_cell}
 use Rattle.panel_tables.specs.Axes.{reading_in}
 use Rattle.panel_tables.specs.Written.{PanelHeld, PanelStepped, of_areas, of_placements}
 use Rattle.picture_rules.specs.Picture.{Word}
@@ -22,12 +23,14 @@ use Rattle.sheet_faults.specs.Lines.{late_in}
 
 -- ---- what a record is written to
 
--- the tables of an axis, the areas, the placements, or the picture, a row of which has so many words
+-- the tables of an axis, the areas, the placements (of a cell by the ends of its columns and of its rows), or the picture, a row of which has so
+-- many words
 pub data Part : Type 0 where
   Nothing Columns Rows : Part
   Areas : AreaEdges → Part
   Placements : Axis → PlaceEnd → PlaceEnd → Part
   Picture : ℕ → Part
+  Cells : PlaceEnd → PlaceEnd → PlaceEnd → PlaceEnd → Part
 
 -- an axis: its tables
 abbrev pub axis_part : Axis → Part
@@ -48,6 +51,7 @@ part_of (Extra a n p) = axis_part a
 part_of (Item a i) = axis_part a
 part_of (Place a s e) = Placements a s e
 part_of (PictureRow n) = Picture n
+part_of (Cell cs ce rs re) = Cells cs ce rs re
 
 -- the fields of a `name` record as far as its name
 abbrev pub named : List ℕ → List (List ℕ)
@@ -56,20 +60,33 @@ named name = [] ∷ [] ∷ name ∷ []
 -- a placement with its names
 abbrev pub place_in : Panel → List ℕ → List ℕ → Axis → PlaceEnd → List ℕ → PlaceEnd → List ℕ → InAreas
 place_in p words bytes a s first e second =
-    put_placement p words bytes a (placed_end first s).end (placed_end first s).name (placed_end second e).end (placed_end second e).name
+    put_placement p words bytes a (placed_end first s) (placed_end second e)
+
+-- the names of a record, as far as it has them
+pub record Names : Type 0 where
+  pub first : List ℕ
+  pub second : List ℕ
+  pub third : List ℕ
+  pub fourth : List ℕ
+
+-- a cell with its names, and its line
+abbrev pub cell_in : Panel → List ℕ → List ℕ → ℕ → PlaceEnd → PlaceEnd → PlaceEnd → PlaceEnd → Names → InAreas
+cell_in p words bytes line cs ce rs re n =
+    put_cell p words bytes line (placed_end n.first cs) (placed_end n.second ce) (placed_end n.third rs) (placed_end n.fourth re)
 
 -- the record written there, with its names and the words of a row
-abbrev pub part_step : PanelHeld → List ℕ → List ℕ → List Word → Record → Part → PanelStepped
-part_step h first second ws r Nothing = stayed h
-part_step h first second ws r Columns = on_held h Column (named first) r
-part_step h first second ws r Rows = on_held h Row (named first) r
-part_step h first second ws r (Areas e) = of_areas h (put_area h.panel h.areas h.area_bytes first e)
-part_step h first second ws r (Placements a s e) = of_placements h (place_in h.panel h.placements h.placement_bytes a s first e second)
-part_step h first second ws r (Picture n) = cond (late_at 2 h.reading.stage) (stayed h) (held_row h ws n)
+abbrev pub part_step : PanelHeld → Names → List Word → Record → Part → PanelStepped
+part_step h n ws r Nothing = stayed h
+part_step h n ws r Columns = on_held h Column (named n.first) r
+part_step h n ws r Rows = on_held h Row (named n.first) r
+part_step h n ws r (Areas e) = of_areas h (put_area h.panel h.areas h.area_bytes n.first e)
+part_step h n ws r (Placements a s e) = of_placements h (place_in h.panel h.placements h.placement_bytes a s n.first e n.second)
+part_step h n ws r (Picture width) = cond (late_at 2 h.reading.stage) (stayed h) (held_row h ws width)
+part_step h n ws r (Cells cs ce rs re) = of_placements h (cell_in h.panel h.placements h.placement_bytes (next_line h.reading.lines) cs ce rs re n)
 
 -- what a record does with them
-abbrev pub named_step : PanelHeld → List ℕ → List ℕ → List Word → Record → PanelStepped
-named_step h first second ws r = part_step h first second ws r (part_of r)
+abbrev pub named_step : PanelHeld → Names → List Word → Record → PanelStepped
+named_step h n ws r = part_step h n ws r (part_of r)
 
 -- ---- the faults before
 
@@ -95,6 +112,7 @@ twice_of areas reading words bytes name (Extra a n p) = 0
 twice_of areas reading words bytes name (Item a i) = 0
 twice_of areas reading words bytes name (Place a s e) = 0
 twice_of areas reading words bytes name (PictureRow n) = 0
+twice_of areas reading words bytes name (Cell cs ce rs re) = 0
 
 -- of the faults before, the one that comes first
 abbrev pub before_of : ℕ → Reading → List ℕ → List ℕ → List ℕ → Record → ℕ
@@ -116,3 +134,4 @@ shared_of areas words (Extra a n p) = 0
 shared_of areas words (Item a i) = 0
 shared_of areas words (Place a s e) = 0
 shared_of areas words (PictureRow n) = 0
+shared_of areas words (Cell cs ce rs re) = 0

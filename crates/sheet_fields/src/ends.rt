@@ -1,16 +1,22 @@
-// An end of a placement: three fields, kind, name and number.
+// An end of a placement, or of a cell: three fields, kind, name and number.
 ghost use Rattle.std.specs.Prelude.{◌≡◌, cond};
 ghost use Rattle.coordinates.specs.Refusals.{refused_by};
 ghost use Rattle.text.specs.Split.{same};
 ghost use Rattle.text.specs.Whole.{whole_of, index_in};
 ghost use Rattle.sheet_forms.specs.Answers.{end_kind_number, kind_said, integer_said, end_said, end_where_read};
 ghost use Rattle.sheet_forms.specs.Fields.{count_of};
-ghost use Rattle.sheet_forms.specs.Ends.{end_kind, end_name, index_field, span_field, end_number, end_of};
+ghost use Rattle.sheet_forms.specs.Ends.{end_kind, end_name, index_field, span_field, numbered_end, end_within, end_of, cell_end_of};
 
 use coordinates::Fault;
 use sheet_forms::field::count;
 use sheet_forms::{EndKind, PlaceEnd, both, check_name};
 use text::read_index;
+
+// The largest span of a placement, and of a name.
+const MOST_SPAN: u16 = u16::MAX;
+
+// The largest plain span of a cell.
+const MOST_CELL_SPAN: u16 = 32;
 
 // The kind of end that a field names, if any.
 #[tactic(auto, unfolding(sheet_forms::specs::Ends::end_kind, text::specs::Split::index, text::specs::Split::same))]
@@ -57,34 +63,54 @@ fn index(f: &[u8]) -> Result<i32, Fault>
     Ok(i32::from(read_index(f)?))
 }
 
-// A span.
+// A span from least to most.
 #[tactic(auto, using(sheet_forms::proofs::Codes::count_most))]
-fn span(f: &[u8]) -> Result<i32, Fault>
-    ensures { integer_said result ≡ span_field (count_of 0 65535 f.now) }
+fn span(f: &[u8], least: u16, most: u16) -> Result<i32, Fault>
+    ensures { integer_said result ≡ span_field (count_of least most f.now) }
 {
-    Ok(count(f, 0, u32::from(u16::MAX))? as i32)
+    Ok(count(f, u32::from(least), u32::from(most))? as i32)
 }
 
-// An end of that kind with its number: a line index of `line` and `named`, a span of `span` and `nspan`.
+// An end of that kind with its number: a line index of `line` and `named`, a span of `span` and `nspan`, the plain one from least to most.
 #[tactic(auto, unfolding(sheet_forms::specs::Ends::end_number))]
-fn end_number(kind: EndKind, f: &[u8]) -> Result<PlaceEnd, Fault>
-    ensures { end_said result ≡ end_where_read (record { fault = (end_number (end_kind_number kind) f.now).fault; end = record { kind = end_kind_number kind; number = (end_number (end_kind_number kind) f.now).value } }) }
+fn end_number(kind: EndKind, f: &[u8], least: u16, most: u16) -> Result<PlaceEnd, Fault>
+    ensures { end_said result ≡ end_where_read (numbered_end least most (end_kind_number kind) f.now) }
 {
     match kind {
         EndKind::Auto => unused(f, b"0").map(|()| PlaceEnd::Auto),
         EndKind::Line => index(f).map(PlaceEnd::Line),
         EndKind::Named => index(f).map(PlaceEnd::Named),
-        EndKind::Span => span(f).map(PlaceEnd::Span),
-        EndKind::NamedSpan => span(f).map(PlaceEnd::NamedSpan),
+        EndKind::Span => span(f, least, most).map(PlaceEnd::Span),
+        EndKind::NamedSpan => span(f, 0, MOST_SPAN).map(PlaceEnd::NamedSpan),
     }
 }
 
-// An end that three fields write.
-#[tactic(auto, unfolding(sheet_forms::specs::Ends::end_of, sheet_forms::specs::Faults::first_of), using(sheet_forms::proofs::Firsts::first_one, sheet_forms::proofs::Together::fault_number))]
+// An end that three fields write, its plain span from least to most.
+#[tactic(auto, unfolding(sheet_forms::specs::Ends::end_within, sheet_forms::specs::Faults::first_of), using(sheet_forms::proofs::Firsts::first_one, sheet_forms::proofs::Together::fault_number))]
+fn end_within(
+    f: &[u8],
+    name: &[u8],
+    number: &[u8],
+    least: u16,
+    most: u16,
+) -> Result<PlaceEnd, Fault>
+    ensures { end_said result ≡ end_where_read (end_within least most f.now name.now number.now) }
+{
+    let kind = kind(f).ok_or(Fault::Unread)?;
+    let ((), end) = both(end_name(kind, name), end_number(kind, number, least, most))?;
+    Ok(end)
+}
+
+// An end of a placement.
 pub fn end(f: &[u8], name: &[u8], number: &[u8]) -> Result<PlaceEnd, Fault>
     ensures { end_said result ≡ end_where_read (end_of f.now name.now number.now) }
 {
-    let kind = kind(f).ok_or(Fault::Unread)?;
-    let ((), end) = both(end_name(kind, name), end_number(kind, number))?;
-    Ok(end)
+    end_within(f, name, number, 0, MOST_SPAN)
+}
+
+// An end of a cell, which spans one track at least.
+pub fn cell_end(f: &[u8], name: &[u8], number: &[u8]) -> Result<PlaceEnd, Fault>
+    ensures { end_said result ≡ end_where_read (cell_end_of f.now name.now number.now) }
+{
+    end_within(f, name, number, 1, MOST_CELL_SPAN)
 }

@@ -1,4 +1,4 @@
-// The parts of a line that its fields make together: sizes, repetitions, and the ends of a placement.
+// The parts of a line that its fields make together: sizes, repetitions, and the ends of a placement or a cell.
 
 #![tactic(auto)]
 

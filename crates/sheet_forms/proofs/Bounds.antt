@@ -11,7 +11,7 @@ use lib.ListN.{length, drop}
 use borrow.Author.Tests.{eq-eqb, ne_eqb, eqb-false, leb-false, ltb-false}
 use Rattle.text.specs.Split.{index}
 use Rattle.sheet_forms.specs.Said.{Record}
-use Rattle.sheet_forms.specs.Said.{Fault, Axis, Area, Name, Track, Repeat, End, Spare, Extra, Item, Place, PictureRow}
+use Rattle.sheet_forms.specs.Said.{Fault, Axis, Area, Name, Track, Repeat, End, Spare, Extra, Item, Place, PictureRow, Cell}
 use Rattle.sheet_forms.specs.Said.{RepeatRecord}
 use Rattle.sheet_forms.specs.Answers.{AxisField}
 use Rattle.sheet_forms.specs.Answers.{Field}
@@ -23,9 +23,9 @@ use Rattle.sheet_forms.specs.Words.{at, rule_words}
 use Rattle.sheet_forms.specs.Faults.{first_of}
 use Rattle.sheet_forms.specs.Fields.{axis_of, rule_of, count_of, repetition_of, name_fault, row_fault}
 use Rattle.sheet_forms.specs.Sizes.{inner_of, size_of}
-use Rattle.sheet_forms.specs.Ends.{end_of}
-use Rattle.sheet_forms.specs.Records.{unless, made_axis, edges_of, made_area, made_name, made_sizes, made_repeat, made_end, made_extra, made_item, made_place, axis_line, area_line, name_line, sizes_line, repeat_line, end_line, extra_line, item_line, place_line, row_line}
-use Rattle.sheet_forms.specs.Forms.{InNameRange, Kind, axis, area, name, track, repeat, end, spare, extra, item, place, row}
+use Rattle.sheet_forms.specs.Ends.{end_of, cell_end_of}
+use Rattle.sheet_forms.specs.Records.{unless, made_axis, edges_of, made_area, made_name, made_sizes, made_repeat, made_end, made_extra, made_item, made_place, made_cell, axis_line, area_line, name_line, sizes_line, repeat_line, end_line, extra_line, item_line, place_line, row_line, cell_line}
+use Rattle.sheet_forms.specs.Forms.{InNameRange, Kind, axis, area, name, track, repeat, end, spare, extra, item, place, row, cell}
 use Rattle.sheet_forms.proofs.Codes.{count_most}
 use Rattle.sheet_forms.proofs.Firsts.{none_or_some, first_zero}
 use Rattle.sheet_forms.proofs.LineFaults.{line_of}
@@ -51,6 +51,7 @@ Bounded fs (Extra a n p) = (n ≤ 10000) × (p ≤ 10000)
 Bounded fs (Item a i) = i ≤ 29999
 Bounded fs (Place a s e) = EndBounded (at fs 3) s × EndBounded (at fs 6) e
 Bounded fs (PictureRow n) = RowBounded (drop 1 fs) n
+Bounded fs (Cell cs ce rs re) = (EndBounded (at fs 2) cs × EndBounded (at fs 5) ce) × (EndBounded (at fs 8) rs × EndBounded (at fs 11) re)
 
 unless_bounded : (fs : List (List ℕ)) (n : ℕ) (r : Record) → (n ≡ 0 → Bounded fs r) → Bounded fs (unless n r)
 unless_bounded fs n r h = ⊎_elim (λ e. rw (eq-eqb n 0 e) (h e)) (λ k. rw (ne_eqb n 0 k) k) (none_or_some n)
@@ -119,12 +120,29 @@ place_bounded fs a s e h k =
     unless_bounded fs (first_of a.fault (first_of s.fault e.fault)) (Place a.axis s.end e.end)
     (λ z. let y = first_zero s.fault e.fault (first_zero a.fault (first_of s.fault e.fault) z).1 in (h y.0, k y.1))
 
+cell_bounded : (fs : List (List ℕ)) (cs ce rs re : EndField) → (cs.fault ≡ 0 → EndBounded (at fs 2) cs.end) → (ce.fault ≡ 0 → EndBounded (at fs 5) ce.end)
+    → (rs.fault ≡ 0 → EndBounded (at fs 8) rs.end) → (re.fault ≡ 0 → EndBounded (at fs 11) re.end) → Bounded fs (made_cell cs ce rs re)
+cell_bounded fs cs ce rs re h k l m =
+    unless_bounded fs (first_of cs.fault (first_of ce.fault (first_of rs.fault re.fault))) (Cell cs.end ce.end rs.end re.end)
+    (λ z.
+    let z1 = first_zero cs.fault (first_of ce.fault (first_of rs.fault re.fault)) z in
+    let z2 = first_zero ce.fault (first_of rs.fault re.fault) z1.1 in
+    let z3 = first_zero rs.fault re.fault z2.1 in
+    ((h z1.0, k z2.0), (l z3.0, m z3.1)))
+
+-- an end of a placement, and of a cell
+place-end-bounded : (f n m : List ℕ) → (end_of f n m).fault ≡ 0 → EndBounded n (end_of f n m).end
+place-end-bounded = end_bounded 0 65535 (omega arith)
+
+cell-end-bounded : (f n m : List ℕ) → (cell_end_of f n m).fault ≡ 0 → EndBounded n (cell_end_of f n m).end
+cell-end-bounded = end_bounded 1 32 (omega arith)
+
 rule_most : (f : List ℕ) → (rule_of f).value ≤ 1
 unfolding rule_of
 rule_most f = word-most 1 (index f rule_words)
 
 pub line_bounded : (k : Kind) (fs : List (List ℕ)) → Bounded fs (line_of k fs)
-unfolding axis_line area_line name_line sizes_line repeat_line end_line extra_line item_line place_line row_line
+unfolding axis_line area_line name_line sizes_line repeat_line end_line extra_line item_line place_line row_line cell_line
 line_bounded axis fs =
     let a = axis_of (at fs 1) in
     let i = inner_of (at fs 2) in
@@ -172,7 +190,16 @@ line_bounded place fs =
     let s = end_of (at fs 2) (at fs 3) (at fs 4) in
     let e = end_of (at fs 5) (at fs 6) (at fs 7) in
     fields_bounded fs (eqb (length fs) 8) (made_place a s e)
-    (place_bounded fs a s e (end_bounded (at fs 2) (at fs 3) (at fs 4)) (end_bounded (at fs 5) (at fs 6) (at fs 7)))
+    (place_bounded fs a s e (place-end-bounded (at fs 2) (at fs 3) (at fs 4)) (place-end-bounded (at fs 5) (at fs 6) (at fs 7)))
+line_bounded cell fs =
+    let cs = cell_end_of (at fs 1) (at fs 2) (at fs 3) in
+    let ce = cell_end_of (at fs 4) (at fs 5) (at fs 6) in
+    let rs = cell_end_of (at fs 7) (at fs 8) (at fs 9) in
+    let re = cell_end_of (at fs 10) (at fs 11) (at fs 12) in
+    fields_bounded fs (eqb (length fs) 13) (made_cell cs ce rs re)
+    (cell_bounded fs cs ce rs re
+    (cell-end-bounded (at fs 1) (at fs 2) (at fs 3)) (cell-end-bounded (at fs 4) (at fs 5) (at fs 6))
+    (cell-end-bounded (at fs 7) (at fs 8) (at fs 9)) (cell-end-bounded (at fs 10) (at fs 11) (at fs 12)))
 line_bounded row fs = go (ltb (length fs) 2) refl
   where
     go : (t : Bool) → ltb (length fs) 2 ≡ t → Bounded fs (cond t (Fault 1) (unless (row_fault (drop 1 fs)) (PictureRow (length (drop 1 fs)))))

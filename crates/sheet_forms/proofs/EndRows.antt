@@ -1,4 +1,4 @@
--- The fault of an end of a placement is the number of its row that comes first: its name and its number, by its kind. Assumes nothing.
+-- The fault of an end of a placement, or of a cell, is the number of its row that comes first: its name and its number, by its kind. Assumes nothing.
 use Prim.Native.Nat.{ℕ, zero, suc, ◌≤◌, ◌<◌}
 use mathlib.Core.Path.{◌≡◌, refl, sym, ap, ◌∙◌, subst}
 use mathlib.Core.List.{List, []}
@@ -6,6 +6,7 @@ use mathlib.Core.Bool.{Bool, true, false, cond}
 use mathlib.Core.Logic.{◌⊎◌, inl, inr, ⊎_elim}
 use native.Mathlib.Omega.{arith}
 use lib.Dec.{lit<}
+use lib.IntN.{pos}
 use lib.ListN.{get_or}
 use borrow.Author.Tests.{ne_eqb}
 use Rattle.text.specs.Split.{same, index}
@@ -13,8 +14,8 @@ use Rattle.text.proofs.Which.{same_equal, unequal, index_word}
 use Rattle.sheet_forms.specs.Words.{at, dash, nought, end_words}
 use Rattle.sheet_forms.specs.Faults.{first_of}
 use Rattle.sheet_forms.specs.Fields.{word_of, name_fault}
-use Rattle.sheet_forms.specs.Ends.{end_kind, unused_name, uses_name, end_name, end_number, faulty_number, end_of}
-use Rattle.sheet_forms.specs.Forms.{an_end, InNameRange, Whole, OutsideIndexes, OutsideCounts, is_named, is_nspan, EndForm, auto, line, named, span, nspan}
+use Rattle.sheet_forms.specs.Ends.{end_kind, unused_name, uses_name, end_name, end_number, faulty_number, end_within}
+use Rattle.sheet_forms.specs.Forms.{an_end, InNameRange, Whole, OutsideIndexes, OutsideCounts, OutsideRange, is_named, is_nspan, EndForm, auto, line, named, span, nspan}
 use Rattle.sheet_forms.specs.Rows.{Row, unread, bad_name, bad_value, bad_count, bad_area, First, CountOutside}
 use Rattle.sheet_forms.proofs.Firsts.{first_left, first_one, firsts, first-same, at_none, at-unread, at_name}
 use Rattle.sheet_forms.proofs.FieldRows.{below_or, word_good, word_value, word_bad, name_range, never, counted_rows, count-counted, index-counted}
@@ -55,31 +56,39 @@ abbrev NumberForm : ℕ → List ℕ → Type 0
 NumberForm zero f = f ≡ nought
 NumberForm (suc j) f = Whole f
 
-abbrev NumberRow : ℕ → List ℕ → Type 0
-NumberRow zero f = ⊥
-NumberRow (suc zero) f = OutsideIndexes f
-NumberRow (suc (suc zero)) f = OutsideIndexes f
-NumberRow (suc (suc (suc j))) f = OutsideCounts f
+abbrev NumberRow : ℕ → ℕ → ℕ → List ℕ → Type 0
+NumberRow least most zero f = ⊥
+NumberRow least most (suc zero) f = OutsideIndexes f
+NumberRow least most (suc (suc zero)) f = OutsideIndexes f
+NumberRow least most (suc (suc (suc zero))) f = OutsideRange (pos least) (pos most) f
+NumberRow least most (suc (suc (suc (suc j)))) f = OutsideCounts f
 
-abbrev NumberHolds : ℕ → List ℕ → Row → Type 0
-NumberHolds j f unread = NumberForm j f → ⊥
-NumberHolds j f bad_name = ⊥
-NumberHolds j f bad_value = ⊥
-NumberHolds j f bad_count = NumberRow j f
-NumberHolds j f bad_area = ⊥
+abbrev NumberHolds : ℕ → ℕ → ℕ → List ℕ → Row → Type 0
+NumberHolds least most j f unread = NumberForm j f → ⊥
+NumberHolds least most j f bad_name = ⊥
+NumberHolds least most j f bad_value = ⊥
+NumberHolds least most j f bad_count = NumberRow least most j f
+NumberHolds least most j f bad_area = ⊥
 
-end_number_first : (j : ℕ) (f : List ℕ) → First (NumberHolds j f) (end_number j f).fault
-unfolding end_number
-end_number_first zero f = go (same f nought) refl
-  where
-    go : (t : Bool) → same f nought ≡ t → First (NumberHolds zero f) (cond t (faulty_number 0) (faulty_number 1)).fault
-    go true e = at_none refl (λ u. u (same_equal f nought e)) never never never never
-    go false e = at-unread refl (unequal f nought e)
-end_number_first (suc zero) f = counted_rows (λ x. x) (λ x. x) (λ x. x) (λ x. x) never never never (index-counted f)
-end_number_first (suc (suc zero)) f = counted_rows (λ x. x) (λ x. x) (λ x. x) (λ x. x) never never never (index-counted f)
-end_number_first (suc (suc (suc j))) f =
-    rw (ne_eqb (suc (suc (suc j))) 0 (λ e. omega arith), ne_eqb (suc (suc (suc j))) 1 (λ e. omega arith), ne_eqb (suc (suc (suc j))) 2 (λ e. omega arith))
-    (counted_rows (λ x. x) (λ x. x) (λ x. x) (λ x. x) never never never (count-counted 0 65535 f))
+module _ (least most : ℕ) where
+  end_number_first : (j : ℕ) (f : List ℕ) → First (NumberHolds least most j f) (end_number least most j f).fault
+  unfolding end_number
+  end_number_first zero f = go (same f nought) refl
+    where
+      go : (t : Bool) → same f nought ≡ t → First (NumberHolds least most zero f) (cond t (faulty_number 0) (faulty_number 1)).fault
+      go true e = at_none refl (λ u. u (same_equal f nought e)) never never never never
+      go false e = at-unread refl (unequal f nought e)
+  end_number_first (suc zero) f = counted_rows (λ x. x) (λ x. x) (λ x. x) (λ x. x) never never never (index-counted f)
+  end_number_first (suc (suc zero)) f = counted_rows (λ x. x) (λ x. x) (λ x. x) (λ x. x) never never never (index-counted f)
+  end_number_first (suc (suc (suc zero))) f = counted_rows (λ x. x) (λ x. x) (λ x. x) (λ x. x) never never never (count-counted least most f)
+  end_number_first (suc (suc (suc (suc j)))) f =
+      rw (
+        ne_eqb (suc (suc (suc (suc j)))) 0 (λ e. omega arith),
+        ne_eqb (suc (suc (suc (suc j)))) 1 (λ e. omega arith),
+        ne_eqb (suc (suc (suc (suc j)))) 2 (λ e. omega arith),
+        ne_eqb (suc (suc (suc (suc j)))) 3 (λ e. omega arith),
+      )
+      (counted_rows (λ x. x) (λ x. x) (λ x. x) (λ x. x) never never never (count-counted 0 65535 f))
 
 -- ---- the kind
 
@@ -118,11 +127,11 @@ module _ (fs : List (List ℕ)) (k j : ℕ) (h : j < 5) (e : at fs k ≡ get_or 
   name-row {n} (inl q, r) = subst (λ (i : ℕ). NameRow (uses_name i) n) (is 2 (lit< tt) q) r
   name-row {n} (inr q, r) = subst (λ (i : ℕ). NameRow (uses_name i) n) (is 4 (lit< tt) q) r
 
-  number-row : CountOutside fs (an_end k) → NumberRow j (at fs (suc (suc k)))
-  number-row (inl (inl q, r)) = subst (λ (i : ℕ). NumberRow i (at fs (suc (suc k)))) (is 1 (lit< tt) q) r
-  number-row (inl (inr q, r)) = subst (λ (i : ℕ). NumberRow i (at fs (suc (suc k)))) (is 2 (lit< tt) q) r
-  number-row (inr (inl q, r)) = subst (λ (i : ℕ). NumberRow i (at fs (suc (suc k)))) (is 3 (lit< tt) q) r
-  number-row (inr (inr q, r)) = subst (λ (i : ℕ). NumberRow i (at fs (suc (suc k)))) (is 4 (lit< tt) q) r
+  number-row : (least most : ℕ) → CountOutside fs (an_end least most k) → NumberRow least most j (at fs (suc (suc k)))
+  number-row least most (inl (inl q, r)) = subst (λ (i : ℕ). NumberRow least most i (at fs (suc (suc k)))) (is 1 (lit< tt) q) r
+  number-row least most (inl (inr q, r)) = subst (λ (i : ℕ). NumberRow least most i (at fs (suc (suc k)))) (is 2 (lit< tt) q) r
+  number-row least most (inr (inl (q, r))) = subst (λ (i : ℕ). NumberRow least most i (at fs (suc (suc k)))) (is 3 (lit< tt) q) r
+  number-row least most (inr (inr (q, r))) = subst (λ (i : ℕ). NumberRow least most i (at fs (suc (suc k)))) (is 4 (lit< tt) q) r
 
 -- the same the other way, kind by kind
 form_made : (j : ℕ) (f n m : List ℕ) → j < 5 → f ≡ get_or end_words j [] → NameForm (uses_name j) n → NumberForm j m → EndForm f n m
@@ -141,21 +150,22 @@ name_made (suc (suc (suc zero))) f n h e r = absurd r
 name_made (suc (suc (suc (suc zero)))) f n h e r = (inr e, r)
 name_made (suc (suc (suc (suc (suc j))))) f n h e r = absurd (omega arith)
 
-number_made : (fs : List (List ℕ)) (k j : ℕ) → j < 5 → at fs k ≡ get_or end_words j [] → NumberRow j (at fs (suc (suc k))) → CountOutside fs (an_end k)
-number_made fs k zero h e r = absurd r
-number_made fs k (suc zero) h e r = inl (inl e, r)
-number_made fs k (suc (suc zero)) h e r = inl (inr e, r)
-number_made fs k (suc (suc (suc zero))) h e r = inr (inl e, r)
-number_made fs k (suc (suc (suc (suc zero)))) h e r = inr (inr e, r)
-number_made fs k (suc (suc (suc (suc (suc j))))) h e r = absurd (omega arith)
+module _ (least most : ℕ) (fs : List (List ℕ)) (k : ℕ) where
+  number_made : (j : ℕ) → j < 5 → at fs k ≡ get_or end_words j [] → NumberRow least most j (at fs (suc (suc k))) → CountOutside fs (an_end least most k)
+  number_made zero h e r = absurd r
+  number_made (suc zero) h e r = inl (inl e, r)
+  number_made (suc (suc zero)) h e r = inl (inr e, r)
+  number_made (suc (suc (suc zero))) h e r = inr (inl (e, r))
+  number_made (suc (suc (suc (suc zero)))) h e r = inr (inr (e, r))
+  number_made (suc (suc (suc (suc (suc j))))) h e r = absurd (omega arith)
 
 -- ---- an end
 
-abbrev EndHolds : List (List ℕ) → ℕ → ℕ → Row → Type 0
-EndHolds fs k j r = NameHolds (uses_name j) (at fs (suc k)) r ⊎ NumberHolds j (at fs (suc (suc k))) r
+module _ (least most : ℕ) (fs : List (List ℕ)) (k j : ℕ) (h : j < 5) (e : at fs k ≡ get_or end_words j []) where
+  abbrev EndHolds : Row → Type 0
+  EndHolds r = NameHolds (uses_name j) (at fs (suc k)) r ⊎ NumberHolds least most j (at fs (suc (suc k))) r
 
-module _ (fs : List (List ℕ)) (k j : ℕ) (h : j < 5) (e : at fs k ≡ get_or end_words j []) where
-  holds : (r : Row) → EndHolds fs k j r → PartHolds fs (an_end k) r
+  holds : (r : Row) → EndHolds r → PartHolds fs (an_end least most k) r
   holds unread (inl u) = λ f. u (form-name fs k j h e f)
   holds unread (inr u) = λ f. u (form-number fs k j h e f)
   holds bad_name (inl r) = name_made j (at fs k) (at fs (suc k)) h e r
@@ -163,20 +173,20 @@ module _ (fs : List (List ℕ)) (k j : ℕ) (h : j < 5) (e : at fs k ≡ get_or 
   holds bad_value (inl r) = r
   holds bad_value (inr r) = r
   holds bad_count (inl r) = absurd r
-  holds bad_count (inr r) = number_made fs k j h e r
+  holds bad_count (inr r) = number_made least most fs k j h e r
   holds bad_area (inl r) = r
   holds bad_area (inr r) = r
 
-  holds_not : (r : Row) → (EndHolds fs k j r → ⊥) → PartHolds fs (an_end k) r → ⊥
+  holds_not : (r : Row) → (EndHolds r → ⊥) → PartHolds fs (an_end least most k) r → ⊥
   holds_not unread n u = n (inl (λ d. n (inr (λ w. u (form_made j (at fs k) (at fs (suc k)) (at fs (suc (suc k))) h e d w)))))
   holds_not bad_name n r = n (inl (name-row fs k j h e r))
   holds_not bad_value n r = r
-  holds_not bad_count n r = n (inr (number-row fs k j h e r))
+  holds_not bad_count n r = n (inr (number-row fs k j h e least most r))
   holds_not bad_area n r = r
 
-  end_known : First (PartHolds fs (an_end k)) (first_of (end_name j (at fs (suc k))) (end_number j (at fs (suc (suc k)))).fault)
+  end_known : First (PartHolds fs (an_end least most k)) (first_of (end_name j (at fs (suc k))) (end_number least most j (at fs (suc (suc k)))).fault)
   unfolding end_name
-  end_known = first-same holds holds_not (firsts (end_name_first (uses_name j) (at fs (suc k))) (end_number_first j (at fs (suc (suc k)))))
+  end_known = first-same holds holds_not (firsts (end_name_first (uses_name j) (at fs (suc k))) (end_number_first least most j (at fs (suc (suc k)))))
 
 no_form : (f n m : List ℕ) → 5 ≤ index f end_words → EndForm f n m → ⊥
 no_form f n m h (auto q d z) = omega (arith, end-index f 0 (lit< tt) q)
@@ -185,19 +195,20 @@ no_form f n m h (named q w) = omega (arith, end-index f 2 (lit< tt) q)
 no_form f n m h (span q d w) = omega (arith, end-index f 3 (lit< tt) q)
 no_form f n m h (nspan q w) = omega (arith, end-index f 4 (lit< tt) q)
 
--- an end's fault where its kind's word is the j-th
-known_fault : (f n m : List ℕ) (j : ℕ) → j < 5 → index f end_words ≡ j → (end_of f n m).fault ≡ first_of (end_name j n) (end_number j m).fault
-unfolding end_of end_kind
-known_fault f n m j h e = rw (e, word_value 5 j h) (first_left (word_of 5 j).fault (first_of (end_name j n) (end_number j m).fault) (word_good 5 j h))
+module _ (least most : ℕ) where
+  -- an end's fault where its kind's word is the j-th
+  known_fault : (f n m : List ℕ) (j : ℕ) → j < 5 → index f end_words ≡ j → (end_within least most f n m).fault ≡ first_of (end_name j n) (end_number least most j m).fault
+  unfolding end_within end_kind
+  known_fault f n m j h e = rw (e, word_value 5 j h) (first_left (word_of 5 j).fault (first_of (end_name j n) (end_number least most j m).fault) (word_good 5 j h))
 
-unknown_fault : (f n m : List ℕ) → 5 ≤ index f end_words → (end_of f n m).fault ≡ 1
-unfolding end_of end_kind
-unknown_fault f n m h = first_one (word_of 5 (index f end_words)).fault _ (word_bad 5 (index f end_words) h)
+  unknown_fault : (f n m : List ℕ) → 5 ≤ index f end_words → (end_within least most f n m).fault ≡ 1
+  unfolding end_within end_kind
+  unknown_fault f n m h = first_one (word_of 5 (index f end_words)).fault _ (word_bad 5 (index f end_words) h)
 
-pub end_first : (fs : List (List ℕ)) (k : ℕ) → First (PartHolds fs (an_end k)) (end_of (at fs k) (at fs (suc k)) (at fs (suc (suc k)))).fault
-end_first fs k =
-    ⊎_elim
-    (λ h. subst (First (PartHolds fs (an_end k))) (sym (known_fault (at fs k) (at fs (suc k)) (at fs (suc (suc k))) (index (at fs k) end_words) h refl))
-    (end_known fs k (index (at fs k) end_words) h (index_word (at fs k) end_words h)))
-    (λ h. at-unread (unknown_fault (at fs k) (at fs (suc k)) (at fs (suc (suc k))) h) (no_form (at fs k) (at fs (suc k)) (at fs (suc (suc k))) h))
-    (below_or (index (at fs k) end_words) 5)
+  pub end_first : (fs : List (List ℕ)) (k : ℕ) → First (PartHolds fs (an_end least most k)) (end_within least most (at fs k) (at fs (suc k)) (at fs (suc (suc k)))).fault
+  end_first fs k =
+      ⊎_elim
+      (λ h. subst (First (PartHolds fs (an_end least most k))) (sym (known_fault (at fs k) (at fs (suc k)) (at fs (suc (suc k))) (index (at fs k) end_words) h refl))
+      (end_known least most fs k (index (at fs k) end_words) h (index_word (at fs k) end_words h)))
+      (λ h. at-unread (unknown_fault (at fs k) (at fs (suc k)) (at fs (suc (suc k))) h) (no_form (at fs k) (at fs (suc k)) (at fs (suc (suc k))) h))
+      (below_or (index (at fs k) end_words) 5)

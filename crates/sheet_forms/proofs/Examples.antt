@@ -12,8 +12,8 @@ use Rattle.picture_rules.specs.Picture.{all_dots, is_dots}
 use Rattle.sheet_forms.specs.Faults.{rank_of, first_of}
 use Rattle.sheet_forms.specs.Fields.{axis_of, rule_of, count_of, repetition_of, codes, name_fault, word_fault, words_fault, row_fault}
 use Rattle.sheet_forms.specs.Sizes.{kind_of, size_of, inner_of}
-use Rattle.sheet_forms.specs.Ends.{end_kind, end_name, end_number, end_of}
-use Rattle.sheet_forms.specs.Records.{axis_line, area_line, name_line, sizes_line, repeat_line, end_line, extra_line, item_line, place_line, row_line, fixed_kind, by_kind, record_of, fault_of}
+use Rattle.sheet_forms.specs.Ends.{end_kind, end_name, end_number, end_within}
+use Rattle.sheet_forms.specs.Records.{axis_line, area_line, name_line, sizes_line, repeat_line, end_line, extra_line, item_line, place_line, row_line, cell_line, fixed_kind, by_kind, record_of, fault_of}
 
 pub record Case : Type 0 where
   pub line : List ℕ
@@ -89,6 +89,16 @@ cases =
     ∷ is (114 ∷ 111 ∷ 119 ∷ 9 ∷ 97 ∷ 9 ∷ 9 ∷ 98 ∷ []) 2  -- row a, an empty word, b
     ∷ is (114 ∷ 111 ∷ 119 ∷ 9 ∷ 46 ∷ 46 ∷ 46 ∷ 46 ∷ 46 ∷ 46 ∷ 46 ∷ 46 ∷ 46 ∷ 46 ∷ 46 ∷ 46 ∷ 46 ∷ 46 ∷ 46 ∷ 46 ∷ 46 ∷ 46 ∷ 46 ∷ 46 ∷ 46 ∷ 46 ∷ 46 ∷ 46 ∷ 46 ∷ 46 ∷ 46 ∷ 46 ∷ 46 ∷ 46 ∷ 46 ∷ 46 ∷ 46 ∷ []) 0  -- row and 33 dots
     ∷ is (114 ∷ 111 ∷ 119 ∷ 9 ∷ 97 ∷ 97 ∷ 97 ∷ 97 ∷ 97 ∷ 97 ∷ 97 ∷ 97 ∷ 97 ∷ 97 ∷ 97 ∷ 97 ∷ 97 ∷ 97 ∷ 97 ∷ 97 ∷ 97 ∷ 97 ∷ 97 ∷ 97 ∷ 97 ∷ 97 ∷ 97 ∷ 97 ∷ 97 ∷ 97 ∷ 97 ∷ 97 ∷ 97 ∷ 97 ∷ 97 ∷ 97 ∷ 97 ∷ []) 2  -- row and a name of 33 bytes
+    ∷ is (99 ∷ 101 ∷ 108 ∷ 108 ∷ 9 ∷ 97 ∷ 117 ∷ 116 ∷ 111 ∷ 9 ∷ 45 ∷ 9 ∷ 48 ∷ 9 ∷ 97 ∷ 117 ∷ 116 ∷ 111 ∷ 9 ∷ 45 ∷ 9 ∷ 48 ∷ 9 ∷ 97 ∷ 117 ∷ 116 ∷ 111 ∷ 9 ∷ 45 ∷ 9 ∷ 48 ∷ 9 ∷ 97 ∷ 117 ∷ 116 ∷ 111 ∷ 9 ∷ 45 ∷ 9 ∷ 48 ∷ []) 0  -- cell auto - 0 auto - 0 auto - 0 auto - 0
+    ∷ is (99 ∷ 101 ∷ 108 ∷ 108 ∷ 9 ∷ 115 ∷ 112 ∷ 97 ∷ 110 ∷ 9 ∷ 45 ∷ 9 ∷ 49 ∷ 9 ∷ 97 ∷ 117 ∷ 116 ∷ 111 ∷ 9 ∷ 45 ∷ 9 ∷ 48 ∷ 9 ∷ 97 ∷ 117 ∷ 116 ∷ 111 ∷ 9 ∷ 45 ∷ 9 ∷ 48 ∷ 9 ∷ 115 ∷ 112 ∷ 97 ∷ 110 ∷ 9 ∷ 45 ∷ 9 ∷ 51 ∷ 50 ∷ []) 0  -- cell span - 1 auto - 0 auto - 0 span - 32
+    ∷ is (99 ∷ 101 ∷ 108 ∷ 108 ∷ 9 ∷ 115 ∷ 112 ∷ 97 ∷ 110 ∷ 9 ∷ 45 ∷ 9 ∷ 48 ∷ 9 ∷ 97 ∷ 117 ∷ 116 ∷ 111 ∷ 9 ∷ 45 ∷ 9 ∷ 48 ∷ 9 ∷ 97 ∷ 117 ∷ 116 ∷ 111 ∷ 9 ∷ 45 ∷ 9 ∷ 48 ∷ 9 ∷ 97 ∷ 117 ∷ 116 ∷ 111 ∷ 9 ∷ 45 ∷ 9 ∷ 48 ∷ []) 4  -- cell span - 0 auto - 0 auto - 0 auto - 0
+    ∷ is (99 ∷ 101 ∷ 108 ∷ 108 ∷ 9 ∷ 97 ∷ 117 ∷ 116 ∷ 111 ∷ 9 ∷ 45 ∷ 9 ∷ 48 ∷ 9 ∷ 115 ∷ 112 ∷ 97 ∷ 110 ∷ 9 ∷ 45 ∷ 9 ∷ 51 ∷ 51 ∷ 9 ∷ 97 ∷ 117 ∷ 116 ∷ 111 ∷ 9 ∷ 45 ∷ 9 ∷ 48 ∷ 9 ∷ 97 ∷ 117 ∷ 116 ∷ 111 ∷ 9 ∷ 45 ∷ 9 ∷ 48 ∷ []) 4  -- cell auto - 0 span - 33 auto - 0 auto - 0
+    ∷ is (99 ∷ 101 ∷ 108 ∷ 108 ∷ 9 ∷ 97 ∷ 117 ∷ 116 ∷ 111 ∷ 9 ∷ 45 ∷ 9 ∷ 48 ∷ 9 ∷ 97 ∷ 117 ∷ 116 ∷ 111 ∷ 9 ∷ 45 ∷ 9 ∷ 48 ∷ 9 ∷ 115 ∷ 112 ∷ 97 ∷ 110 ∷ 9 ∷ 45 ∷ 9 ∷ 48 ∷ 9 ∷ 97 ∷ 117 ∷ 116 ∷ 111 ∷ 9 ∷ 45 ∷ 9 ∷ 48 ∷ []) 4  -- cell auto - 0 auto - 0 span - 0 auto - 0
+    ∷ is (99 ∷ 101 ∷ 108 ∷ 108 ∷ 9 ∷ 97 ∷ 117 ∷ 116 ∷ 111 ∷ 9 ∷ 45 ∷ 9 ∷ 48 ∷ 9 ∷ 97 ∷ 117 ∷ 116 ∷ 111 ∷ 9 ∷ 45 ∷ 9 ∷ 48 ∷ 9 ∷ 97 ∷ 117 ∷ 116 ∷ 111 ∷ 9 ∷ 45 ∷ 9 ∷ 48 ∷ 9 ∷ 115 ∷ 112 ∷ 97 ∷ 110 ∷ 9 ∷ 45 ∷ 9 ∷ 51 ∷ 51 ∷ []) 4  -- cell auto - 0 auto - 0 auto - 0 span - 33
+    ∷ is (99 ∷ 101 ∷ 108 ∷ 108 ∷ 9 ∷ 110 ∷ 115 ∷ 112 ∷ 97 ∷ 110 ∷ 9 ∷ 120 ∷ 9 ∷ 54 ∷ 53 ∷ 53 ∷ 51 ∷ 53 ∷ 9 ∷ 97 ∷ 117 ∷ 116 ∷ 111 ∷ 9 ∷ 45 ∷ 9 ∷ 48 ∷ 9 ∷ 110 ∷ 115 ∷ 112 ∷ 97 ∷ 110 ∷ 9 ∷ 120 ∷ 9 ∷ 48 ∷ 9 ∷ 97 ∷ 117 ∷ 116 ∷ 111 ∷ 9 ∷ 45 ∷ 9 ∷ 48 ∷ []) 0  -- cell nspan x 65535 auto - 0 nspan x 0 auto - 0
+    ∷ is (99 ∷ 101 ∷ 108 ∷ 108 ∷ 9 ∷ 108 ∷ 105 ∷ 110 ∷ 101 ∷ 9 ∷ 45 ∷ 9 ∷ 45 ∷ 51 ∷ 50 ∷ 55 ∷ 54 ∷ 56 ∷ 9 ∷ 97 ∷ 117 ∷ 116 ∷ 111 ∷ 9 ∷ 45 ∷ 9 ∷ 48 ∷ 9 ∷ 110 ∷ 97 ∷ 109 ∷ 101 ∷ 100 ∷ 9 ∷ 120 ∷ 9 ∷ 51 ∷ 50 ∷ 55 ∷ 54 ∷ 55 ∷ 9 ∷ 97 ∷ 117 ∷ 116 ∷ 111 ∷ 9 ∷ 45 ∷ 9 ∷ 48 ∷ []) 0  -- cell line - -32768 auto - 0 named x 32767 auto - 0
+    ∷ is (99 ∷ 101 ∷ 108 ∷ 108 ∷ 9 ∷ 97 ∷ 117 ∷ 116 ∷ 111 ∷ 9 ∷ 45 ∷ 9 ∷ 48 ∷ 9 ∷ 97 ∷ 117 ∷ 116 ∷ 111 ∷ 9 ∷ 45 ∷ 9 ∷ 48 ∷ 9 ∷ 97 ∷ 117 ∷ 116 ∷ 111 ∷ 9 ∷ 45 ∷ 9 ∷ 48 ∷ 9 ∷ 115 ∷ 112 ∷ 97 ∷ 110 ∷ 9 ∷ 120 ∷ 9 ∷ 51 ∷ 51 ∷ []) 1  -- cell auto - 0 auto - 0 auto - 0 span x 33
+    ∷ is (99 ∷ 101 ∷ 108 ∷ 108 ∷ 9 ∷ 97 ∷ 117 ∷ 116 ∷ 111 ∷ 9 ∷ 45 ∷ 9 ∷ 48 ∷ 9 ∷ 97 ∷ 117 ∷ 116 ∷ 111 ∷ 9 ∷ 45 ∷ 9 ∷ 48 ∷ 9 ∷ 97 ∷ 117 ∷ 116 ∷ 111 ∷ 9 ∷ 45 ∷ 9 ∷ 48 ∷ []) 1  -- cell auto - 0 auto - 0 auto - 0
     ∷ is [] 1  -- (empty)
     ∷ is (103 ∷ 114 ∷ 105 ∷ 100 ∷ 9 ∷ 99 ∷ []) 1  -- grid c
     ∷ []
@@ -97,5 +107,5 @@ pub worked : T (all cases)
 unfolding all right cases is
     split onto same index digits_of natural_of non_negative negative whole_of count_in index_in bits_from bits_of
     up_to minimum_kind largest_of value_in_range length_in_range rank_of first_of axis_of rule_of count_of repetition_of codes name_fault
-    kind_of size_of inner_of end_kind end_name end_number end_of axis_line area_line name_line sizes_line repeat_line end_line extra_line item_line place_line row_line fixed_kind by_kind record_of all_dots is_dots word_fault words_fault row_fault of_bits
+    kind_of size_of inner_of end_kind end_name end_number end_within axis_line area_line name_line sizes_line repeat_line end_line extra_line item_line place_line row_line cell_line fixed_kind by_kind record_of all_dots is_dots word_fault words_fault row_fault of_bits
 worked = tt

@@ -18,13 +18,13 @@ use Rattle.sheet_forms.specs.Said.{PlaceEnd}
 use Rattle.sheet_forms.specs.Words.{nought, end_words, repeat_words}
 use Rattle.sheet_forms.specs.Faults.{first_of}
 use Rattle.sheet_forms.specs.Fields.{good, faulty, word_of, count_field, count_of, repetition_at, repetition_of, name_fault}
-use Rattle.sheet_forms.specs.Ends.{end_kind, uses_name, end_name, index_field, faulty_number, end_number, end_of}
+use Rattle.sheet_forms.specs.Ends.{end_kind, uses_name, end_name, index_field, faulty_number, end_number, end_within}
 use Rattle.sheet_forms.specs.Forms.{InNameRange}
 use Rattle.sheet_forms.proofs.Codes.{count_most}
 use Rattle.sheet_forms.proofs.Firsts.{first_zero}
 use Rattle.sheet_forms.proofs.FieldRows.{name_range, Counted, unspelt, outside, inside, count-counted}
 
--- an end of a placement, with the field of its name
+-- an end of a placement, or of a cell, with the field of its name
 pub record EndBounded (f : List ℕ) (e : PlaceEnd) : Type 0 where
   pub kinds : e.kind ≤ 4
   pub named : uses_name e.kind ≡ true → InNameRange f
@@ -108,28 +108,37 @@ index-between f = go (whole_of f)
     go (whole (pos n)) = above n (ltb 32767 n) refl
     go (whole (negsuc k)) = below k (ltb 32767 k) refl
 
-number_between : (j : ℕ) (f : List ℕ) → Between (end_number j f).value
+counted-between : (least most : ℕ) → most ≤ 65535 → (f : List ℕ) → Between (pos (count_of least most f).value)
+counted-between least most few f = small _ (omega (arith, few, count_most least most f))
+
+number_between : (least most : ℕ) → most ≤ 65535 → (j : ℕ) (f : List ℕ) → Between (end_number least most j f).value
 unfolding end_number
-number_between zero f = go (same f nought)
+number_between least most few zero f = go (same f nought)
   where
     go : (t : Bool) → Between (cond t (faulty_number 0) (faulty_number 1)).value
     go true = small 0 zero-le
     go false = small 0 zero-le
-number_between (suc zero) f = index-between f
-number_between (suc (suc zero)) f = index-between f
-number_between (suc (suc (suc j))) f =
-    rw (ne_eqb (suc (suc (suc j))) 0 (λ e. omega arith), ne_eqb (suc (suc (suc j))) 1 (λ e. omega arith), ne_eqb (suc (suc (suc j))) 2 (λ e. omega arith))
-    (small (count_of 0 65535 f).value (count_most 0 65535 f))
+number_between least most few (suc zero) f = index-between f
+number_between least most few (suc (suc zero)) f = index-between f
+number_between least most few (suc (suc (suc zero))) f = counted-between least most few f
+number_between least most few (suc (suc (suc (suc j)))) f =
+    rw (
+      ne_eqb (suc (suc (suc (suc j)))) 0 (λ e. omega arith),
+      ne_eqb (suc (suc (suc (suc j)))) 1 (λ e. omega arith),
+      ne_eqb (suc (suc (suc (suc j)))) 2 (λ e. omega arith),
+      ne_eqb (suc (suc (suc (suc j)))) 3 (λ e. omega arith),
+    )
+    (counted-between 0 65535 (omega arith) f)
 
 name_used : (j : ℕ) (f : List ℕ) → end_name j f ≡ 0 → uses_name j ≡ true → InNameRange f
 unfolding end_name
 name_used j f z u = name-good f (rw u at z)
 
-pub end_bounded : (f n m : List ℕ) → (end_of f n m).fault ≡ 0 → EndBounded n (end_of f n m).end
-unfolding end_of end_kind
-end_bounded f n m z =
+pub end_bounded : (least most : ℕ) → most ≤ 65535 → (f n m : List ℕ) → (end_within least most f n m).fault ≡ 0 → EndBounded n (end_within least most f n m).end
+unfolding end_within end_kind
+end_bounded least most few f n m z =
     let v = (word_of 5 (index f end_words)).value in
-    let z1 = (first_zero (end_kind f).fault (first_of (end_name v n) (end_number v m).fault) z).1 in
-    let z2 = (first_zero (end_name v n) (end_number v m).fault z1).0 in
-    let b = number_between v m in
+    let z1 = (first_zero (end_kind f).fault (first_of (end_name v n) (end_number least most v m).fault) z).1 in
+    let z2 = (first_zero (end_name v n) (end_number least most v m).fault z1).0 in
+    let b = number_between least most few v m in
     record { kinds = word-most 4 (index f end_words); named = name_used v n z2; least = b.0; most = b.1 }

@@ -16,8 +16,8 @@ use Rattle.sheet_forms.specs.Answers.{AxisField}
 use Rattle.sheet_forms.specs.Words.{at, kind_words}
 use Rattle.sheet_forms.specs.Faults.{first_of, no_row, first_row}
 use Rattle.sheet_forms.specs.Fields.{axis_of, repetition_of, row_fault}
-use Rattle.sheet_forms.specs.Records.{unless, axis_line, area_line, name_line, sizes_line, made_repeat, repeat_line, end_line, extra_line, item_line, place_line, row_line, fixed_kind, by_kind, record_of, fault_of}
-use Rattle.sheet_forms.specs.Forms.{Kind, axis, area, name, track, repeat, end, spare, extra, item, place, row, kind_number, Fields, parts_of}
+use Rattle.sheet_forms.specs.Records.{unless, axis_line, area_line, name_line, sizes_line, made_repeat, repeat_line, end_line, extra_line, item_line, place_line, row_line, cell_line, fixed_kind, by_kind, record_of, fault_of}
+use Rattle.sheet_forms.specs.Forms.{Kind, axis, area, name, track, repeat, end, spare, extra, item, place, row, cell, kind_number, Fields, parts_of}
 use Rattle.sheet_forms.specs.Rows.{Row, unread, bad_name, bad_value, bad_count, bad_area, First}
 use Rattle.sheet_forms.proofs.Firsts.{first_left, first_one, first_none, none_or_some}
 use Rattle.sheet_forms.proofs.PartRows.{axis_first}
@@ -37,6 +37,7 @@ line_of extra fs = extra_line fs
 line_of item fs = item_line fs
 line_of place fs = place_line fs
 line_of row fs = row_line fs
+line_of cell fs = cell_line fs
 
 by_number_lem : (k : Kind) (fs : List (List ℕ)) → by_kind (kind_number k) fs ≡ line_of k fs
 unfolding by_kind fixed_kind
@@ -51,12 +52,13 @@ by_number_lem extra fs = refl
 by_number_lem item fs = refl
 by_number_lem place fs = refl
 by_number_lem row fs = refl
+by_number_lem cell fs = refl
 
 pub line_record : (k : Kind) (fs : List (List ℕ)) → at fs 0 ≡ get_or kind_words (kind_number k) [] → record_of fs ≡ line_of k fs
 unfolding record_of
 line_record k fs e = ap (λ (i : ℕ). by_kind i fs) (word-index fs k e) ∙ by_number_lem k fs
 
-pub no_record : (fs : List (List ℕ)) → 11 ≤ index (at fs 0) kind_words → record_of fs ≡ Fault 1
+pub no_record : (fs : List (List ℕ)) → 12 ≤ index (at fs 0) kind_words → record_of fs ≡ Fault 1
 unfolding record_of by_kind fixed_kind
 no_record fs h =
     let i = index (at fs 0) kind_words in
@@ -72,6 +74,7 @@ no_record fs h =
       ne_eqb i 8 (λ e. omega arith),
       ne_eqb i 9 (λ e. omega arith),
       ne_eqb i 10 (λ e. omega arith),
+      ne_eqb i 11 (λ e. omega arith),
     )
 
 -- ---- its fault
@@ -88,7 +91,7 @@ fault_unless n r z = ⊎_elim (λ e. rw (eq-eqb n 0 e) (z ∙ sym e)) (λ h. rw 
 
 -- a line with too few or too many fields is unread
 pub short-line : (k : Kind) (fs : List (List ℕ)) → (Fields k (length fs) → ⊥) → fault_of (line_of k fs) ≡ 1
-unfolding axis_line area_line name_line sizes_line repeat_line end_line extra_line item_line place_line row_line
+unfolding axis_line area_line name_line sizes_line repeat_line end_line extra_line item_line place_line row_line cell_line
 short-line axis fs h = rw (ne_eqb (length fs) 6 h)
 short-line area fs h = rw (ne_eqb (length fs) 6 h)
 short-line name fs h = rw (ne_eqb (length fs) 3 h)
@@ -99,6 +102,7 @@ short-line spare fs h = rw (ne_eqb (length fs) 6 h)
 short-line extra fs h = rw (ne_eqb (length fs) 4 h)
 short-line item fs h = rw (ne_eqb (length fs) 3 h)
 short-line place fs h = rw (ne_eqb (length fs) 8 h)
+short-line cell fs h = rw (ne_eqb (length fs) 13 h)
 short-line row fs h = go (ltb (length fs) 2) refl
   where
     go : (t : Bool) → ltb (length fs) 2 ≡ t → fault_of (cond t (Fault 1) (unless (row_fault (drop 1 fs)) (PictureRow (length (drop 1 fs))))) ≡ 1
@@ -123,7 +127,7 @@ repeat_fault a n (inr e) = rw (ne_eqb a.fault 0 (λ z. omega arith)) (e ∙ sym 
 
 -- the fault of a line other than an area's
 pub line_fault_lem : (k : Kind) (fs : List (List ℕ)) → (k ≡ area → ⊥) → Fields k (length fs) → fault_of (line_of k fs) ≡ faults fs (parts_of k)
-unfolding axis_line name_line sizes_line repeat_line end_line extra_line item_line place_line row_line
+unfolding axis_line name_line sizes_line repeat_line end_line extra_line item_line place_line row_line cell_line
 line_fault_lem axis fs a e = rw (eq-eqb (length fs) 6 e, first_none) (fault_unless _ _ refl)
 line_fault_lem area fs a e = absurd (a refl)
 line_fault_lem name fs a e = rw (eq-eqb (length fs) 3 e, first_none) (fault_unless _ _ refl)
@@ -136,6 +140,7 @@ line_fault_lem spare fs a e = rw (eq-eqb (length fs) 6 e, first_none) (fault_unl
 line_fault_lem extra fs a e = rw (eq-eqb (length fs) 4 e, first_none) (fault_unless _ _ refl)
 line_fault_lem item fs a e = rw (eq-eqb (length fs) 3 e, first_none) (fault_unless _ _ refl)
 line_fault_lem place fs a e = rw (eq-eqb (length fs) 8 e, first_none) (fault_unless _ _ refl)
+line_fault_lem cell fs a e = rw (eq-eqb (length fs) 13 e, first_none) (fault_unless _ _ refl)
 line_fault_lem row fs a e = rw (le-ltb (length fs) 2 e, first_none) (fault_unless _ _ refl)
 
 -- whether a line has the fields of a kind
@@ -150,6 +155,7 @@ fields-or spare n = equal_or n 6
 fields-or extra n = equal_or n 4
 fields-or item n = equal_or n 3
 fields-or place n = equal_or n 8
+fields-or cell n = equal_or n 13
 fields-or row n = go (ltb n 2) refl
   where
     go : (t : Bool) → ltb n 2 ≡ t → (2 ≤ n) ⊎ (2 ≤ n → ⊥)

@@ -11,8 +11,8 @@ use Rattle.sheet_forms.specs.Words.{at, kind_words}
 use Rattle.sheet_forms.specs.Faults.{first_of, no_row}
 use Rattle.sheet_forms.specs.Fields.{axis_of, rule_of, count_of, repetition_of, name_fault, row_fault}
 use Rattle.sheet_forms.specs.Sizes.{size_of, inner_of}
-use Rattle.sheet_forms.specs.Ends.{end_of}
-use Rattle.sheet_forms.specs.Forms.{Part, an_axis, a_name, a_count, an_inner, a_rule, a_size, a_repetition, an_end, the_words, Formed, Kind, axis, area, name, track, repeat, end, spare, extra, item, place, row, kind_number, parts_of, Of, Every}
+use Rattle.sheet_forms.specs.Ends.{end_within}
+use Rattle.sheet_forms.specs.Forms.{Part, an_axis, a_name, a_count, an_inner, a_rule, a_size, a_repetition, an_end, the_words, Formed, Kind, axis, area, name, track, repeat, end, spare, extra, item, place, row, cell, kind_number, parts_of, Of, Every}
 use Rattle.sheet_forms.specs.Rows.{Row, unread, bad_name, bad_value, bad_count, bad_area, Holds, First, NameOutside, ValueOutside, CountOutside, Some}
 use Rattle.sheet_forms.proofs.Firsts.{firsts}
 use Rattle.sheet_forms.proofs.PartRows.{PartHolds, axis_first, rule_first, name_first, count_first, inner_first, size_first, repetition_first}
@@ -30,7 +30,7 @@ part_fault fs (an_inner k) = (inner_of (at fs k)).fault
 part_fault fs (a_rule k) = (rule_of (at fs k)).fault
 part_fault fs (a_size p k) = (size_of p (at fs k) (at fs (suc k))).fault
 part_fault fs (a_repetition k) = (repetition_of (at fs k)).fault
-part_fault fs (an_end k) = (end_of (at fs k) (at fs (suc k)) (at fs (suc (suc k)))).fault
+part_fault fs (an_end least most k) = (end_within least most (at fs k) (at fs (suc k)) (at fs (suc (suc k)))).fault
 part_fault fs (the_words k) = row_fault (drop k fs)
 
 part_first : (fs : List (List ℕ)) (p : Part) → First (PartHolds fs p) (part_fault fs p)
@@ -41,7 +41,7 @@ part_first fs (an_inner k) = inner_first fs k
 part_first fs (a_rule k) = rule_first fs k
 part_first fs (a_size p k) = size_first fs p k
 part_first fs (a_repetition k) = repetition_first fs k
-part_first fs (an_end k) = end_first fs k
+part_first fs (an_end least most k) = end_first least most fs k
 part_first fs (the_words k) = words_first fs k
 
 abbrev pub faults : List (List ℕ) → List Part → ℕ
@@ -70,6 +70,7 @@ place_of extra = refl
 place_of item = refl
 place_of place = refl
 place_of row = refl
+place_of cell = refl
 
 pub word-index : (fs : List (List ℕ)) (k : Kind) → at fs 0 ≡ get_or kind_words (kind_number k) [] → index (at fs 0) kind_words ≡ kind_number k
 word-index fs k e = ap (λ (l : List ℕ). index l kind_words) e ∙ place_of k
@@ -85,7 +86,8 @@ kind_at (suc (suc (suc (suc (suc (suc zero)))))) = spare
 kind_at (suc (suc (suc (suc (suc (suc (suc zero))))))) = extra
 kind_at (suc (suc (suc (suc (suc (suc (suc (suc zero)))))))) = item
 kind_at (suc (suc (suc (suc (suc (suc (suc (suc (suc zero))))))))) = place
-kind_at (suc (suc (suc (suc (suc (suc (suc (suc (suc (suc i)))))))))) = row
+kind_at (suc (suc (suc (suc (suc (suc (suc (suc (suc (suc zero)))))))))) = row
+kind_at (suc (suc (suc (suc (suc (suc (suc (suc (suc (suc (suc i))))))))))) = cell
 
 kind_back : (k : Kind) → kind_at (kind_number k) ≡ k
 kind_back axis = refl
@@ -99,8 +101,9 @@ kind_back extra = refl
 kind_back item = refl
 kind_back place = refl
 kind_back row = refl
+kind_back cell = refl
 
-pub number_back_lem : (i : ℕ) → i < 11 → kind_number (kind_at i) ≡ i
+pub number_back_lem : (i : ℕ) → i < 12 → kind_number (kind_at i) ≡ i
 number_back_lem zero h = refl
 number_back_lem (suc zero) h = refl
 number_back_lem (suc (suc zero)) h = refl
@@ -112,9 +115,10 @@ number_back_lem (suc (suc (suc (suc (suc (suc (suc zero))))))) h = refl
 number_back_lem (suc (suc (suc (suc (suc (suc (suc (suc zero)))))))) h = refl
 number_back_lem (suc (suc (suc (suc (suc (suc (suc (suc (suc zero))))))))) h = refl
 number_back_lem (suc (suc (suc (suc (suc (suc (suc (suc (suc (suc zero)))))))))) h = refl
-number_back_lem (suc (suc (suc (suc (suc (suc (suc (suc (suc (suc (suc i))))))))))) h = absurd (omega arith)
+number_back_lem (suc (suc (suc (suc (suc (suc (suc (suc (suc (suc (suc zero))))))))))) h = refl
+number_back_lem (suc (suc (suc (suc (suc (suc (suc (suc (suc (suc (suc (suc i)))))))))))) h = absurd (omega arith)
 
-pub kind_below : (k : Kind) → kind_number k < 11
+pub kind_below : (k : Kind) → kind_number k < 12
 kind_below axis = lit< tt
 kind_below area = lit< tt
 kind_below name = lit< tt
@@ -126,6 +130,7 @@ kind_below extra = lit< tt
 kind_below item = lit< tt
 kind_below place = lit< tt
 kind_below row = lit< tt
+kind_below cell = lit< tt
 
 -- a line is of one kind only
 pub same_kind_lem : (fs : List (List ℕ)) (j k : Kind) → at fs 0 ≡ get_or kind_words (kind_number j) [] → at fs 0 ≡ get_or kind_words (kind_number k) [] → j ≡ k

@@ -11,7 +11,7 @@ use Rattle.sheet_forms.specs.Said.{Record}
 use Rattle.sheet_forms.specs.Words.{at, kind_words}
 use Rattle.sheet_forms.specs.Faults.{rank_of, no_row, first_row}
 use Rattle.sheet_forms.specs.Records.{record_of, fault_of}
-use Rattle.sheet_forms.specs.Forms.{Kind, axis, area, name, track, repeat, end, spare, extra, item, place, row, kind_number, Fields, parts_of, Of}
+use Rattle.sheet_forms.specs.Forms.{Kind, axis, area, name, track, repeat, end, spare, extra, item, place, row, cell, kind_number, Fields, parts_of, Of}
 use Rattle.sheet_forms.specs.Rows.{Row, unread, bad_name, bad_value, bad_count, bad_area, number_of, Holds, First}
 use Rattle.sheet_forms.proofs.Firsts.{numbers, first-same, first-unique, at-unread}
 use Rattle.sheet_forms.proofs.FieldRows.{below_or}
@@ -52,6 +52,7 @@ of_kind k fs of = ⊎_elim (λ e. is e) other (area_or k)
     area_or item = inr (λ e. omega (arith, ap kind_number e))
     area_or place = inr (λ e. omega (arith, ap kind_number e))
     area_or row = inr (λ e. omega (arith, ap kind_number e))
+    area_or cell = inr (λ e. omega (arith, ap kind_number e))
 
     is : k ≡ area → First (Holds fs) (fault_of (line_of k fs))
     is e = subst (λ (j : Kind). First (Holds fs) (fault_of (line_of j fs))) (sym e) (area_first fs (subst (Of fs) e of))
@@ -73,14 +74,14 @@ of_word k fs e = subst (λ (r : Record). First (Holds fs) (fault_of r)) (sym (li
     go (inl h) = of_kind k fs (record { word = e; fields = h })
     go (inr h) = at-unread (short-line k fs h) (λ j o f. h (subst (λ (i : Kind). Fields i (length fs)) (same_kind_lem fs j k o.word e) o.fields))
 
-of_none : (fs : List (List ℕ)) → 11 ≤ index (at fs 0) kind_words → First (Holds fs) (fault_of (record_of fs))
+of_none : (fs : List (List ℕ)) → 12 ≤ index (at fs 0) kind_words → First (Holds fs) (fault_of (record_of fs))
 of_none fs h = at-unread (ap fault_of (no_record fs h)) (λ j o f. omega (arith, word-index fs j o.word, kind_below j))
 
 -- the kind that the first field names, where it names one
 abbrev kind_of : List (List ℕ) → Kind
 kind_of fs = kind_at (index (at fs 0) kind_words)
 
-named : (fs : List (List ℕ)) → index (at fs 0) kind_words < 11 → at fs 0 ≡ get_or kind_words (kind_number (kind_of fs)) []
+named : (fs : List (List ℕ)) → index (at fs 0) kind_words < 12 → at fs 0 ≡ get_or kind_words (kind_number (kind_of fs)) []
 named fs h = index_word (at fs 0) kind_words h ∙ ap (λ (i : ℕ). get_or kind_words i []) (sym (number_back_lem (index (at fs 0) kind_words) h))
 
 -- every line
@@ -89,7 +90,7 @@ record_first fs =
     ⊎_elim
     (λ h. of_word (kind_of fs) fs (named fs h))
     (of_none fs)
-    (below_or (index (at fs 0) kind_words) 11)
+    (below_or (index (at fs 0) kind_words) 12)
 
 -- a record says fault n exactly if n is the number of the row that comes first
 pub fault_exactly : (fs : List (List ℕ)) (n : ℕ) → (fault_of (record_of fs) ≡ n) ↔ First (Holds fs) n
@@ -122,4 +123,4 @@ record_bounded fs =
     ⊎_elim
     (λ h. subst (Bounded fs) (sym (line_record (kind_of fs) fs (named fs h))) (line_bounded (kind_of fs) fs))
     (λ h. subst (Bounded fs) (sym (no_record fs h)) fault_one)
-    (below_or (index (at fs 0) kind_words) 11)
+    (below_or (index (at fs 0) kind_words) 12)

@@ -18,9 +18,9 @@ use Rattle.sheet_forms.specs.declared.EndKind.TheVariants.{Auto, Line, Named, Sp
 use Rattle.sheet_forms.specs.declared.PlaceEnd.{PlaceEnd as EndRead}
 use Rattle.sheet_forms.specs.declared.PlaceEnd.TheVariants.{Auto as AutoEnd, Line as LineEnd, Named as NamedEnd, Span as SpanEnd, NamedSpan as NamedSpanEnd}
 use Rattle.sheet_forms.specs.declared.Record.{Record as Read}
-use Rattle.sheet_forms.specs.declared.Record.TheVariants.{Axis as ReadAxis, Area as ReadArea, Name as ReadName, Track as ReadTrack, Repeat as ReadRepeat, End as ReadEnd, Spare as ReadSpare, Extra as ReadExtra, Item as ReadItem, Place as ReadPlace, PictureRow as ReadRow}
+use Rattle.sheet_forms.specs.declared.Record.TheVariants.{Axis as ReadAxis, Area as ReadArea, Name as ReadName, Track as ReadTrack, Repeat as ReadRepeat, End as ReadEnd, Spare as ReadSpare, Extra as ReadExtra, Item as ReadItem, Place as ReadPlace, PictureRow as ReadRow, Cell as ReadCell}
 use Rattle.sheet_forms.specs.Faults.{rank_of}
-use Rattle.sheet_forms.specs.Said.{AxisRecord, RepeatRecord, PlaceEnd, Record, Fault, Axis, Area, Name, Track, Repeat, End, Spare, Extra, Item, Place, PictureRow}
+use Rattle.sheet_forms.specs.Said.{AxisRecord, RepeatRecord, PlaceEnd, Record, Fault, Axis, Area, Name, Track, Repeat, End, Spare, Extra, Item, Place, PictureRow, Cell}
 
 pub record Field : Type 0 where
   pub fault : ℕ
@@ -154,3 +154,4 @@ said_of (Ok (ReadExtra a n p)) = Extra a n p
 said_of (Ok (ReadItem a i)) = Item a i
 said_of (Ok (ReadPlace a ends)) = Place a (place_end ends.start) (place_end ends.end)
 said_of (Ok (ReadRow n)) = PictureRow n
+said_of (Ok (ReadCell c)) = Cell (place_end c.columns.start) (place_end c.columns.end) (place_end c.rows.start) (place_end c.rows.end)

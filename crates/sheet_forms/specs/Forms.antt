@@ -50,7 +50,7 @@ Allowed Minimum j = maximum_only j ≡ false
 Allowed Maximum j = Unit {0}
 Allowed Gap j = j < 2
 
--- ---- an end of a placement
+-- ---- an end of a placement, or of a cell
 
 abbrev pub is_auto : List ℕ → Type 0
 is_auto f = f ≡ get_or end_words 0 []
@@ -75,7 +75,8 @@ pub data EndForm (f name number : List ℕ) : Type 0 where
   span : is_span f → name ≡ dash → Whole number → EndForm f name number
   nspan : is_nspan f → Whole number → EndForm f name number
 
--- ---- the parts of a line, each with the number of its first field; the words of a row go to the end of the line
+-- ---- the parts of a line, each with the number of its first field, a count and an end with the least and the most that the count, or a plain
+-- span of the end, may be before it; the words of a row go to the end of the line
 
 pub data Part : Type 0 where
   an_axis : ℕ → Part
@@ -85,7 +86,7 @@ pub data Part : Type 0 where
   a_rule : ℕ → Part
   a_size : Position → ℕ → Part
   a_repetition : ℕ → Part
-  an_end : ℕ → Part
+  an_end : ℕ → ℕ → ℕ → Part
   the_words : ℕ → Part
 
 -- a part of the form that the sheet's rules give it; what a used name holds is row 2's
@@ -97,13 +98,13 @@ Formed fs (an_inner k) = (at fs k ≡ dash) ⊎ Size (at fs k)
 Formed fs (a_rule k) = OneOf rule_words (at fs k)
 Formed fs (a_size p k) = ((j : ℕ) × SizeKind j (at fs k) × Allowed p j) × Size (at fs (suc k))
 Formed fs (a_repetition k) = OneOf repeat_words (at fs k) ⊎ Whole (at fs k)
-Formed fs (an_end k) = EndForm (at fs k) (at fs (suc k)) (at fs (suc (suc k)))
+Formed fs (an_end least most k) = EndForm (at fs k) (at fs (suc k)) (at fs (suc (suc k)))
 Formed fs (the_words k) = Unit {0}
 
 -- ---- a line
 
 pub data Kind : Type 0 where
-  axis area name track repeat end spare extra item place row : Kind
+  axis area name track repeat end spare extra item place row cell : Kind
 
 -- its number in the order of `kind_words`
 abbrev pub kind_number : Kind → ℕ
@@ -118,6 +119,7 @@ kind_number extra = 7
 kind_number item = 8
 kind_number place = 9
 kind_number row = 10
+kind_number cell = 11
 
 -- that a line of a kind may have n fields, its word the first
 abbrev pub Fields : Kind → ℕ → Type 0
@@ -132,8 +134,9 @@ Fields extra n = n ≡ 4
 Fields item n = n ≡ 3
 Fields place n = n ≡ 8
 Fields row n = 2 ≤ n
+Fields cell n = n ≡ 13
 
--- what stands in them
+-- what stands in them; a plain span of a cell is 1 to 32 (document 02, request 10)
 abbrev pub parts_of : Kind → List Part
 parts_of axis = an_axis 1 ∷ an_inner 2 ∷ a_rule 3 ∷ a_size Gap 4 ∷ []
 parts_of area = a_name 1 ∷ a_count 1 10001 2 ∷ a_count 1 10001 3 ∷ a_count 1 10001 4 ∷ a_count 1 10001 5 ∷ []
@@ -144,8 +147,9 @@ parts_of end = an_axis 1 ∷ []
 parts_of spare = an_axis 1 ∷ a_size Minimum 2 ∷ a_size Maximum 4 ∷ []
 parts_of extra = an_axis 1 ∷ a_count 0 10000 2 ∷ a_count 0 10000 3 ∷ []
 parts_of item = an_axis 1 ∷ a_count 0 29999 2 ∷ []
-parts_of place = an_axis 1 ∷ an_end 2 ∷ an_end 5 ∷ []
+parts_of place = an_axis 1 ∷ an_end 0 65535 2 ∷ an_end 0 65535 5 ∷ []
 parts_of row = the_words 1 ∷ []
+parts_of cell = an_end 1 32 1 ∷ an_end 1 32 4 ∷ an_end 1 32 7 ∷ an_end 1 32 10 ∷ []
 
 -- a line of a kind, by its first field and how many fields there are
 pub record Of (fs : List (List ℕ)) (k : Kind) : Type 0 where

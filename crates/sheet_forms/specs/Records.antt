@@ -2,7 +2,7 @@
 use Rattle.std.specs.Prelude.{ℕ, List, Bool, true, false, cond, eqb, ltb, leb, length, drop}
 use Rattle.text.specs.Split.{index}
 use Rattle.sheet_forms.specs.Said.{Record}
-use Rattle.sheet_forms.specs.Said.{Fault, Axis, Area, Name, Track, Repeat, End, Spare, Extra, Item, Place, PictureRow}
+use Rattle.sheet_forms.specs.Said.{Fault, Axis, Area, Name, Track, Repeat, End, Spare, Extra, Item, Place, PictureRow, Cell}
 use Rattle.sheet_forms.specs.Said.{RepeatRecord}
 use Rattle.sheet_forms.specs.Answers.{Field}
 use Rattle.sheet_forms.specs.Answers.{AxisField}
@@ -14,7 +14,7 @@ use Rattle.sheet_forms.specs.Words.{at, kind_words}
 use Rattle.sheet_forms.specs.Faults.{first_of}
 use Rattle.sheet_forms.specs.Fields.{axis_of, rule_of, count_of, repetition_of, name_fault, row_fault}
 use Rattle.sheet_forms.specs.Sizes.{size_of, inner_of}
-use Rattle.sheet_forms.specs.Ends.{end_of}
+use Rattle.sheet_forms.specs.Ends.{end_of, cell_end_of}
 
 -- the record unless a field has a fault
 abbrev pub unless : ℕ → Record → Record
@@ -106,6 +106,15 @@ place_line fs = of_fields 8 fs (made_place (axis_of (at fs 1)) (end_of (at fs 2)
 unfoldable pub row_line : List (List ℕ) → Record
 row_line fs = cond (ltb (length fs) 2) (Fault 1) (unless (row_fault (drop 1 fs)) (PictureRow (length (drop 1 fs))))
 
+abbrev pub made_cell : EndField → EndField → EndField → EndField → Record
+made_cell cs ce rs re = unless (first_of cs.fault (first_of ce.fault (first_of rs.fault re.fault))) (Cell cs.end ce.end rs.end re.end)
+
+-- `cell`, then kind, name, number for the start of its columns, for their end, for the start of its rows and for their end
+unfoldable pub cell_line : List (List ℕ) → Record
+cell_line fs =
+    of_fields 13 fs
+    (made_cell (cell_end_of (at fs 1) (at fs 2) (at fs 3)) (cell_end_of (at fs 4) (at fs 5) (at fs 6)) (cell_end_of (at fs 7) (at fs 8) (at fs 9)) (cell_end_of (at fs 10) (at fs 11) (at fs 12)))
+
 -- a line of a kind with a fixed number of fields, by the number of the kind's word; any other line is unread
 unfoldable pub fixed_kind : ℕ → List (List ℕ) → Record
 fixed_kind k fs =
@@ -118,7 +127,8 @@ fixed_kind k fs =
     (cond (eqb k 6) (sizes_line true fs)
     (cond (eqb k 7) (extra_line fs)
     (cond (eqb k 8) (item_line fs)
-    (cond (eqb k 9) (place_line fs) (Fault 1))))))))))
+    (cond (eqb k 9) (place_line fs)
+    (cond (eqb k 11) (cell_line fs) (Fault 1)))))))))))
 
 unfoldable pub by_kind : ℕ → List (List ℕ) → Record
 by_kind k fs = cond (eqb k 10) (row_line fs) (fixed_kind k fs)
@@ -140,3 +150,4 @@ fault_of (Extra a n p) = 0
 fault_of (Item a i) = 0
 fault_of (Place a s e) = 0
 fault_of (PictureRow n) = 0
+fault_of (Cell cs ce rs re) = 0

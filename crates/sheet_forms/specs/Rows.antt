@@ -26,7 +26,7 @@ NameOutside fs (an_inner k) = ⊥
 NameOutside fs (a_rule k) = ⊥
 NameOutside fs (a_size p k) = ⊥
 NameOutside fs (a_repetition k) = ⊥
-NameOutside fs (an_end k) = (is_named (at fs k) ⊎ is_nspan (at fs k)) × (InNameRange (at fs (suc k)) → ⊥)
+NameOutside fs (an_end least most k) = (is_named (at fs k) ⊎ is_nspan (at fs k)) × (InNameRange (at fs (suc k)) → ⊥)
 NameOutside fs (the_words k) = BadWords (drop k fs)
 
 -- a size outside its range; "a keyword has value zero, else 3"
@@ -38,7 +38,7 @@ ValueOutside fs (an_inner k) = (bits : ℕ) × WritesBits (at fs k) bits × (len
 ValueOutside fs (a_rule k) = ⊥
 ValueOutside fs (a_size p k) = (j : ℕ) × (bits : ℕ) × SizeKind j (at fs k) × WritesBits (at fs (suc k)) bits × (value_in_range j bits ≡ false)
 ValueOutside fs (a_repetition k) = ⊥
-ValueOutside fs (an_end k) = ⊥
+ValueOutside fs (an_end least most k) = ⊥
 ValueOutside fs (the_words k) = ⊥
 
 -- a whole number outside its range; more words than a row may have
@@ -50,9 +50,9 @@ CountOutside fs (an_inner k) = ⊥
 CountOutside fs (a_rule k) = ⊥
 CountOutside fs (a_size p k) = ⊥
 CountOutside fs (a_repetition k) = OutsideCounts (at fs k)
-CountOutside fs (an_end k) =
+CountOutside fs (an_end least most k) =
     ((is_line (at fs k) ⊎ is_named (at fs k)) × OutsideIndexes (at fs (suc (suc k))))
-    ⊎ ((is_span (at fs k) ⊎ is_nspan (at fs k)) × OutsideCounts (at fs (suc (suc k))))
+    ⊎ ((is_span (at fs k) × OutsideRange (pos least) (pos most) (at fs (suc (suc k)))) ⊎ (is_nspan (at fs k) × OutsideCounts (at fs (suc (suc k)))))
 CountOutside fs (the_words k) = 10000 < length (drop k fs)
 
 abbrev pub Some : (Part → Type 0) → List Part → Type 0

@@ -18,13 +18,13 @@ pub record RepeatRecord : Type 0 where
   pub kind : ℕ
   pub number : ℕ
 
--- an end of a `place` line: kinds 0 to 4 are `auto line named span nspan`. The number is 0 where it is unused
+-- an end of a `place` or `cell` line: kinds 0 to 4 are `auto line named span nspan`. The number is 0 where it is unused
 pub record PlaceEnd : Type 0 where
   pub kind : ℕ
   pub number : ℤ
 
 -- a size is one word, its kind times 2^32 and its bits. Names stay in the line: field 1 of an `area`, field 2 of a `name`,
--- fields 3 and 6 of a `place`. The words of a `row` are its fields from 1 on; the record says how many there are
+-- fields 3 and 6 of a `place`, fields 2, 5, 8 and 11 of a `cell`, whose columns stand before its rows. The words of a `row` are its fields from 1 on; the record says how many there are
 pub data Record : Type 0 where
   Fault : ℕ → Record
   Axis : AxisRecord → Record
@@ -38,3 +38,4 @@ pub data Record : Type 0 where
   Item : AxisName → ℕ → Record
   Place : AxisName → PlaceEnd → PlaceEnd → Record
   PictureRow : ℕ → Record
+  Cell : PlaceEnd → PlaceEnd → PlaceEnd → PlaceEnd → Record

@@ -20,7 +20,7 @@ axis_words =
     ∷ (114 ∷ [])
     ∷ []
 
--- `axis`, `area`, `name`, `track`, `repeat`, `end`, `spare`, `extra`, `item`, `place`, `row`
+-- `axis`, `area`, `name`, `track`, `repeat`, `end`, `spare`, `extra`, `item`, `place`, `row`, `cell`
 abbrev pub kind_words : List (List ℕ)
 kind_words =
     (97 ∷ 120 ∷ 105 ∷ 115 ∷ [])
@@ -34,6 +34,7 @@ kind_words =
     ∷ (105 ∷ 116 ∷ 101 ∷ 109 ∷ [])
     ∷ (112 ∷ 108 ∷ 97 ∷ 99 ∷ 101 ∷ [])
     ∷ (114 ∷ 111 ∷ 119 ∷ [])
+    ∷ (99 ∷ 101 ∷ 108 ∷ 108 ∷ [])
     ∷ []
 
 -- `len`, `pct`, `fr`, `auto`, `min`, `max`, `fitl`, `fitp`

@@ -40,7 +40,7 @@ pub enum Repetition {
     Fit,
 }
 
-// The kinds of an end of a `place` line: `auto line named span nspan`.
+// The kinds of an end of a `place` or `cell` line: `auto line named span nspan`.
 #[derive(Clone, Copy, Debug, PartialEq, Eq)]
 pub enum EndKind {
     Auto,
@@ -59,7 +59,7 @@ impl From<EndKind> for u32 {
     }
 }
 
-// An end of a `place` line: its kind, with the number where the kind uses one.
+// An end of a `place` or `cell` line: its kind, with the number where the kind uses one.
 #[derive(Clone, Copy, Debug, PartialEq, Eq)]
 pub enum PlaceEnd {
     Auto,
@@ -104,6 +104,13 @@ pub struct TrackSizes {
     pub max: u64,
 }
 
+// A `cell` line: the ends of its columns, and of its rows; their names are fields 2, 5, 8 and 11.
+#[derive(Clone, Copy, Debug, PartialEq, Eq)]
+pub struct CellRecord {
+    pub columns: Line<PlaceEnd>,
+    pub rows: Line<PlaceEnd>,
+}
+
 // What a line says. A size is one word, its kind times 2^32 and its bits. Names stay in the line: field 1 of an `area`,
 // field 2 of a `name`, fields 3 and 6 of a `place`. A `repeat` whose count is outside its range still says its axis, since inside a repeat of
 // its axis it is unread before anything else. The words of a `row` are its fields from 1 on; the record says how many there are.
@@ -120,6 +127,7 @@ pub enum Record {
     Item(Axis, u32),
     Place(Axis, Line<PlaceEnd>),
     PictureRow(u32),
+    Cell(CellRecord),
 }
 
 // Where a size stands: a minimum is of no maximum-only kind, a gap is a length or a percentage.

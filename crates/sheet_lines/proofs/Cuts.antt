@@ -11,10 +11,10 @@ use Rattle.text.specs.Split.{split, onto, index}
 use Rattle.text.specs.declared.fields.Place.{Place as Placed}
 use Rattle.text.specs.Places.{part_at, place_by, field_by, fields_by}
 use Rattle.text.proofs.Places.{starts_of, field_part, fields-parts, length_fields, at_field}
-use Rattle.sheet_forms.specs.Said.{Record, Fault, Axis, Area, Name, Track, Repeat, End, Spare, Extra, Item, Place, PictureRow}
+use Rattle.sheet_forms.specs.Said.{Record, Fault, Axis, Area, Name, Track, Repeat, End, Spare, Extra, Item, Place, PictureRow, Cell}
 use Rattle.sheet_forms.specs.Words.{at, kind_words}
-use Rattle.sheet_forms.specs.Names.{of_first, of_second, first_name, second_name}
-use Rattle.sheet_forms.specs.Records.{axis_line, area_line, name_line, sizes_line, repeat_line, end_line, extra_line, item_line, place_line, row_line, fixed_kind, by_kind, record_of}
+use Rattle.sheet_forms.specs.Names.{of_first, of_second, of_third, of_fourth}
+use Rattle.sheet_forms.specs.Records.{axis_line, area_line, name_line, sizes_line, repeat_line, end_line, extra_line, item_line, place_line, row_line, cell_line, fixed_kind, by_kind, record_of}
 use Rattle.sheet_lines.specs.declared.fields.Fields.{Fields}
 use Rattle.sheet_lines.specs.Fields.{fields_of, CutAs}
 
@@ -33,9 +33,9 @@ parts_some b (x ∷ xs) = go (eqb x b) (split b xs)
     go false [] = omega arith
     go false (p ∷ ps) = omega arith
 
--- a line of more than 8 fields is of no form that has a fixed number of them
-module _ (fs : List (List ℕ)) (h : 8 < length fs) where
-  other : (n : ℕ) → n ≤ 8 → eqb (length fs) n ≡ false
+-- a line of more than 13 fields is of no form that has a fixed number of them
+module _ (fs : List (List ℕ)) (h : 13 < length fs) where
+  other : (n : ℕ) → n ≤ 13 → eqb (length fs) n ≡ false
   other n l = ne_eqb (length fs) n (λ e. omega arith)
 
   both : (t : Bool) (r : Record) → r ≡ Fault 1 → cond t (Fault 1) r ≡ Fault 1
@@ -43,11 +43,11 @@ module _ (fs : List (List ℕ)) (h : 8 < length fs) where
   both false r e = e
 
   many : (k : ℕ) → fixed_kind k fs ≡ Fault 1
-  unfolding fixed_kind axis_line area_line name_line sizes_line repeat_line end_line extra_line item_line place_line
+  unfolding fixed_kind axis_line area_line name_line sizes_line repeat_line end_line extra_line item_line place_line cell_line
   many k =
-      rw (other 2 (omega arith), other 3 (omega arith), other 4 (omega arith), other 6 (omega arith), other 8 (omega arith))
+      rw (other 2 (omega arith), other 3 (omega arith), other 4 (omega arith), other 6 (omega arith), other 8 (omega arith), other 13 (omega arith))
       (both (eqb k 0) _ (both (eqb k 1) _ (both (eqb k 2) _ (both (eqb k 3) _ (both (eqb k 4) _ (both (eqb k 5) _
-      (both (eqb k 6) _ (both (eqb k 7) _ (both (eqb k 8) _ (both (eqb k 9) _ refl))))))))))
+      (both (eqb k 6) _ (both (eqb k 7) _ (both (eqb k 8) _ (both (eqb k 9) _ (both (eqb k 11) _ refl)))))))))))
 
 module _ (line : List ℕ) where
   -- the fields as they were cut
@@ -89,6 +89,7 @@ module _ (line : List ℕ) where
   first-there (Item a i) = refl
   first-there (Place a s e) = field_part 9 line 3 (omega arith)
   first-there (PictureRow n) = refl
+  first-there (Cell cs ce rs re) = field_part 9 line 2 (omega arith)
 
   pub second-there : (r : Record) → named (of_second 14 (λ k. k) r) ≡ of_second [] (at (split 9 line)) r
   unfolding place_by
@@ -104,16 +105,49 @@ module _ (line : List ℕ) where
   second-there (Item a i) = refl
   second-there (Place a s e) = field_part 9 line 6 (omega arith)
   second-there (PictureRow n) = refl
+  second-there (Cell cs ce rs re) = field_part 9 line 5 (omega arith)
 
-  -- what the steps of reading give together
-  pub read-there : (f : Fields) → CutAs line f → (first : List ℕ) (k i j : ℕ) (said : Record) (p q : Placed)
-      → first ≡ at (fields_of f) 0 → k ≡ index first kind_words → said ≡ cond (eqb k 10) (row_line (split 9 f.line.now)) (fixed_kind k (fields_of f))
-      → i ≡ of_first 14 (λ k. k) said → p ≡ place_by f.starts i → j ≡ of_second 14 (λ k. k) said → q ≡ place_by f.starts j
-      → (said ≡ record_of (split 9 line)) × (part_at line p ≡ first_name said (split 9 line)) × (part_at line q ≡ second_name said (split 9 line))
-  read-there f c first k i j said p q ef ek er ei ep ej eq =
+  pub third-there : (r : Record) → named (of_third 14 (λ k. k) r) ≡ of_third [] (at (split 9 line)) r
+  unfolding place_by
+  third-there (Fault n) = refl
+  third-there (Axis a) = refl
+  third-there (Area a) = refl
+  third-there (Name a) = refl
+  third-there (Track a min max) = refl
+  third-there (Repeat a n) = refl
+  third-there (End a) = refl
+  third-there (Spare a min max) = refl
+  third-there (Extra a n p) = refl
+  third-there (Item a i) = refl
+  third-there (Place a s e) = refl
+  third-there (PictureRow n) = refl
+  third-there (Cell cs ce rs re) = field_part 9 line 8 (omega arith)
+
+  pub fourth-there : (r : Record) → named (of_fourth 14 (λ k. k) r) ≡ of_fourth [] (at (split 9 line)) r
+  unfolding place_by
+  fourth-there (Fault n) = refl
+  fourth-there (Axis a) = refl
+  fourth-there (Area a) = refl
+  fourth-there (Name a) = refl
+  fourth-there (Track a min max) = refl
+  fourth-there (Repeat a n) = refl
+  fourth-there (End a) = refl
+  fourth-there (Spare a min max) = refl
+  fourth-there (Extra a n p) = refl
+  fourth-there (Item a i) = refl
+  fourth-there (Place a s e) = refl
+  fourth-there (PictureRow n) = refl
+  fourth-there (Cell cs ce rs re) = field_part 9 line 11 (omega arith)
+
+  -- a name lies where its field was cut
+  pub name-there : {name : List ℕ} (starts : List ℕ) (k field : ℕ) (p : Placed) → starts ≡ starts_of 9 line → k ≡ field → p ≡ place_by starts k
+      → named field ≡ name → part_at line p ≡ name
+  name-there starts k field p es ek ep there = rw (ep, ek, es) there
+
+  -- the record of the kind that the first field names is the line's
+  pub said-there : (f : Fields) → CutAs line f → (first : List ℕ) (k : ℕ) (said : Record) → first ≡ at (fields_of f) 0 → k ≡ index first kind_words
+      → said ≡ cond (eqb k 10) (row_line (split 9 f.line.now)) (fixed_kind k (fields_of f)) → said ≡ record_of (split 9 line)
+  said-there f c first k said ef ek er =
       let zero : first ≡ field_by (starts_of 9 line) line 0 =
-      ef ∙ sym (field_at f.starts f.line.now f.count 0 (omega (arith, length_fields f.starts f.line.now 0 f.count, c.some))) ∙ rw (c.starts, c.line) refl in (
-        er ∙ rw (ek, zero, c.line, c.starts, c.count) cut_record,
-        rw (ep, ei, c.starts) (first-there said),
-        rw (eq, ej, c.starts) (second-there said),
-      )
+      ef ∙ sym (field_at f.starts f.line.now f.count 0 (omega (arith, length_fields f.starts f.line.now 0 f.count, c.some))) ∙ rw (c.starts, c.line) refl in
+      er ∙ rw (ek, zero, c.line, c.starts, c.count) cut_record

@@ -1,4 +1,4 @@
 -- Laws of a line that is cut once.
 pub mod Cuts
 pub mod Rows
-pub mod LongWords
+pub mod NoKind

@@ -5,7 +5,7 @@ use Rattle.text.specs.Split.{split}
 use Rattle.text.specs.Places.{fields_by, starts_from}
 use Rattle.sheet_lines.specs.declared.fields.Fields.{Fields}
 use Rattle.sheet_lines.specs.declared.kinds.LineKind.{LineKind}
-use Rattle.sheet_lines.specs.declared.kinds.LineKind.TheVariants.{Axis, Area, Name, Track, Repeat, End, Spare, Extra, Item, Place, Row}
+use Rattle.sheet_lines.specs.declared.kinds.LineKind.TheVariants.{Axis, Area, Name, Track, Repeat, End, Spare, Extra, Item, Place, Row, Cell}
 
 -- the fields themselves
 abbrev pub fields_of : Fields → List (List ℕ)
@@ -31,4 +31,5 @@ line_kind_number (Some Extra) = 7
 line_kind_number (Some Item) = 8
 line_kind_number (Some Place) = 9
 line_kind_number (Some Row) = 10
-line_kind_number None = 11
+line_kind_number (Some Cell) = 11
+line_kind_number None = 12

@@ -1,3 +1,4 @@
--- What the contracts on the fields of a line cite.
+-- What the contracts on a line and its fields cite.
 pub mod Fields
+pub mod Read
 pub mod Sizes

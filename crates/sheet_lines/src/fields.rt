@@ -27,6 +27,8 @@ pub const ITEM_FIELDS: usize = 3;
 
 pub const PLACE_FIELDS: usize = 8;
 
+pub const CELL_FIELDS: usize = 13;
+
 // A line with the starts of its fields, and their number.
 #[derive(Clone, Copy)]
 pub struct Fields<'a> {

@@ -18,6 +18,7 @@ pub enum LineKind {
     Item,
     Place,
     Row,
+    Cell,
 }
 
 // Which kind of line a first field names, if any, the commonest asked first.
@@ -30,6 +31,7 @@ pub fn kind(f: &[u8]) -> Option<LineKind>
         b"place" => Some(LineKind::Place),
         b"track" => Some(LineKind::Track),
         b"item" => Some(LineKind::Item),
+        b"cell" => Some(LineKind::Cell),
         b"area" => Some(LineKind::Area),
         b"extra" => Some(LineKind::Extra),
         b"repeat" => Some(LineKind::Repeat),

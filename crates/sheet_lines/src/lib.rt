@@ -22,4 +22,6 @@ pub struct LineRecord {
     pub said: Result<Record, Fault>,
     pub first: Place,
     pub second: Place,
+    pub third: Place,
+    pub fourth: Place,
 }

@@ -1,16 +1,18 @@
-// The lines that stand beside a template: `area`, `name`, `extra`, `item`, `place`.
+// The lines that stand beside a template: `area`, `name`, `extra`, `item`, `place`, `cell`.
 ghost use Rattle.std.specs.Prelude.{◌≡◌};
 ghost use Rattle.coordinates.specs.Refusals.{refused_by};
 ghost use Rattle.sheet_forms.specs.Answers.{axis_said, end_said, number_said, said_of};
-ghost use Rattle.sheet_forms.specs.Records.{edges_of, made_area, area_line, made_name, name_line, made_extra, extra_line, made_item, item_line, made_place, place_line};
+ghost use Rattle.sheet_forms.specs.Records.{edges_of, made_area, area_line, made_name, name_line, made_extra, extra_line, made_item, item_line, made_place, place_line, made_cell, cell_line};
 ghost use Rattle.sheet_lines.specs.Fields.{fields_of};
 
-use crate::fields::{AREA_FIELDS, EXTRA_FIELDS, Fields, ITEM_FIELDS, NAME_FIELDS, PLACE_FIELDS};
+use crate::fields::{
+    AREA_FIELDS, CELL_FIELDS, EXTRA_FIELDS, Fields, ITEM_FIELDS, NAME_FIELDS, PLACE_FIELDS,
+};
 use coordinates::line::{LAST_EXPLICIT_LINE, MOST_TRACKS};
 use coordinates::{Axis, Fault, Line};
-use sheet_fields::ends::end;
+use sheet_fields::ends::{cell_end, end};
 use sheet_forms::field::{axis, count};
-use sheet_forms::{AreaRecord, PlaceEnd, Record, both, check_name};
+use sheet_forms::{AreaRecord, CellRecord, PlaceEnd, Record, both, check_name};
 
 // The most implicit tracks on one side of the explicit ones.
 const MOST_IMPLICIT: u32 = MOST_TRACKS as u32;
@@ -152,5 +154,43 @@ pub(crate) fn place_line(fields: &Fields<'_>) -> Result<Record, Fault>
         axis(fields.field(1)),
         end(fields.field(2), fields.field(3), fields.field(4)),
         end(fields.field(5), fields.field(6), fields.field(7)),
+    )
+}
+
+// A cell of these parts.
+#[tactic(auto, unfolding(sheet_forms::specs::Faults::first_of), using(sheet_forms::proofs::Parts::unless_fault))]
+fn make_cell(
+    columnstart: Result<PlaceEnd, Fault>,
+    columnend: Result<PlaceEnd, Fault>,
+    rowstart: Result<PlaceEnd, Fault>,
+    rowend: Result<PlaceEnd, Fault>,
+) -> Result<Record, Fault>
+    ensures { said_of result ≡ made_cell (end_said columnstart) (end_said columnend) (end_said rowstart) (end_said rowend) }
+{
+    let rows = both(rowstart, rowend);
+    let (columnstart, (columnend, (rowstart, rowend))) = both(columnstart, both(columnend, rows))?;
+    Ok(Record::Cell(CellRecord {
+        columns: Line {
+            start: columnstart,
+            end: columnend,
+        },
+        rows: Line {
+            start: rowstart,
+            end: rowend,
+        },
+    }))
+}
+
+// `cell`, then kind, name, number for the start of its columns, for their end, for the start of its rows and for their end
+#[tactic(auto, unfolding(sheet_forms::specs::Records::cell_line), using(sheet_forms::proofs::Parts::cell_only))]
+pub(crate) fn cell_line(fields: &Fields<'_>) -> Result<Record, Fault>
+    ensures { said_of result ≡ cell_line (fields_of fields.now) }
+{
+    fields.check_count(CELL_FIELDS)?;
+    make_cell(
+        cell_end(fields.field(1), fields.field(2), fields.field(3)),
+        cell_end(fields.field(4), fields.field(5), fields.field(6)),
+        cell_end(fields.field(7), fields.field(8), fields.field(9)),
+        cell_end(fields.field(10), fields.field(11), fields.field(12)),
     )
 }

@@ -1,16 +1,16 @@
 // The record of any line, by its kind, and where its names lie.
 ghost use Rattle.std.specs.Prelude.{◌≡◌, cond, eqb};
 ghost use Rattle.text.specs.Split.{split};
-ghost use Rattle.text.specs.Places.{part_at};
 ghost use Rattle.sheet_forms.specs.Answers.{said_of};
-ghost use Rattle.sheet_forms.specs.Names.{of_first, of_second, first_name, second_name};
-ghost use Rattle.sheet_forms.specs.Records.{row_line, fixed_kind, record_of};
+ghost use Rattle.sheet_forms.specs.Names.{of_first, of_second, of_third, of_fourth};
+ghost use Rattle.sheet_forms.specs.Records.{row_line, fixed_kind};
 ghost use Rattle.sheet_lines.specs.Fields.{fields_of, line_kind_number};
+ghost use Rattle.sheet_lines.specs.Read.{ReadAs};
 
 use crate::LineRecord;
 use crate::fields::Fields;
 use crate::kinds::{LineKind, kind};
-use crate::lines::{area_line, extra_line, item_line, name_line, place_line};
+use crate::lines::{area_line, cell_line, extra_line, item_line, name_line, place_line};
 use crate::row::row_line;
 use crate::templates::{axis_line, end_line, repeat_line, spare_line, track_line};
 use coordinates::Fault;
@@ -35,6 +35,7 @@ fn by_kind(kind: Option<LineKind>, fields: &Fields<'_>) -> Result<Record, Fault>
         Some(LineKind::Item) => item_line(fields),
         Some(LineKind::Place) => place_line(fields),
         Some(LineKind::Row) => row_line(fields.line),
+        Some(LineKind::Cell) => cell_line(fields),
         None => Err(Fault::Unread),
     }
 }
@@ -47,20 +48,34 @@ fn name_fields(said: Result<Record, Fault>) -> (usize, usize)
         Ok(Record::Area(_)) => (1, FIELDS),
         Ok(Record::Name(_)) => (2, FIELDS),
         Ok(Record::Place(_, _)) => (3, 6),
+        Ok(Record::Cell(_)) => (2, 5),
+        _ => (FIELDS, FIELDS),
+    }
+}
+
+// And those of its third and its fourth name, which are of a cell's rows.
+fn row_name_fields(said: Result<Record, Fault>) -> (usize, usize)
+    ensures { (result.0 ≡ of_third 14 (λ k. k) (said_of said)) × (result.1 ≡ of_fourth 14 (λ k. k) (said_of said)) }
+{
+    match said {
+        Ok(Record::Cell(_)) => (8, 11),
         _ => (FIELDS, FIELDS),
     }
 }
 
 // The record that a line makes, and where its names lie in the line.
 pub fn read_record(line: &[u8]) -> LineRecord
-    ensures { (said_of result.said ≡ record_of (split 9 line.now)) × (part_at line.now result.first ≡ first_name (said_of result.said) (split 9 line.now)) × (part_at line.now result.second ≡ second_name (said_of result.said) (split 9 line.now)) }
+    ensures { ReadAs line.now result }
 {
     let fields = Fields::cut(line);
     let said = by_kind(kind(fields.field(0)), &fields);
     let (first, second) = name_fields(said);
+    let (third, fourth) = row_name_fields(said);
     LineRecord {
         said,
         first: field_place(&fields.starts, first),
         second: field_place(&fields.starts, second),
+        third: field_place(&fields.starts, third),
+        fourth: field_place(&fields.starts, fourth),
     }
 }

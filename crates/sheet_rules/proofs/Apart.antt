@@ -9,7 +9,7 @@ use lib.Dec.{eqb, leb}
 use borrow.Author.Tests.{eqb-true, leb-true, leb-false}
 use Rattle.text.specs.Split.{split}
 use Rattle.sheet_forms.specs.Said.{Record}
-use Rattle.sheet_forms.specs.Said.{Fault, Axis as AxisLine, Area, Name, Track, Repeat, End, Spare, Extra, Item, Place, PictureRow}
+use Rattle.sheet_forms.specs.Said.{Fault, Axis as AxisLine, Area, Name, Track, Repeat, End, Spare, Extra, Item, Place, PictureRow, Cell}
 use Rattle.sheet_forms.specs.Faults.{rank_of, no_row, first_row}
 use Rattle.sheet_forms.specs.Forms.{area}
 use Rattle.sheet_forms.specs.Records.{record_of}
@@ -58,6 +58,7 @@ module _ (v : PanelView) (fs : Line) (drawn : 2 ≤ v.stage) where
   shared_of_lem (Item a i) s z = refl
   shared_of_lem (Place a t e) s z = refl
   shared_of_lem (PictureRow n) s z = refl
+  shared_of_lem (Cell cs ce rs re) s z = refl
 
   pub none_shared : shared_at v fs ≡ 0
   unfolding shared_at

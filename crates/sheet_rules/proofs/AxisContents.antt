@@ -14,7 +14,6 @@ use Rattle.sheet_forms.specs.Words.{at, kind_words}
 use Rattle.sheet_forms.specs.Forms.{Kind, axis, area, name, track, repeat, end, spare, extra, item, row, kind_number}
 use Rattle.axis_tables.specs.View.{Sizes, Piece, name as a_name, track as a_track, Repeat as ARepeat, Item as AnItem, single, repeat as a_repeat, Unended, none, inside, AxisView, AxisOutcome, no_line, tracks_in, components_of, refused, accepted, with_template, with_name, with_item, with_piece, more_pieces, no_room, axis_names, axis_bytes, track_by, track_step, repeat_kind, repeat_by, repeat_step, end_by, end_step, name_step, spare_step, item_step, extra_step, axis_step, named_fault}
 use Rattle.panel_tables.specs.View.{raised}
-use Rattle.panel_tables.proofs.Rooms.{fault_stays}
 use Rattle.sheet_rules.specs.Contents.{Line, those, is_of, is_on, lines_with, lines_in, is_template, template_in, count_in, sizes_in, axis_line_in, words_in, drawn_in, span_in, TemplateLine, piece, opening, closing, template_line_in, item_lines, template_lines, last_of, largest, is_among}
 use Rattle.sheet_rules.proofs.LineFields.{not-zero}
 
@@ -158,6 +157,14 @@ piece_more : (x : AxisView) (r : ARepeat) (p : Piece)
 piece_more x r p =
     ap (λ (l : List TemplateLine). template_lines x.template ++ (opening r.kind r.number ∷ l)) (map-append piece r.pieces (p ∷ []))
     ∙ sym (append_assoc (template_lines x.template) (opening r.kind r.number ∷ map piece r.pieces) (piece p ∷ []))
+
+-- a fault beside a name is one
+pub fault_stays : (length fault : ℕ) → (fault ≡ 0 → ⊥) → named_fault length fault ≡ 0 → ⊥
+fault_stays length fault h = go (ltb 32 length)
+  where
+    go : (t : Bool) → cond t 2 fault ≡ 0 → ⊥
+    go true z = omega arith
+    go false z = h z
 
 module _ (x : AxisView) where
   pub name-written : (n : List ℕ) → (name_step x n).fault ≡ 0 → Written x (all_lines x) (piece (a_name n)) (name_step x n).axis

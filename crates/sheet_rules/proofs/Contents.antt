@@ -1,5 +1,5 @@
 -- The view of every accepted sheet is what its lines say: one induction over the lines. Assumes nothing.
-use Prim.Native.Nat.{ℕ, ◌+◌, ◌-◌, ◌≤◌, max}
+use Prim.Native.Nat.{ℕ, ◌+◌, ◌-◌, ◌≤◌, max, min}
 use mathlib.Core.Path.{◌≡◌, refl, sym, ap, ap₂, ◌∙◌, subst}
 use mathlib.Core.List.{List, [], ◌∷◌, ◌++◌, map, map-append, append_assoc, append-nil}
 use mathlib.Core.Bool.{Bool, true, false, cond, not, false≢true}
@@ -8,39 +8,86 @@ use lib.Dec.{eqb, leb, ltb}
 use lib.IntN.{ℤ}
 use native.Mathlib.Omega.{arith}
 use lib.ListN.{length, length-replicate, get_or-replicate, length-append}
-use borrow.Author.Tests.{eqb-true, eqb-false, leb-true, leb-false}
+use borrow.Author.Tests.{eqb-true, eqb-false, leb-true, leb-false, ltb-false}
 use Rattle.coordinates.specs.declared.axis.Axis.{Axis}
 use Rattle.coordinates.specs.declared.axis.Axis.TheVariants.{Column, Row}
-use Rattle.text.specs.Split.{split, same}
+use Rattle.text.specs.Split.{split, onto, same}
+use Rattle.text.proofs.Laws.{length-onto}
 use Rattle.text.proofs.Which.{same_self}
 use Rattle.sheet_forms.specs.Said.{PlaceEnd}
 use Rattle.sheet_forms.specs.Said.{Record}
-use Rattle.sheet_forms.specs.Said.{Fault, Axis as AxisLine, Area, Name, Track, Repeat, End, Spare, Extra, Item, Place, PictureRow}
+use Rattle.sheet_forms.specs.Said.{Fault, Axis as AxisLine, Area, Name, Track, Repeat, End, Spare, Extra, Item, Place, PictureRow, Cell}
 use Rattle.sheet_forms.specs.Words.{at}
 use Rattle.sheet_forms.specs.Faults.{first_of}
 use Rattle.sheet_forms.specs.Ends.{uses_name}
 use Rattle.sheet_forms.specs.Records.{record_of, fault_of}
-use Rattle.sheet_forms.specs.Forms.{Kind, axis, area, name, track, repeat, end, spare, extra, item, place, row}
+use Rattle.sheet_forms.specs.Forms.{Kind, axis, area, name, track, repeat, end, spare, extra, item, place, row, cell}
 use Rattle.sheet_forms.proofs.Firsts.{first_zero}
 use Rattle.axis_tables.specs.View.{name as a_name, track as a_track, Unended, none, inside, AxisView, written, names_of, name_of, empty_axis, repeat_kind, named_fault}
 use Rattle.panel_tables.specs.declared.AreaEdges.{AreaEdges}
-use Rattle.panel_tables.specs.View.{Area as AnArea, End as PlacedEnd, Placement, PanelView, PanelOutcome, empty_view, refused as refused_panel, accepted as accepted_panel, raised, edges_outside, end_outside, area_step, place_step}
+use Rattle.panel_tables.specs.View.{Area as AnArea, End as PlacedEnd, Placement, PanelView, PanelOutcome, empty_view, refused as refused_panel, accepted as accepted_panel, raised, edges_outside, area_step, ends_fault, most_lines, next_line, items, lower, limited_step, with_item, place_step, half, cell_step}
 use Rattle.panel_tables.specs.Axes.{view_in, with_view}
-use Rattle.panel_tables.proofs.Rooms.{fault_stays}
 use Rattle.sheet_rules.specs.Lines.{bit, edges_of, placed_end, late_at, record_step, stage_of, at_stage, line_step}
 use Rattle.picture_rules.specs.Picture.{Word, Picture, width_of}
 use Rattle.picture_rules.specs.Steps.{rows_from}
 use Rattle.sheet_rules.specs.Pictures.{areas_of, with_words, other_width, drawn_row, picture_step}
 use Rattle.sheet_rules.specs.Sheet.{open_fault, count_fault, entries_fault, axis_fault, end_fault, outcome, ended, run, fold_of, display_of, sheet_of}
 use Rattle.sheet_rules.specs.Rows.{OnAxis}
-use Rattle.sheet_rules.specs.Contents.{Line, lines_from, lines_of, those, is_of, letter_of, is_on, lines_with, template_in, axis_in, sizes_in, area_in, words_in, picture_in, drawn_in, end_in, placement_in, piece, opening, closing, template_line_in, template_lines, last_of, largest, is_among, AxisSays, PanelSays}
+use Rattle.sheet_rules.specs.Contents.{Line, lines_from, lines_of, those, is_of, letter_of, is_on, lines_with, template_in, axis_in, sizes_in, area_in, words_in, picture_in, drawn_in, end_in, placement_in, halves_in, item_in, placements_of, cells_from, piece, opening, closing, template_line_in, template_lines, last_of, largest, is_among, AxisSays, PanelSays}
 use Rattle.sheet_rules.proofs.LineFields.{not-zero, EndReads, Reads, record_reads}
 use Rattle.sheet_rules.proofs.Says.{Says, record_says}
 use Rattle.sheet_rules.proofs.Chosen.{accepted_former, display_former_lem}
-use Rattle.sheet_rules.proofs.AxisContents.{more, those-more, Chosen, chosen, word, grown, chosen_more, open_lines, AxisAgrees, name-written, track-written, repeat-written, end-written, template-agrees, spare-agrees, extra-agrees, item-agrees, axis-agrees, area-agrees, row-agrees}
+use Rattle.sheet_rules.proofs.AxisContents.{fault_stays, more, those-more, Chosen, chosen, word, grown, chosen_more, open_lines, AxisAgrees, name-written, track-written, repeat-written, end-written, template-agrees, spare-agrees, extra-agrees, item-agrees, axis-agrees, area-agrees, row-agrees}
 use Rattle.sheet_rules.proofs.LineRows.{late-no}
-use Rattle.sheet_rules.proofs.Pictures.{row_taken, clean_line}
+use Rattle.sheet_rules.proofs.Pictures.{row_taken, clean_line, record_lines_lem}
 use Rattle.sheet_rules.proofs.TemplateContents.{picked, name_said, track_said, names_from_lem, tracks_of_lem, picked-lines, name-one, track-one}
+
+-- ---- the `place` and `cell` lines
+
+-- a count of lines, or a line's number, as it is held; a sheet of 32,768 bytes has no more lines
+abbrev held : ℕ → ℕ
+held n = min n most_lines
+
+placements_more : (ls : List Line) (l : Line) → placements_of (ls ++ (l ∷ [])) ≡ placements_of ls ++ item_in l
+unfolding placements_of
+placements_more [] l = append-nil (item_in l)
+placements_more (m ∷ ls) l = ap (λ (p : List Placement). item_in m ++ p) (placements_more ls l) ∙ sym (append_assoc (item_in m) (placements_of ls) (item_in l))
+
+cells_more : (n : ℕ) (ls : List Line) (l : Line) → cells_from n (ls ++ (l ∷ [])) ≡ cells_from n ls ++ cond (is_of cell l) ((n + length ls) ∷ []) []
+unfolding cells_from
+cells_more n [] l = append-nil (cond (is_of cell l) (n ∷ []) []) ∙ ap (λ (k : ℕ). cond (is_of cell l) (k ∷ []) []) (omega arith)
+cells_more n (m ∷ ls) l =
+    let first : List ℕ = cond (is_of cell m) (n ∷ []) [] in
+    let k : n + 1 + length ls ≡ n + length (m ∷ ls) = omega arith in
+    ap (λ (p : List ℕ). first ++ p) (cells_more (n + 1) ls l)
+    ∙ sym (append_assoc first (cells_from (n + 1) ls) (cond (is_of cell l) ((n + 1 + length ls) ∷ []) []))
+    ∙ ap (λ (i : ℕ). (first ++ cells_from (n + 1) ls) ++ cond (is_of cell l) (i ∷ []) []) k
+
+-- a line of any other kind gives none
+other_items : (j : Kind) (ls : List Line) (l : Line) → at l 0 ≡ word j → same (word j) (word place) ≡ false → same (word j) (word cell) ≡ false → placements_of (ls ++ (l ∷ [])) ≡ placements_of ls
+other_items j ls l w p c =
+    placements_more ls l
+    ∙ ap (λ (f : List ℕ). placements_of ls ++ cond (same f (word place)) (placement_in l ∷ []) (cond (same f (word cell)) (halves_in l) [])) w
+    ∙ rw (p, c) (append-nil (placements_of ls))
+
+other_cells : (j : Kind) (n : ℕ) (ls : List Line) (l : Line) → at l 0 ≡ word j → same (word j) (word cell) ≡ false → cells_from n (ls ++ (l ∷ [])) ≡ cells_from n ls
+other_cells j n ls l w c =
+    cells_more n ls l
+    ∙ ap (λ (f : List ℕ). cells_from n ls ++ cond (same f (word cell)) ((n + length ls) ∷ []) []) w
+    ∙ rw c (append-nil (cells_from n ls))
+
+-- in a sheet each number is held
+all_held : (n : ℕ) (ls : List Line) → n + length ls ≤ 32769 → map held (cells_from n ls) ≡ cells_from n ls
+unfolding cells_from
+all_held n [] h = refl
+all_held n (l ∷ ls) h =
+    let e : min n 32768 ≡ n = omega arith in
+    map-append held (cond (is_of cell l) (n ∷ []) []) (cells_from (n + 1) ls)
+    ∙ ap₂ (λ (a b : List ℕ). a ++ b) (one (is_of cell l) e) (all_held (n + 1) ls (omega arith))
+  where
+    one : (t : Bool) → min n 32768 ≡ n → map held (cond t (n ∷ []) []) ≡ cond t (n ∷ []) []
+    one true e = ap (λ (k : ℕ). k ∷ []) e
+    one false e = refl
 
 -- ---- a panel says what its lines say
 
@@ -48,7 +95,8 @@ pub record Agrees (ls : List Line) (v : PanelView) : Type 0 where
   pub axes : (a : Axis) → AxisAgrees a (chosen a ls) (view_in v a)
   pub picture : v.picture ≡ picture_in ls
   pub areas : v.areas ≡ areas_of v.picture ++ map area_in (lines_with area ls)
-  pub placements : v.placements ≡ map placement_in (lines_with place ls)
+  pub placements : v.placements ≡ placements_of ls
+  pub cells : v.cells ≡ map held (cells_from 1 ls)
 
 -- `area` lines and rows stand apart, by the kind order
 pub record Apart (ls : List Line) (v : PanelView) : Type 0 where
@@ -56,6 +104,8 @@ pub record Apart (ls : List Line) (v : PanelView) : Type 0 where
   pub timely : late_at 2 v.stage ≡ false → lines_with area ls ≡ []
   -- so no sheet has both
   pub either : (lines_with row ls ≡ []) ⊎ (lines_with area ls ≡ [])
+  -- and the lines are counted
+  pub counted : v.lines ≡ held (length ls)
 
 letter : (fs : Line) (a : Axis) → OnAxis fs a → at fs 1 ≡ letter_of a
 letter fs Column o = o
@@ -72,11 +122,11 @@ unfolding more
 own_kind k ls l w = those-more (is_of k) ls l ∙ ap (λ (t : Bool). more t (lines_with k ls) l) (ap (λ (f : List ℕ). same f (word k)) w ∙ same_self (word k))
 
 module _ (ls : List Line) (v : PanelView) (agrees : Agrees ls v) (l : Line) where
-  -- a line on an axis, of a kind that is no area, no row and no placement
-  on_axis_lem : (j : Kind) → at l 0 ≡ word j → same (word j) (word area) ≡ false → same (word j) (word row) ≡ false → same (word j) (word place) ≡ false
+  -- a line on an axis, of a kind that is no area, no row, no placement and no cell
+  on_axis_lem : (j : Kind) → at l 0 ≡ word j → same (word j) (word area) ≡ false → same (word j) (word row) ≡ false → same (word j) (word place) ≡ false → same (word j) (word cell) ≡ false
       → ((c : Chosen) → grown j false c l ≡ c)
       → (b : Axis) → OnAxis l b → (y : AxisView) → AxisAgrees b (grown j true (chosen b ls) l) y → Agrees (ls ++ (l ∷ [])) (with_view v b y)
-  on_axis_lem j w d q p n b o y new = record { axes = axes b o new; picture = picture b; areas = areas b; placements = placements b }
+  on_axis_lem j w d q p u n b o y new = record { axes = axes b o new; picture = picture b; areas = areas b; placements = placements b; cells = cells b }
     where
       is : (b : Axis) → OnAxis l b → is_on b l ≡ true
       is b o = ap (λ (f : List ℕ). same f (letter_of b)) (letter l b o) ∙ same_self (letter_of b)
@@ -107,12 +157,19 @@ module _ (ls : List Line) (v : PanelView) (agrees : Agrees ls v) (l : Line) wher
       areas Column = drawn
       areas Row = drawn
 
-      placed : v.placements ≡ map placement_in (lines_with place (ls ++ (l ∷ [])))
-      placed = agrees.placements ∙ ap (map placement_in) (sym (other_kind j place ls l w p))
+      placed : v.placements ≡ placements_of (ls ++ (l ∷ []))
+      placed = agrees.placements ∙ sym (other_items j ls l w p u)
 
-      placements : (b : Axis) → (with_view v b y).placements ≡ map placement_in (lines_with place (ls ++ (l ∷ [])))
+      placements : (b : Axis) → (with_view v b y).placements ≡ placements_of (ls ++ (l ∷ []))
       placements Column = placed
       placements Row = placed
+
+      lined : v.cells ≡ map held (cells_from 1 (ls ++ (l ∷ [])))
+      lined = agrees.cells ∙ ap (map held) (sym (other_cells j 1 ls l w u))
+
+      cells : (b : Axis) → (with_view v b y).cells ≡ map held (cells_from 1 (ls ++ (l ∷ [])))
+      cells Column = lined
+      cells Row = lined
 
   -- an area
   area-line : (e : AreaEdges) → at l 0 ≡ word area → e ≡ (area_in l).edges → (area_step v (at l 1) e).fault ≡ 0 → Agrees (ls ++ (l ∷ [])) (area_step v (at l 1) e).panel
@@ -127,7 +184,9 @@ module _ (ls : List Line) (v : PanelView) (agrees : Agrees ls v) (l : Line) wher
             areas = v.areas ++ (record { name = at l 1; edges = e } ∷ []);
             picture = v.picture;
             placements = v.placements;
+            cells = v.cells;
             stage = v.stage;
+            lines = v.lines;
           }
 
       by : Bool → Bool → Bool → PanelOutcome
@@ -152,44 +211,64 @@ module _ (ls : List Line) (v : PanelView) (agrees : Agrees ls v) (l : Line) wher
             ap₂ (λ (m : List AnArea) (x : AreaEdges). m ++ (record { name = at l 1; edges = x } ∷ [])) agrees.areas q
             ∙ append_assoc (areas_of v.picture) (map area_in (lines_with area ls)) (area_in l ∷ [])
             ∙ ap (λ (m : List AnArea). areas_of v.picture ++ m) (sym (ap (map area_in) (own_kind area ls l w) ∙ map-append area_in (lines_with area ls) (l ∷ [])));
-        placements = agrees.placements ∙ ap (map placement_in) (sym (other_kind area place ls l w (unfold same in refl)));
+        placements = agrees.placements ∙ sym (other_items area ls l w (unfold same in refl) (unfold same in refl));
+        cells = agrees.cells ∙ ap (map held) (sym (other_cells area 1 ls l w (unfold same in refl)));
       }
+
+  -- what a `place` or a `cell` line leaves
+  kept : (j : Kind) → at l 0 ≡ word j → ((b : Bool) (c : Chosen) → grown j b c l ≡ c) → (a : Axis) → AxisAgrees a (chosen a (ls ++ (l ∷ []))) (view_in v a)
+  kept j w n a = subst (λ (c : Chosen). AxisAgrees a c (view_in v a)) (sym (chosen_more j (is_on a l) a ls l w refl ∙ n (is_on a l) (chosen a ls))) (agrees.axes a)
+
+  item-agrees-with : (j : Kind) → at l 0 ≡ word j → same (word j) (word row) ≡ false → same (word j) (word area) ≡ false → ((b : Bool) (c : Chosen) → grown j b c l ≡ c)
+      → (ps : List Placement) (cs : List ℕ) → ps ≡ placements_of (ls ++ (l ∷ [])) → cs ≡ map held (cells_from 1 (ls ++ (l ∷ []))) → Agrees (ls ++ (l ∷ [])) (with_item v ps cs)
+  item-agrees-with j w p q n ps cs e f = record {
+    axes = axes;
+    picture = agrees.picture ∙ ap (map words_in) (sym (other_kind j row ls l w p));
+    areas = agrees.areas ∙ ap (λ (m : List Line). areas_of v.picture ++ map area_in m) (sym (other_kind j area ls l w q));
+    placements = e;
+    cells = f;
+  }
+    where
+      axes : (a : Axis) → AxisAgrees a (chosen a (ls ++ (l ∷ []))) (view_in (with_item v ps cs) a)
+      axes Column = kept j w n Column
+      axes Row = kept j w n Row
+
+  -- an item that is accepted is written
+  taken : (fault : ℕ) (after : PanelView) → (limited_step v fault after).fault ≡ 0 → (limited_step v fault after).panel ≡ after
+  unfolding limited_step
+  taken fault after = go (eqb fault 0) (leb 256 (items v)) refl
+    where
+      go : (t u : Bool) → eqb fault 0 ≡ t → (cond t (cond u (refused_panel 8 v) (accepted_panel after)) (refused_panel fault v)).fault ≡ 0
+          → (cond t (cond u (refused_panel 8 v) (accepted_panel after)) (refused_panel fault v)).panel ≡ after
+      go true true e z = absurd (not-zero 7 z)
+      go true false e z = refl
+      go false u e z = absurd (eqb-false fault 0 e z)
 
   -- a placement
-  place-line : (a : Axis) (s e : PlacedEnd) → at l 0 ≡ word place → record { axis = a; start = s; end = e } ≡ placement_in l → (place_step v a s e).fault ≡ 0 → Agrees (ls ++ (l ∷ [])) (place_step v a s e).panel
+  place-line : (a : Axis) (s e : PlacedEnd) → at l 0 ≡ word place → record { axis = a; cell = false; start = s; end = e } ≡ placement_in l → (place_step v a s e).fault ≡ 0 → Agrees (ls ++ (l ∷ [])) (place_step v a s e).panel
   unfolding place_step same more
-  place-line a s e w q = go (end_outside s.end) (end_outside e.end) (ltb 32 (length s.name)) (ltb 32 (length e.name)) (leb 256 (length v.placements))
-    where
-      placed : PanelView
-      placed = record { columns = v.columns; rows = v.rows; areas = v.areas; picture = v.picture; placements = v.placements ++ (record { axis = a; start = s; end = e } ∷ []); stage = v.stage }
+  place-line a s e w q z =
+      let one : item_in l ≡ placement_in l ∷ [] = rw w in
+      subst (Agrees (ls ++ (l ∷ []))) (sym (taken (ends_fault s e) _ z))
+      (item-agrees-with place w refl refl (λ b c. refl) _ _
+      (ap₂ (λ (m : List Placement) (x : Placement). m ++ (x ∷ [])) agrees.placements q ∙ sym (placements_more ls l ∙ ap (λ (m : List Placement). placements_of ls ++ m) one))
+      (agrees.cells ∙ ap (map held) (sym (other_cells place 1 ls l w refl))))
 
-      by : Bool → Bool → Bool → Bool → Bool → PanelOutcome
-      by c d f g i = cond c (refused_panel (named_fault (length s.name) (named_fault (length e.name) 4)) v) (cond d (refused_panel (named_fault (length s.name) (named_fault (length e.name) 4)) v) (cond f (refused_panel 2 v) (cond g (refused_panel 2 v) (cond i (refused_panel 8 v) (accepted_panel placed)))))
-
-      outside : named_fault (length s.name) (named_fault (length e.name) 4) ≡ 0 → ⊥
-      outside = fault_stays (length s.name) (named_fault (length e.name) 4) (fault_stays (length e.name) 4 (λ q. not-zero 3 q))
-
-      kept : (b : Axis) → AxisAgrees b (chosen b (ls ++ (l ∷ []))) (view_in v b)
-      kept b = subst (λ (c : Chosen). AxisAgrees b c (view_in v b)) (sym (chosen_more place (is_on b l) b ls l w refl)) (agrees.axes b)
-
-      axes : (b : Axis) → AxisAgrees b (chosen b (ls ++ (l ∷ []))) (view_in placed b)
-      axes Column = kept Column
-      axes Row = kept Row
-
-      go : (c d f g i : Bool) → (by c d f g i).fault ≡ 0 → Agrees (ls ++ (l ∷ [])) (by c d f g i).panel
-      go true d f g i = λ z. absurd (outside z)
-      go false true f g i = λ z. absurd (outside z)
-      go false false true g i = λ z. absurd (not-zero 1 z)
-      go false false false true i = λ z. absurd (not-zero 1 z)
-      go false false false false true = λ z. absurd (not-zero 7 z)
-      go false false false false false = λ z. record {
-        axes = axes;
-        picture = agrees.picture ∙ ap (map words_in) (sym (other_kind place row ls l w refl));
-        areas = agrees.areas ∙ ap (λ (m : List Line). areas_of v.picture ++ map area_in m) (sym (other_kind place area ls l w refl));
-        placements =
-            ap₂ (λ (m : List Placement) (x : Placement). m ++ (x ∷ [])) agrees.placements q
-            ∙ sym (ap (map placement_in) (own_kind place ls l w) ∙ map-append placement_in (lines_with place ls) (l ∷ []));
-      }
+  -- a cell
+  cell-line : (cs ce rs re : PlacedEnd) → at l 0 ≡ word cell → half Column cs ce ∷ half Row rs re ∷ [] ≡ halves_in l → v.lines ≡ held (length ls) → (cell_step v cs ce rs re).fault ≡ 0
+      → Agrees (ls ++ (l ∷ [])) (cell_step v cs ce rs re).panel
+  unfolding cell_step same more
+  cell-line cs ce rs re w q counted z =
+      let two : item_in l ≡ halves_in l = rw w in
+      let own : is_of cell l ≡ true = rw w in
+      let n : next_line v.lines ≡ held (1 + length ls) = omega (arith, counted) in
+      subst (Agrees (ls ++ (l ∷ []))) (sym (taken (lower (ends_fault cs ce) (ends_fault rs re)) _ z))
+      (item-agrees-with cell w refl refl (λ b c. refl) _ _
+      (append_assoc v.placements (half Column cs ce ∷ []) (half Row rs re ∷ [])
+      ∙ ap₂ (λ (m x : List Placement). m ++ x) agrees.placements q
+      ∙ sym (placements_more ls l ∙ ap (λ (m : List Placement). placements_of ls ++ m) two))
+      (ap₂ (λ (m : List ℕ) (k : ℕ). m ++ (k ∷ [])) agrees.cells n
+      ∙ sym (ap (map held) (cells_more 1 ls l ∙ ap (λ (t : Bool). cells_from 1 ls ++ cond t ((1 + length ls) ∷ []) []) own) ∙ map-append held (cells_from 1 ls) ((1 + length ls) ∷ []))))
 
   -- a row of a picture
   row_line_lem : at l 0 ≡ word row → lines_with area ls ≡ [] → (picture_step v (words_in l)).fault ≡ 0 → Agrees (ls ++ (l ∷ [])) (drawn_row v (words_in l))
@@ -200,7 +279,8 @@ module _ (ls : List Line) (v : PanelView) (agrees : Agrees ls v) (l : Line) wher
     areas =
         sym (append-nil (areas_of (with_words v.picture (words_in l))))
         ∙ ap (λ (m : List Line). areas_of (with_words v.picture (words_in l)) ++ map area_in m) (sym (other_kind row area ls l w (unfold same in refl) ∙ apart));
-    placements = agrees.placements ∙ ap (map placement_in) (sym (other_kind row place ls l w (unfold same in refl)));
+    placements = agrees.placements ∙ sym (other_items row ls l w (unfold same in refl) (unfold same in refl));
+    cells = agrees.cells ∙ ap (map held) (sym (other_cells row 1 ls l w (unfold same in refl)));
   }
     where
       own : lines_with row (ls ++ (l ∷ [])) ≡ lines_with row ls ++ (l ∷ [])
@@ -248,30 +328,35 @@ module _ (ls : List Line) (v : PanelView) (agrees : Agrees ls v) (l : Line) wher
   record-agrees x (Fault n) s h z g y = absurd (h z)
   record-agrees x (AxisLine a) s h z g y =
       let b = a.axis in
-      on_axis_lem axis s.0.word refl refl refl (λ c. refl) b s.1 _
+      on_axis_lem axis s.0.word refl refl refl refl (λ c. refl) b s.1 _
       (axis-agrees b (chosen b ls) (view_in v b) (agrees.axes b) l (bit a.definite) a.inner a.rule a.gap (λ i. record { seen = 1; definite = h.definite i; inner = h.inner i; rule = h.rule i; gap = h.gap i }))
   record-agrees x (Area a) s h z g y = area-line (edges_of a) s.word h y
   record-agrees x (Name a) s h z g y =
-      on_axis_lem name s.0.word refl refl refl (λ c. refl) a s.1 _
+      on_axis_lem name s.0.word refl refl refl refl (λ c. refl) a s.1 _
       (template-agrees a (chosen a ls) (view_in v a) (agrees.axes a) l (piece (a_name (at l 2))) _ (name-written (view_in v a) (at l 2) y) (rw s.0.word))
   record-agrees x (Track a low high) s h z g y =
-      on_axis_lem track s.0.word refl refl refl (λ c. refl) a s.1 _
+      on_axis_lem track s.0.word refl refl refl refl (λ c. refl) a s.1 _
       (template-agrees a (chosen a ls) (view_in v a) (agrees.axes a) l (piece (a_track (record { min = low; max = high }))) _ (track-written (view_in v a) low high y) (rw (s.0.word, h.0, h.1)))
   record-agrees x (Repeat a n) s h z g y =
       let q = h z in
-      on_axis_lem repeat s.0.word refl refl refl (λ c. refl) a s.1 _
+      on_axis_lem repeat s.0.word refl refl refl refl (λ c. refl) a s.1 _
       (template-agrees a (chosen a ls) (view_in v a) (agrees.axes a) l (opening (repeat_kind n.kind) n.number) _ (repeat-written (view_in v a) n.kind n.number y) (rw (s.0.word, q.kind, q.number)))
   record-agrees x (End a) s h z g y =
-      on_axis_lem end s.0.word refl refl refl (λ c. refl) a s.1 _
+      on_axis_lem end s.0.word refl refl refl refl (λ c. refl) a s.1 _
       (template-agrees a (chosen a ls) (view_in v a) (agrees.axes a) l closing _ (end-written (view_in v a) y) (rw s.0.word))
   record-agrees x (Spare a low high) s h z g y =
-      on_axis_lem spare s.0.word refl refl refl (λ c. refl) a s.1 _
+      on_axis_lem spare s.0.word refl refl refl refl (λ c. refl) a s.1 _
       (spare-agrees a (chosen a ls) (view_in v a) (agrees.axes a) l low high (ap₂ (λ (x w : ℕ). record { min = x; max = w }) h.0 h.1) y)
-  record-agrees x (Extra a n p) s h z g y = on_axis_lem extra s.0.word refl refl refl (λ c. refl) a s.1 _ (extra-agrees a (chosen a ls) (view_in v a) (agrees.axes a) l n p h.0 h.1)
-  record-agrees x (Item a i) s h z g y = on_axis_lem item s.0.word refl refl refl (λ c. refl) a s.1 _ (item-agrees a (chosen a ls) (view_in v a) (agrees.axes a) l i h y)
+  record-agrees x (Extra a n p) s h z g y = on_axis_lem extra s.0.word refl refl refl refl (λ c. refl) a s.1 _ (extra-agrees a (chosen a ls) (view_in v a) (agrees.axes a) l n p h.0 h.1)
+  record-agrees x (Item a i) s h z g y = on_axis_lem item s.0.word refl refl refl refl (λ c. refl) a s.1 _ (item-agrees a (chosen a ls) (view_in v a) (agrees.axes a) l i h y)
   record-agrees x (Place a s e) o h z g y =
       place-line a _ _ o.0.word
-      (λ i. record { axis = sym (axis-in a o.1) i; start = end_in_lem (at l 2) (at l 3) (at l 4) s h.0 i; end = end_in_lem (at l 5) (at l 6) (at l 7) e h.1 i }) y
+      (λ i. record { axis = sym (axis-in a o.1) i; cell = false; start = end_in_lem (at l 2) (at l 3) (at l 4) s h.0 i; end = end_in_lem (at l 5) (at l 6) (at l 7) e h.1 i }) y
+  record-agrees x (Cell cs ce rs re) s h z g y =
+      cell-line _ _ _ _ s.word
+      (λ i. record { axis = Column; cell = true; start = end_in_lem (at l 1) (at l 2) (at l 3) cs h.0.0 i; end = end_in_lem (at l 4) (at l 5) (at l 6) ce h.0.1 i }
+      ∷ record { axis = Row; cell = true; start = end_in_lem (at l 7) (at l 8) (at l 9) rs h.1.0 i; end = end_in_lem (at l 10) (at l 11) (at l 12) re h.1.1 i }
+      ∷ []) x.counted y
   record-agrees x (PictureRow n) s h z g y =
       let fault : (picture_step v (words_in l)).fault ≡ 0 = rw g at y in
       rw g (subst (Agrees (ls ++ (l ∷ []))) (sym (row_taken v (words_in l) fault).panel) (row_line_lem s.word (x.timely g) fault))
@@ -287,7 +372,7 @@ line-agrees ls v agrees apart l z =
     (staged (stage_of v r) (record_step v l r).panel (record-agrees ls v agrees l apart r (record_says l) (record_reads l) c.own c.timely c.step))
   where
     staged : (n : ℕ) (w : PanelView) → Agrees (ls ++ (l ∷ [])) w → Agrees (ls ++ (l ∷ [])) (at_stage n w)
-    staged n w p = record { axes = both; picture = p.picture; areas = p.areas; placements = p.placements }
+    staged n w p = record { axes = both; picture = p.picture; areas = p.areas; placements = p.placements; cells = p.cells }
       where
         both : (a : Axis) → AxisAgrees a (chosen a (ls ++ (l ∷ []))) (view_in (at_stage n w) a)
         both Column = p.axes Column
@@ -298,13 +383,18 @@ module _ (ls : List Line) (v : PanelView) (apart : Apart ls v) (l : Line) where
   abbrev longer : List Line
   longer = ls ++ (l ∷ [])
 
+  -- one line more is counted
+  one_more_lem : (w : PanelView) → w.lines ≡ v.lines → next_line w.lines ≡ held (length longer)
+  one_more_lem w k = omega (arith, k, apart.counted, length-append ls (l ∷ []))
+
   -- after any other record both are late
-  other-apart : (j : Kind) (w : PanelView) → at l 0 ≡ word j → same (word j) (word row) ≡ false → same (word j) (word area) ≡ false → Apart longer (at_stage 3 w)
-  other-apart j w o d e =
+  other-apart : (j : Kind) (w : PanelView) → w.lines ≡ v.lines → at l 0 ≡ word j → same (word j) (word row) ≡ false → same (word j) (word area) ≡ false → Apart longer (at_stage 3 w)
+  other-apart j w c o d e =
       record {
         undrawn = λ h. absurd (omega (arith, h));
         timely = λ h. absurd (false≢true (sym h));
         either = keep apart.either;
+        counted = one_more_lem w c;
       }
     where
       keep : (lines_with row ls ≡ []) ⊎ (lines_with area ls ≡ []) → (lines_with row longer ≡ []) ⊎ (lines_with area longer ≡ [])
@@ -325,32 +415,33 @@ module _ (ls : List Line) (v : PanelView) (apart : Apart ls v) (l : Line) where
       zero : (n : ℕ) → n ≤ 0 → n ≡ 0
       zero n h = omega arith
 
-  record_apart : (r : Record) (w : PanelView) → Says l r → Reads l r → fault_of r ≡ 0 → late_at (stage_of v r) v.stage ≡ false → Apart longer (at_stage (stage_of v r) w)
+  record_apart : (r : Record) (w : PanelView) → w.lines ≡ v.lines → Says l r → Reads l r → fault_of r ≡ 0 → late_at (stage_of v r) v.stage ≡ false → Apart longer (at_stage (stage_of v r) w)
   unfolding same
-  record_apart (Fault n) w s h f g = absurd (h f)
-  record_apart (AxisLine a) w s h f g =
+  record_apart (Fault n) w c s h f g = absurd (h f)
+  record_apart (AxisLine a) w c s h f g =
       let m = at_most 0 g in
       let rows : lines_with row longer ≡ [] = other_kind axis row ls l s.0.word refl ∙ apart.undrawn (omega (arith, m)) in
-      record { undrawn = λ k. rows; timely = λ k. other_kind axis area ls l s.0.word refl ∙ apart.timely (at_first v.stage m); either = inl rows }
-  record_apart (Area a) w s h f g =
+      record { undrawn = λ k. rows; timely = λ k. other_kind axis area ls l s.0.word refl ∙ apart.timely (at_first v.stage m); either = inl rows; counted = one_more_lem w c }
+  record_apart (Area a) w c s h f g =
       let rows : lines_with row longer ≡ [] = other_kind area row ls l s.word refl ∙ apart.undrawn (at_most 1 g) in
-      record { undrawn = λ k. rows; timely = λ k. absurd (false≢true (sym k)); either = inl rows }
-  record_apart (Name a) w s h f g = other-apart name w s.0.word refl refl
-  record_apart (Track a low high) w s h f g = other-apart track w s.0.word refl refl
-  record_apart (Repeat a n) w s h f g = other-apart repeat w s.0.word refl refl
-  record_apart (End a) w s h f g = other-apart end w s.0.word refl refl
-  record_apart (Spare a low high) w s h f g = other-apart spare w s.0.word refl refl
-  record_apart (Extra a n p) w s h f g = other-apart extra w s.0.word refl refl
-  record_apart (Item a i) w s h f g = other-apart item w s.0.word refl refl
-  record_apart (Place a u e) w s h f g = other-apart place w s.0.word refl refl
-  record_apart (PictureRow n) w s h f g =
+      record { undrawn = λ k. rows; timely = λ k. absurd (false≢true (sym k)); either = inl rows; counted = one_more_lem w c }
+  record_apart (Name a) w c s h f g = other-apart name w c s.0.word refl refl
+  record_apart (Track a low high) w c s h f g = other-apart track w c s.0.word refl refl
+  record_apart (Repeat a n) w c s h f g = other-apart repeat w c s.0.word refl refl
+  record_apart (End a) w c s h f g = other-apart end w c s.0.word refl refl
+  record_apart (Spare a low high) w c s h f g = other-apart spare w c s.0.word refl refl
+  record_apart (Extra a n p) w c s h f g = other-apart extra w c s.0.word refl refl
+  record_apart (Item a i) w c s h f g = other-apart item w c s.0.word refl refl
+  record_apart (Place a u e) w c s h f g = other-apart place w c s.0.word refl refl
+  record_apart (Cell cs ce rs re) w c s h f g = other-apart cell w c s.word refl refl
+  record_apart (PictureRow n) w c s h f g =
       let areas : lines_with area longer ≡ [] = other_kind row area ls l s.word refl ∙ apart.timely g in
-      record { undrawn = λ k. absurd (omega (arith, k)); timely = λ k. areas; either = inr areas }
+      record { undrawn = λ k. absurd (omega (arith, k)); timely = λ k. areas; either = inr areas; counted = one_more_lem w c }
 
   pub line-apart : (line_step v l).fault ≡ 0 → Apart longer (line_step v l).panel
   line-apart z =
       let c = clean_line v l z in
-      subst (Apart longer) (sym c.panel) (record_apart (record_of l) (record_step v l (record_of l)).panel (record_says l) (record_reads l) c.own c.timely)
+      subst (Apart longer) (sym c.panel) (record_apart (record_of l) (record_step v l (record_of l)).panel (record_lines_lem v l (record_of l)) (record_says l) (record_reads l) c.own c.timely)
 
 -- and no repeat is left open
 record AgreesEnded (ls : List Line) (v : PanelView) : Type 0 where
@@ -400,8 +491,8 @@ run-agrees n (l ∷ m ∷ ls) before v agrees apart z = go (λ w p q y. run-agre
     go rest false e y = absurd (eqb-false (line_step v (split 9 l)).fault 0 e y)
 
 pub empty_agrees : Agrees [] empty_view
-unfolding empty_view empty_axis those last_of largest is_among template_lines rows_from
-empty_agrees = record { axes = axes; picture = refl; areas = refl; placements = refl }
+unfolding empty_view empty_axis those last_of largest is_among template_lines rows_from placements_of cells_from
+empty_agrees = record { axes = axes; picture = refl; areas = refl; placements = refl; cells = refl }
   where
     undrawn : (a : Axis) → 0 ≡ max (drawn_in a []) 0
     undrawn Column = refl
@@ -425,7 +516,7 @@ empty_agrees = record { axes = axes; picture = refl; areas = refl; placements = 
 
 pub empty_apart : Apart [] empty_view
 unfolding empty_view those
-empty_apart = record { undrawn = λ h. refl; timely = λ h. refl; either = inl refl }
+empty_apart = record { undrawn = λ h. refl; timely = λ h. refl; either = inl refl; counted = refl }
 
 fold-agrees : (s : List ℕ) → (fold_of s).fault ≡ 0 → AgreesEnded (lines_of s) (fold_of s).view
 unfolding fold_of
@@ -434,6 +525,33 @@ fold-agrees s = go (ltb 32768 (length s))
     go : (t : Bool) → (cond t (outcome 1 0 empty_view) (run 1 (split 10 s) empty_view)).fault ≡ 0 → AgreesEnded (lines_of s) (cond t (outcome 1 0 empty_view) (run 1 (split 10 s) empty_view)).view
     go true z = absurd (not-zero 0 z)
     go false z = run-agrees 1 (split 10 s) [] empty_view empty_agrees empty_apart z
+
+-- a sheet has at most as many lines as bytes
+few-parts : (b : ℕ) (s : List ℕ) → length (split b s) ≤ length s + 1
+unfolding split
+few-parts b [] = omega arith
+few-parts b (x ∷ s) = go (eqb x b) (few-parts b s)
+  where
+    go : (t : Bool) → length (split b s) ≤ length s + 1 → length (cond t ([] ∷ split b s) (onto x (split b s))) ≤ length (x ∷ s) + 1
+    go true h = omega (arith, h)
+    go false h = omega (arith, h, length-onto x b s)
+
+few_from : (parts : List (List ℕ)) → length (lines_from parts) ≤ length parts - 1
+unfolding lines_from
+few_from [] = omega arith
+few_from (l ∷ []) = omega arith
+few_from (l ∷ m ∷ ls) = omega (arith, few_from (m ∷ ls))
+
+few-lines : (s : List ℕ) → length (lines_of s) ≤ length s
+few-lines s = omega (arith, few_from (split 10 s), few-parts 10 s)
+
+short_sheet : (s : List ℕ) → (fold_of s).fault ≡ 0 → length s ≤ 32768
+unfolding fold_of
+short_sheet s = go (ltb 32768 (length s)) refl
+  where
+    go : (t : Bool) → ltb 32768 (length s) ≡ t → (cond t (outcome 1 0 empty_view) (run 1 (split 10 s) empty_view)).fault ≡ 0 → length s ≤ 32768
+    go true e z = absurd (not-zero 0 z)
+    go false e z = ltb-false 32768 (length s) e
 
 -- ---- the laws
 
@@ -446,6 +564,7 @@ display_says s z =
       picture = p.agrees.picture;
       areas = p.agrees.areas ∙ ap (λ (m : Picture). areas_of m ++ map area_in (lines_with area (lines_of s))) p.agrees.picture;
       placements = p.agrees.placements;
+      cells = p.agrees.cells ∙ all_held 1 (lines_of s) (omega (arith, few-lines s, short_sheet s (display_former_lem s z).1));
     }
   where
     p : AgreesEnded (lines_of s) (fold_of s).view
@@ -476,6 +595,13 @@ display_says s z =
           areas = agrees.areas;
         }
 
+-- and all its lines are counted
+pub display_lines : (s : List ℕ) → (display_of s).fault ≡ 0 → (display_of s).view.lines ≡ length (lines_of s)
+unfolding display_of
+display_lines s z =
+    let f = (display_former_lem s z).1 in
+    omega (arith, (fold-agrees s f).apart.counted, few-lines s, short_sheet s f)
+
 -- it has rows or `area` lines, but not both
 pub display_either : (s : List ℕ) → (display_of s).fault ≡ 0 → (lines_with row (lines_of s) ≡ []) ⊎ (lines_with area (lines_of s) ≡ [])
 display_either s z = (fold-agrees s (display_former_lem s z).1).apart.either
@@ -484,3 +610,7 @@ display_either s z = (fold-agrees s (display_former_lem s z).1).apart.either
 pub view_says : (s : List ℕ) → (sheet_of s).fault ≡ 0 → PanelSays (lines_of s) (sheet_of s).view
 unfolding sheet_of
 view_says s z = display_says s (accepted_former s z).1
+
+pub view_lines : (s : List ℕ) → (sheet_of s).fault ≡ 0 → (sheet_of s).view.lines ≡ length (lines_of s)
+unfolding sheet_of
+view_lines s z = display_lines s (accepted_former s z).1

@@ -12,7 +12,7 @@ use Rattle.text.specs.Split.{split}
 use Rattle.coordinates.specs.declared.axis.Axis.{Axis}
 use Rattle.coordinates.specs.declared.axis.Axis.TheVariants.{Column, Row}
 use Rattle.sheet_forms.specs.Said.{Record}
-use Rattle.sheet_forms.specs.Said.{Fault, Axis as AxisLine, Area, Name, Track, Repeat, End, Spare, Extra, Item, Place, PictureRow}
+use Rattle.sheet_forms.specs.Said.{Fault, Axis as AxisLine, Area, Name, Track, Repeat, End, Spare, Extra, Item, Place, PictureRow, Cell}
 use Rattle.sheet_forms.specs.Words.{at}
 use Rattle.sheet_forms.specs.Records.{record_of}
 use Rattle.axis_tables.specs.View.{AxisView, track_step, repeat_step, end_step, name_step, spare_step, item_step, extra_step, axis_step}
@@ -20,7 +20,7 @@ use Rattle.axis_tables.proofs.Kept.{track-fits, repeat-fits, end_fits, name-fits
 use Rattle.panel_tables.specs.View.{PanelView, refused, accepted, empty_view}
 use Rattle.panel_tables.specs.Axes.{view_in, with_view}
 use Rattle.panel_tables.proofs.Axes.{axis_in_fits, step_in_fits}
-use Rattle.panel_tables.proofs.Fits.{FitsPanel, raised-fits, area-fits, place-fits, empty_fits_panel}
+use Rattle.panel_tables.proofs.Fits.{FitsPanel, raised-fits, area-fits, place-fits, cell-fits, empty_fits_panel}
 use Rattle.picture_rules.specs.Picture.{Word}
 use Rattle.picture_rules.specs.Steps.{rows_from}
 use Rattle.sheet_forms.specs.Fields.{row_fault}
@@ -51,8 +51,10 @@ row_fits v f own ws z = go (leb 10000 (length v.picture)) (ltb 64 (length (areas
           rows = raised-fits v.rows (length v.picture + 2) f.rows;
           areas = ltb-false 64 (length (areas_of (with_words v.picture ws))) e;
           drawn = row-good v f own ws z (leb-false 10000 (length v.picture) d) (ltb-false 64 (length (areas_of (with_words v.picture ws))) e);
-          placements = f.placements;
+          items = f.items;
+          cells = f.cells;
           placed = f.placed;
+          lines = f.lines;
         }
 
     go : (a b c : Bool) → leb 10000 (length v.picture) ≡ a → ltb 64 (length (areas_of (with_words v.picture ws))) ≡ b
@@ -79,6 +81,7 @@ module _ (v : PanelView) (s : FitsSheet v) where
   record-fits fs (Extra a n p) b = step_in_fits v a (extra_step (view_in v a) n p) f (extra-fits (view_in v a) (axis_in_fits v a f) n p)
   record-fits fs (Item a i) b = step_in_fits v a (item_step (view_in v a) i) f (item-fits (view_in v a) (axis_in_fits v a f) i)
   record-fits fs (Place a u e) b = place-fits v a (placed_end (at fs 3) u) (placed_end (at fs 6) e) f
+  record-fits fs (Cell cs ce rs re) b = cell-fits v (placed_end (at fs 2) cs) (placed_end (at fs 5) ce) (placed_end (at fs 8) rs) (placed_end (at fs 11) re) f
   record-fits fs (PictureRow n) b = go (late_at 2 v.stage) refl
     where
       go : (t : Bool) → late_at 2 v.stage ≡ t → FitsPanel (cond t (accepted v) (picture_step v (drop 1 fs))).panel
@@ -86,7 +89,7 @@ module _ (v : PanelView) (s : FitsSheet v) where
       go false e = row_fits v f (s.pictured e) (drop 1 fs) (bounded_row (drop 1 fs) n b)
 
 stage_fits : (n : ℕ) (v : PanelView) → FitsPanel v → FitsPanel (at_stage n v)
-stage_fits n v f = record { columns = f.columns; rows = f.rows; areas = f.areas; drawn = f.drawn; placements = f.placements; placed = f.placed }
+stage_fits n v f = record { columns = f.columns; rows = f.rows; areas = f.areas; drawn = f.drawn; items = f.items; cells = f.cells; placed = f.placed; lines = f.lines }
 
 -- ---- a line
 
@@ -134,6 +137,7 @@ record_pictured v s fs (Spare a min max) g z k = absurd (false≢true (sym k))
 record_pictured v s fs (Extra a n p) g z k = absurd (false≢true (sym k))
 record_pictured v s fs (Item a i) g z k = absurd (false≢true (sym k))
 record_pictured v s fs (Place a u e) g z k = absurd (false≢true (sym k))
+record_pictured v s fs (Cell cs ce rs re) g z k = absurd (false≢true (sym k))
 record_pictured v s fs (PictureRow n) g z k = drawn (late_at 2 v.stage) g z
   where
     drawn : (t : Bool) → t ≡ false → (cond t (accepted v) (picture_step v (drop 1 fs))).fault ≡ 0

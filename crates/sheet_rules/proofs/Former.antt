@@ -9,7 +9,7 @@ use lib.Dec.{eqb, ltb}
 use lib.ListN.{length}
 use Rattle.text.specs.Split.{split}
 use Rattle.sheet_forms.specs.Said.{Record}
-use Rattle.sheet_forms.specs.Said.{Fault, Axis as AxisLine, Area, Name, Track, Repeat, End, Spare, Extra, Item, Place, PictureRow}
+use Rattle.sheet_forms.specs.Said.{Fault, Axis as AxisLine, Area, Name, Track, Repeat, End, Spare, Extra, Item, Place, PictureRow, Cell}
 use Rattle.sheet_forms.specs.Faults.{first_of, no_row, first_row}
 use Rattle.sheet_forms.specs.Records.{record_of, fault_of}
 use Rattle.sheet_forms.proofs.Firsts.{first_either}
@@ -76,6 +76,7 @@ module _ (v : PanelView) (fs : List (List ℕ)) where
   step-other (Item a i) e z = record-other (Item a i) e tt z
   step-other (Place a s t) e z = record-other (Place a s t) e tt z
   step-other (PictureRow n) e z = record-other (PictureRow n) e tt z
+  step-other (Cell cs ce rs re) e z = record-other (Cell cs ce rs re) e tt z
 
   twice-other : (r : Record) → twice_fault v fs r ≡ 12 → ⊥
   twice-other (Fault n) z = omega (arith, z)
@@ -90,6 +91,7 @@ module _ (v : PanelView) (fs : List (List ℕ)) where
   twice-other (Item a i) z = omega (arith, z)
   twice-other (Place a s e) z = omega (arith, z)
   twice-other (PictureRow n) z = omega (arith, z)
+  twice-other (Cell cs ce rs re) z = omega (arith, z)
 
   own-other : fault_of (record_of fs) ≡ 12 → ⊥
   own-other = row-other (λ x. x) (own_first fs)

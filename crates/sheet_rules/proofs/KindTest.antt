@@ -10,7 +10,7 @@ use borrow.Author.Tests.{eq-eqb, eqb-true, le-leb, leb-true}
 use Rattle.text.specs.Split.{same}
 use Rattle.text.proofs.Which.{same_equal, same_self}
 use Rattle.sheet_forms.specs.Words.{at, kind_words}
-use Rattle.sheet_forms.specs.Forms.{Kind, axis, area, name, track, repeat, end, spare, extra, item, place, row, kind_number, Fields, Of}
+use Rattle.sheet_forms.specs.Forms.{Kind, axis, area, name, track, repeat, end, spare, extra, item, place, row, cell, kind_number, Fields, Of}
 use Rattle.sheet_rules.specs.Kinds.{has_fields, is_kind}
 
 fields_yes : (k : Kind) (n : ℕ) → has_fields k n ≡ true → Fields k n
@@ -25,6 +25,7 @@ fields_yes extra n e = eqb-true n 4 e
 fields_yes item n e = eqb-true n 3 e
 fields_yes place n e = eqb-true n 8 e
 fields_yes row n e = leb-true 2 n e
+fields_yes cell n e = eqb-true n 13 e
 
 yes_fields : (k : Kind) (n : ℕ) → Fields k n → has_fields k n ≡ true
 yes_fields axis n e = eq-eqb n 6 e
@@ -38,6 +39,7 @@ yes_fields extra n e = eq-eqb n 4 e
 yes_fields item n e = eq-eqb n 3 e
 yes_fields place n e = eq-eqb n 8 e
 yes_fields row n e = le-leb 2 n e
+yes_fields cell n e = eq-eqb n 13 e
 
 pub kind_exactly : (k : Kind) (fs : List (List ℕ)) → (is_kind k fs ≡ true) ↔ Of fs k
 unfolding is_kind

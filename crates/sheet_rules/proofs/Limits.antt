@@ -18,10 +18,10 @@ use Rattle.name_rules.specs.Template.{repeated, passed, rule_from}
 use Rattle.sheet_forms.specs.Faults.{rank_of, first_of}
 use Rattle.sheet_forms.specs.Fields.{axis_of, rule_of, count_of, repetition_of, codes, name_fault, word_fault, words_fault, row_fault}
 use Rattle.sheet_forms.specs.Sizes.{kind_of, size_of, inner_of}
-use Rattle.sheet_forms.specs.Ends.{end_kind, end_name, end_number, end_of}
-use Rattle.sheet_forms.specs.Records.{axis_line, area_line, name_line, sizes_line, repeat_line, end_line, extra_line, item_line, place_line, row_line, fixed_kind, by_kind, record_of}
+use Rattle.sheet_forms.specs.Ends.{end_kind, end_name, end_number, end_within}
+use Rattle.sheet_forms.specs.Records.{axis_line, area_line, name_line, sizes_line, repeat_line, end_line, extra_line, item_line, place_line, row_line, cell_line, fixed_kind, by_kind, record_of}
 use Rattle.axis_tables.specs.View.{empty_axis, track_step, repeat_step, end_step, name_step, spare_step, item_step, extra_step, axis_step}
-use Rattle.panel_tables.specs.View.{empty_view, area_step, place_step}
+use Rattle.panel_tables.specs.View.{empty_view, area_step, end_fault as end_own, lower, limited_step, place_step, cell_step}
 use Rattle.panel_cells.specs.Steps.{shares, sharing_from}
 use Rattle.picture_rules.specs.Picture.{all_dots, is_dots}
 use Rattle.picture_rules.specs.Steps.{with_word, runs_of, drawn, fits, run_step, runs_from, row_step, rows_from}
@@ -130,8 +130,8 @@ pub reached : T (every cases)
 unfolding every right cases lines digits area areas
     split onto same index digits_of natural_of non_negative negative whole_of count_in index_in bits_from bits_of
     up_to minimum_kind largest_of value_in_range length_in_range float_up_to sizing_of_kind sizing_of rank_of first_of axis_of rule_of count_of repetition_of codes name_fault
-    kind_of size_of inner_of end_kind end_name end_number end_of axis_line area_line name_line sizes_line repeat_line end_line extra_line item_line place_line row_line fixed_kind by_kind record_of
-    empty_axis track_step repeat_step end_step name_step spare_step item_step extra_step axis_step empty_view area_step place_step
+    kind_of size_of inner_of end_kind end_name end_number end_within axis_line area_line name_line sizes_line repeat_line end_line extra_line item_line place_line row_line cell_line fixed_kind by_kind record_of
+    empty_axis track_step repeat_step end_step name_step spare_step item_step extra_step axis_step empty_view area_step end_own lower limited_step place_step cell_step
     template_size_of outside_count automatic_count before_count automatic_tracks any_empty all_fixed every_fixed outside_space repetition_space fitting_of held_of repetitions_of floor_of ceiling_of
     repeated passed rule_from record_step record_fault line_step shares sharing_from strict_fault line_fault shared_at template_size counted entries_of end_fault ended run fold_of broken_at broken_from broken_of display_of overlap_from is_kind row_follows lines_from picture_step all_dots is_dots word_fault words_fault row_fault with_word runs_of drawn fits run_step runs_from row_step rows_from overlap_of sheet_of of_bits add sub mul div lt of_int
 reached = tt
@@ -147,8 +147,8 @@ pub bytes-reached : T (every bytes)
 unfolding every right bytes lines
     split onto same index digits_of natural_of non_negative negative whole_of count_in index_in bits_from bits_of
     up_to minimum_kind largest_of value_in_range length_in_range float_up_to sizing_of_kind sizing_of rank_of first_of axis_of rule_of count_of repetition_of codes name_fault
-    kind_of size_of inner_of end_kind end_name end_number end_of axis_line area_line name_line sizes_line repeat_line end_line extra_line item_line place_line row_line fixed_kind by_kind record_of
-    empty_axis track_step repeat_step end_step name_step spare_step item_step extra_step axis_step empty_view area_step place_step
+    kind_of size_of inner_of end_kind end_name end_number end_within axis_line area_line name_line sizes_line repeat_line end_line extra_line item_line place_line row_line cell_line fixed_kind by_kind record_of
+    empty_axis track_step repeat_step end_step name_step spare_step item_step extra_step axis_step empty_view area_step end_own lower limited_step place_step cell_step
     template_size_of outside_count automatic_count before_count automatic_tracks any_empty all_fixed every_fixed outside_space repetition_space fitting_of held_of repetitions_of floor_of ceiling_of
     repeated passed rule_from record_step record_fault line_step shares sharing_from strict_fault line_fault shared_at template_size counted entries_of end_fault ended run fold_of broken_at broken_from broken_of display_of overlap_from is_kind row_follows lines_from picture_step all_dots is_dots word_fault words_fault row_fault with_word runs_of drawn fits run_step runs_from row_step rows_from overlap_of sheet_of of_bits add sub mul div lt of_int
 bytes-reached = tt

@@ -19,7 +19,7 @@ use Rattle.std.specs.Prelude.{Option, Some, None, Ok, Err}
 use Rattle.text.specs.declared.NumberFault.TheVariants.{Outside}
 use Rattle.sheet_forms.specs.Answers.{NumberField}
 use Rattle.sheet_forms.specs.Said.{Record}
-use Rattle.sheet_forms.specs.Said.{Fault, Axis as AxisLine, Area, Name, Track, Repeat, End, Spare, Extra, Item, Place, PictureRow}
+use Rattle.sheet_forms.specs.Said.{Fault, Axis as AxisLine, Area, Name, Track, Repeat, End, Spare, Extra, Item, Place, PictureRow, Cell}
 use Rattle.sheet_forms.specs.Said.{RepeatRecord}
 use Rattle.sheet_forms.specs.Said.{AxisRecord}
 use Rattle.sheet_forms.specs.Said.{PlaceEnd}
@@ -33,9 +33,9 @@ use Rattle.sheet_forms.specs.Words.{at, dash, nought, kind_words, size_words, ru
 use Rattle.sheet_forms.specs.Faults.{first_of}
 use Rattle.sheet_forms.specs.Fields.{good, faulty, word_of, count_field, axis_of, rule_of, count_of, repetition_of, repetition_at, name_fault, row_fault}
 use Rattle.sheet_forms.specs.Sizes.{allowed_at, faulty_size, size_field, size_of, kind_of, inner_field, no_inner, some_inner, inner_of}
-use Rattle.sheet_forms.specs.Ends.{end_kind, end_name, end_number, index_field, faulty_number, span_field, unused_number, end_of}
-use Rattle.sheet_forms.specs.Records.{unless, edges_of, made_axis, made_area, made_name, made_sizes, made_repeat, made_end, made_extra, made_item, made_place, axis_line, area_line, name_line, sizes_line, repeat_line, end_line, extra_line, item_line, place_line, row_line, record_of}
-use Rattle.sheet_forms.specs.Forms.{Kind, axis, area, name, track, repeat, end, spare, extra, item, place, row}
+use Rattle.sheet_forms.specs.Ends.{end_kind, end_name, end_number, index_field, faulty_number, span_field, unused_number, end_within, end_of, cell_end_of}
+use Rattle.sheet_forms.specs.Records.{unless, edges_of, made_axis, made_area, made_name, made_sizes, made_repeat, made_end, made_extra, made_item, made_place, made_cell, axis_line, area_line, name_line, sizes_line, repeat_line, end_line, extra_line, item_line, place_line, row_line, cell_line, record_of}
+use Rattle.sheet_forms.specs.Forms.{Kind, axis, area, name, track, repeat, end, spare, extra, item, place, row, cell}
 use Rattle.sheet_forms.proofs.Firsts.{none_or_some, first_zero}
 use Rattle.sheet_forms.proofs.FieldRows.{below_or}
 use Rattle.sheet_forms.proofs.LineRows.{kind_at, number_back_lem}
@@ -178,35 +178,38 @@ repetition_value f = go (same fill f) (same fit f) refl refl
     go false false e d z = record { kind = rw (e, d); number = count-value 0 65535 f z }
 
 -- an end is its kind and its number
-number_value : (k : ℕ) (f : List ℕ) → (end_number k f).fault ≡ 0 → (end_number k f).value ≡ whole_in f
+number_value : (least most k : ℕ) (f : List ℕ) → (end_number least most k f).fault ≡ 0 → (end_number least most k f).value ≡ whole_in f
 unfolding end_number whole_in whole_of natural_of non_negative digits_of
-number_value k f = go (eqb k 0) (eqb k 1) (eqb k 2)
+number_value least most k f = go (eqb k 0) (eqb k 1) (eqb k 2) (eqb k 3)
   where
-    by : Bool → Bool → Bool → NumberField
-    by t u w = cond t (unused_number f) (cond u (index_field (index_in (whole_of f))) (cond w (index_field (index_in (whole_of f))) (span_field (count_of 0 65535 f))))
+    by : Bool → Bool → Bool → Bool → NumberField
+    by t u w s =
+        cond t (unused_number f)
+        (cond u (index_field (index_in (whole_of f))) (cond w (index_field (index_in (whole_of f))) (cond s (span_field (count_of least most f)) (span_field (count_of 0 65535 f)))))
 
     unused : (t : Bool) → same f nought ≡ t → (cond t (faulty_number 0) (faulty_number 1)).fault ≡ 0 → (cond t (faulty_number 0) (faulty_number 1)).value ≡ whole_in f
     unused true e z = rw (same_equal f nought e)
     unused false e z = absurd (not-zero 0 z)
 
-    go : (t u w : Bool) → (by t u w).fault ≡ 0 → (by t u w).value ≡ whole_in f
-    go true u w = unused (same f nought) refl
-    go false true w = index_by (whole_of f)
-    go false false true = index_by (whole_of f)
-    go false false false = λ z. sym (count-whole 0 65535 f z)
+    go : (t u w s : Bool) → (by t u w s).fault ≡ 0 → (by t u w s).value ≡ whole_in f
+    go true u w s = unused (same f nought) refl
+    go false true w s = index_by (whole_of f)
+    go false false true s = index_by (whole_of f)
+    go false false false true = λ z. sym (count-whole least most f z)
+    go false false false false = λ z. sym (count-whole 0 65535 f z)
 
 pub record EndReads (f g : List ℕ) (e : PlaceEnd) : Type 0 where
   pub kind : e.kind ≡ index f end_words
   pub number : e.number ≡ whole_in g
 
-end-value : (f n m : List ℕ) → (end_of f n m).fault ≡ 0 → EndReads f m (end_of f n m).end
-unfolding end_of end_kind
-end-value f n m z =
+end-value : (least most : ℕ) (f n m : List ℕ) → (end_within least most f n m).fault ≡ 0 → EndReads f m (end_within least most f n m).end
+unfolding end_within end_kind
+end-value least most f n m z =
     let k = word_of 5 (index f end_words) in
-    let y = first_zero k.fault (first_of (end_name k.value n) (end_number k.value m).fault) z in
+    let y = first_zero k.fault (first_of (end_name k.value n) (end_number least most k.value m).fault) z in
     record {
       kind = word_value 5 (index f end_words) y.0;
-      number = number_value k.value m (first_zero (end_name k.value n) (end_number k.value m).fault y.1).1;
+      number = number_value least most k.value m (first_zero (end_name k.value n) (end_number least most k.value m).fault y.1).1;
     }
 
 -- ---- a line
@@ -230,6 +233,7 @@ Reads fs (Extra a n p) = (n ≡ count_in (at fs 2)) × (p ≡ count_in (at fs 3)
 Reads fs (Item a i) = i ≡ count_in (at fs 2)
 Reads fs (Place a s e) = EndReads (at fs 2) (at fs 4) s × EndReads (at fs 5) (at fs 7) e
 Reads fs (PictureRow n) = Unit {0}
+Reads fs (Cell cs ce rs re) = (EndReads (at fs 1) (at fs 3) cs × EndReads (at fs 4) (at fs 6) ce) × (EndReads (at fs 7) (at fs 9) rs × EndReads (at fs 10) (at fs 12) re)
 
 unless_reads : (fs : Line) (n : ℕ) (r : Record) → (n ≡ 0 → Reads fs r) → Reads fs (unless n r)
 unless_reads fs n r h = ⊎_elim (λ e. rw (eq-eqb n 0 e) (h e)) (λ k. rw (ne_eqb n 0 k) k) (none_or_some n)
@@ -257,7 +261,7 @@ sizes_reads fs is_spare a low high p q =
     go false h = h
 
 line_reads : (k : Kind) (fs : Line) → Reads fs (line_of k fs)
-unfolding axis_line area_line name_line sizes_line repeat_line end_line extra_line item_line place_line row_line
+unfolding axis_line area_line name_line sizes_line repeat_line end_line extra_line item_line place_line row_line cell_line
 line_reads axis fs =
     let a = axis_of (at fs 1) in
     let i = inner_of (at fs 2) in
@@ -329,7 +333,21 @@ line_reads place fs =
     fields_reads fs (eqb (length fs) 8) (made_place a s e)
     (unless_reads fs (first_of a.fault (first_of s.fault e.fault)) (Place a.axis s.end e.end)
     (λ z. let y = first_zero s.fault e.fault (first_zero a.fault (first_of s.fault e.fault) z).1 in
-    (end-value (at fs 2) (at fs 3) (at fs 4) y.0, end-value (at fs 5) (at fs 6) (at fs 7) y.1)))
+    (end-value 0 65535 (at fs 2) (at fs 3) (at fs 4) y.0, end-value 0 65535 (at fs 5) (at fs 6) (at fs 7) y.1)))
+line_reads cell fs =
+    let cs = cell_end_of (at fs 1) (at fs 2) (at fs 3) in
+    let ce = cell_end_of (at fs 4) (at fs 5) (at fs 6) in
+    let rs = cell_end_of (at fs 7) (at fs 8) (at fs 9) in
+    let re = cell_end_of (at fs 10) (at fs 11) (at fs 12) in
+    fields_reads fs (eqb (length fs) 13) (made_cell cs ce rs re)
+    (unless_reads fs (first_of cs.fault (first_of ce.fault (first_of rs.fault re.fault))) (Cell cs.end ce.end rs.end re.end)
+    (λ z.
+    let z1 = first_zero cs.fault (first_of ce.fault (first_of rs.fault re.fault)) z in
+    let z2 = first_zero ce.fault (first_of rs.fault re.fault) z1.1 in
+    let z3 = first_zero rs.fault re.fault z2.1 in (
+      (end-value 1 32 (at fs 1) (at fs 2) (at fs 3) z1.0, end-value 1 32 (at fs 4) (at fs 5) (at fs 6) z2.0),
+      (end-value 1 32 (at fs 7) (at fs 8) (at fs 9) z3.0, end-value 1 32 (at fs 10) (at fs 11) (at fs 12) z3.1),
+    )))
 line_reads row fs = go (ltb (length fs) 2)
   where
     go : (t : Bool) → Reads fs (cond t (Fault 1) (unless (row_fault (drop 1 fs)) (PictureRow (length (drop 1 fs)))))
@@ -345,4 +363,4 @@ record_reads fs =
     let w = index_word (at fs 0) kind_words h ∙ ap (λ (i : ℕ). get_or kind_words i []) (sym (number_back_lem (index (at fs 0) kind_words) h)) in
     subst (Reads fs) (sym (line_record k fs w)) (line_reads k fs))
     (λ h. subst (Reads fs) (sym (no_record fs h)) (not-zero 0))
-    (below_or (index (at fs 0) kind_words) 11)
+    (below_or (index (at fs 0) kind_words) 12)

@@ -9,24 +9,25 @@ use lib.Dec.{eqb, leb, ltb, leb→le}
 use lib.IntN.{ℤ, pos, negsuc}
 use lib.Signed.{◌≤ℤ◌}
 use lib.ListN.{length, drop}
-use borrow.Author.Tests.{le-ltb, le-leb, eqb-true, eqb-false, ltb-true, ltb-false, leb-true, leb-false}
+use borrow.Author.Tests.{eq-eqb, le-ltb, le-leb, eqb-true, eqb-false, ltb-true, ltb-false, leb-true, leb-false}
 use Rattle.coordinates.specs.declared.axis.Axis.{Axis}
 use Rattle.text.specs.Split.{same}
 use Rattle.text.proofs.Which.{same_equal, unequal as not_same}
 use Rattle.sheet_forms.specs.Said.{Record}
-use Rattle.sheet_forms.specs.Said.{Fault, Axis as AxisLine, Area as AreaLine, Name, Track, Repeat, End, Spare, Extra, Item, Place, PictureRow}
+use Rattle.sheet_forms.specs.Said.{Fault, Axis as AxisLine, Area as AreaLine, Name, Track, Repeat, End, Spare, Extra, Item, Place, PictureRow, Cell}
 use Rattle.sheet_forms.specs.Said.{PlaceEnd}
 use Rattle.sheet_forms.specs.Words.{at}
 use Rattle.sheet_forms.specs.Faults.{rank_of, first_of}
 use Rattle.sheet_forms.specs.Ends.{uses_name}
-use Rattle.sheet_forms.specs.Forms.{Kind, axis, area, name, track, repeat, end, spare, extra, item, place, row, Of}
+use Rattle.sheet_forms.specs.Forms.{Kind, axis, area, name, track, repeat, end, spare, extra, item, place, row, cell, Of}
 use Rattle.sheet_forms.proofs.Firsts.{firsts-by, first_left, first_one, first_none}
 use Rattle.sheet_forms.proofs.LineRows.{same_kind_lem}
 use Rattle.sheet_forms.proofs.FieldBounds.{EndBounded}
 use Rattle.sheet_forms.proofs.Bounds.{Bounded}
 use Rattle.axis_tables.specs.View.{Unended, none, inside, AxisView, refused as refused_axis, accepted as accepted_axis, track_by, track_step, repeat_by, repeat_step, end_by, end_step, name_step, spare_step, item_step, extra_step, axis_step, tracks_in, components_of, axis_names, axis_bytes, no_room, named_fault}
-use Rattle.panel_tables.specs.View.{Area, PanelView, has_area, refused, accepted, edge_outside, number_outside, end_outside, area_step, place_step}
+use Rattle.panel_tables.specs.View.{Area, PanelView, has_area, refused, accepted, edge_outside, number_outside, end_outside, ends_fault, items, limited_step, lower, area_step, place_step, cell_step}
 use Rattle.panel_tables.specs.Axes.{view_in}
+use Rattle.panel_tables.proofs.Fits.{GoodEnd, ends_none, lower-none}
 use Rattle.picture_rules.specs.Picture.{Picture, width_of}
 use Rattle.panel_cells.specs.Cells.{SharedBy}
 use Rattle.panel_cells.specs.Steps.{first_sharing}
@@ -99,6 +100,10 @@ end-few f e b = go (uses_name e.kind) refl
     go true q = le-ltb 32 (length f) (b.named q).few
     go false q = refl
 
+-- so it is good
+pub good-end : (f : List ℕ) (e : PlaceEnd) → EndBounded f e → GoodEnd (placed_end f e)
+good-end f e b = record { short = ltb-false 32 (length (placed_end f e).name) (end-few f e b); end = end_in_lem f e b }
+
 -- ---- the faults of a record
 
 abbrev pub IsRecord : Record → Type 0
@@ -114,6 +119,7 @@ IsRecord (Extra a n p) = Unit {0}
 IsRecord (Item a i) = Unit {0}
 IsRecord (Place a s e) = Unit {0}
 IsRecord (PictureRow n) = Unit {0}
+IsRecord (Cell cs ce rs re) = Unit {0}
 
 module _ (v : PanelView) (fs : List (List ℕ)) where
   at-kind : (P : Kind → PanelView → List (List ℕ) → Type 0) (k : Kind) → Of fs k → AtKind P v fs → P k v fs
@@ -147,6 +153,7 @@ module _ (v : PanelView) (fs : List (List ℕ)) where
   twice-first (Item a j) i (o, x) = no-twice item o (λ y. y)
   twice-first (Place a s e) i (o, x) = no-twice place o (λ y. y)
   twice-first (PictureRow n) i o = no-twice row o (λ y. y)
+  twice-first (Cell cs ce rs re) i o = no-twice cell o (λ y. y)
 
   -- late
   abbrev pub LateRow : Row → Type 0
@@ -168,6 +175,7 @@ module _ (v : PanelView) (fs : List (List ℕ)) where
   late-first (Item a j) i (o, x) = late_by item o
   late-first (Place a s e) i (o, x) = late_by place o
   late-first (PictureRow n) i o = late_by row o
+  late-first (Cell cs ce rs re) i o = late_by cell o
 
   -- overlap
   abbrev pub OverlapRow : Row → Type 0
@@ -197,6 +205,7 @@ module _ (v : PanelView) (fs : List (List ℕ)) where
   overlap-first (Item a j) i (o, x) h = no-overlap item o (λ y. y)
   overlap-first (Place a s e) i (o, x) h = no-overlap place o (λ y. y)
   overlap-first (PictureRow n) i o h = no-overlap row o (λ y. y)
+  overlap-first (Cell cs ce rs re) i o h = no-overlap cell o (λ y. y)
 
   -- misnested and crowded
   abbrev pub NestRow : Row → Type 0
@@ -228,6 +237,14 @@ module _ (v : PanelView) (fs : List (List ℕ)) where
       → First StepRow (cond t (refused 8 x) (accepted y)).fault
   crowded-if k o u h true x y p q = nested k o u h (only_yes crowded refl (k, o, p refl))
   crowded-if k o u h false x y p q = neither k o u h (q refl)
+
+  -- a `place` or a `cell` whose ends have no fault
+  limited-first : (k : Kind) → Of fs k → (UnequalBy k v fs → ⊥) → (MisnestedBy k v fs → ⊥) → (fault : ℕ) (after : PanelView) → fault ≡ 0 → (256 ≤ items v → CrowdedBy k v fs) → (CrowdedBy k v fs → 256 ≤ items v)
+      → First StepRow (limited_step v fault after).fault
+  unfolding limited_step
+  limited-first k o u h fault after e p q =
+      rw (eq-eqb fault 0 e)
+      (crowded-if k o u h (leb 256 (items v)) _ _ (λ t. p (leb-true 256 (items v) t)) (λ t y. omega (arith, leb-false 256 (items v) t, q y)))
 
   crowded-on : (k : Kind) → Of fs k → (UnequalBy k v fs → ⊥) → (MisnestedBy k v fs → ⊥) → (t : Bool) (x y : AxisView) → (t ≡ true → CrowdedBy k v fs) → (t ≡ false → CrowdedBy k v fs → ⊥)
       → First StepRow (cond t (refused_axis 8 x) (accepted_axis y)).fault
@@ -361,7 +378,7 @@ module _ (v : PanelView) (fs : List (List ℕ)) where
           (λ z x. let y = at-kind UnequalBy row o x in wide-no p (length (drop 1 fs)) z y.1 y.2))))
 
   pub step-first : (r : Record) → IsRecord r → Says fs r → Bounded fs r → First StepRow (record_step v fs r).fault
-  unfolding record_step area_step place_step name_step spare_step item_step extra_step axis_step
+  unfolding record_step area_step place_step cell_step name_step spare_step item_step extra_step axis_step
   step-first (Fault n) i s b = absurd i
   step-first (AxisLine a) i (o, x) b = neither axis o (λ y. y) (λ y. y) (λ y. y)
   step-first (AreaLine a) i o b =
@@ -387,11 +404,11 @@ module _ (v : PanelView) (fs : List (List ℕ)) where
   step-first (Extra a n p) i (o, x) b = neither extra o (λ y. y) (λ y. y) (λ y. y)
   step-first (Item a j) i (o, x) b = rw (le-ltb 29999 j b) (neither item o (λ y. y) (λ y. y) (λ y. y))
   step-first (Place a s e) i (o, x) b =
-      rw (
-        end_in_lem (at fs 3) s b.0,
-        end_in_lem (at fs 6) e b.1,
-        end-few (at fs 3) s b.0,
-        end-few (at fs 6) e b.1,
-      )
-      (crowded-if place o (λ y. y) (λ y. y) (leb 256 (length v.placements)) _ _ (leb-true 256 (length v.placements)) (λ t y. omega (arith, leb-false 256 (length v.placements) t, y)))
+      limited-first place o (λ y. y) (λ y. y) (ends_fault (placed_end (at fs 3) s) (placed_end (at fs 6) e)) _
+      (ends_none (placed_end (at fs 3) s) (placed_end (at fs 6) e) (good-end (at fs 3) s b.0) (good-end (at fs 6) e b.1)) (λ y. omega (arith, y)) (λ y. omega (arith, y))
+  step-first (Cell cs ce rs re) i o b =
+      let c = ends_none (placed_end (at fs 2) cs) (placed_end (at fs 5) ce) (good-end (at fs 2) cs b.0.0) (good-end (at fs 5) ce b.0.1) in
+      let r = ends_none (placed_end (at fs 8) rs) (placed_end (at fs 11) re) (good-end (at fs 8) rs b.1.0) (good-end (at fs 11) re b.1.1) in
+      limited-first cell o (λ y. y) (λ y. y) (lower (ends_fault (placed_end (at fs 2) cs) (placed_end (at fs 5) ce)) (ends_fault (placed_end (at fs 8) rs) (placed_end (at fs 11) re))) _
+      (lower-none (ends_fault (placed_end (at fs 2) cs) (placed_end (at fs 5) ce)) (ends_fault (placed_end (at fs 8) rs) (placed_end (at fs 11) re)) c r) (λ y. omega (arith, y)) (λ y. omega (arith, y))
   step-first (PictureRow n) i o b = row_first o

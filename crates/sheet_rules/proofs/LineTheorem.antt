@@ -9,10 +9,10 @@ use native.Mathlib.Omega.{arith}
 use lib.Dec.{eqb}
 use borrow.Author.Tests.{eqb-true, eqb-false}
 use Rattle.sheet_forms.specs.Said.{Record}
-use Rattle.sheet_forms.specs.Said.{Fault, Axis as AxisLine, Area, Name, Track, Repeat, End, Spare, Extra, Item, Place, PictureRow}
+use Rattle.sheet_forms.specs.Said.{Fault, Axis as AxisLine, Area, Name, Track, Repeat, End, Spare, Extra, Item, Place, PictureRow, Cell}
 use Rattle.sheet_forms.specs.Faults.{rank_of, first_of, no_row, first_row}
 use Rattle.sheet_forms.specs.Records.{record_of, fault_of}
-use Rattle.sheet_forms.specs.Forms.{axis, area, name, track, repeat, end, spare, extra, item, place, row}
+use Rattle.sheet_forms.specs.Forms.{axis, area, name, track, repeat, end, spare, extra, item, place, row, cell}
 use Rattle.sheet_forms.proofs.Firsts.{firsts-by, first-same, first-unique, first_none, first_left, first_joined, first_without}
 use Rattle.sheet_forms.proofs.Bounds.{Bounded}
 use Rattle.sheet_forms.proofs.Theorem.{record_bounded}
@@ -105,6 +105,7 @@ module _ (v : PanelView) (fs : List (List ℕ)) where
   not-misnested n (r, e) h (item, o, x) = x
   not-misnested n (r, e) h (place, o, x) = x
   not-misnested n (r, e) h (row, o, x) = x
+  not-misnested n (r, e) h (cell, o, x) = x
 
   fault-row : (n : ℕ) → Says fs (Fault n) → (n ≡ 0 → ⊥) → First (OwnRows fs) n → First (Holds v fs) n
   unfolding rank_of
@@ -157,6 +158,7 @@ module _ (v : PanelView) (fs : List (List ℕ)) where
   record-rows (Item a i) e = record-row (Item a i) e tt
   record-rows (Place a s t) e = record-row (Place a s t) e tt
   record-rows (PictureRow n) e = record-row (PictureRow n) e tt
+  record-rows (Cell cs ce rs re) e = record-row (Cell cs ce rs re) e tt
 
   pub outcome-fault : (r : Record) → (record_outcome v fs r).fault ≡ record_fault v fs r
   outcome-fault r = go (eqb (record_fault v fs r) 0) _ _ refl

@@ -12,9 +12,9 @@ use borrow.Author.Tests.{eqb-true, eqb-false, leb-true, leb-false}
 use Rattle.text.specs.Split.{split, same}
 use Rattle.sheet_forms.specs.declared.AreaRecord.{AreaRecord}
 use Rattle.sheet_forms.specs.Said.{Record}
-use Rattle.sheet_forms.specs.Said.{Fault, Axis as AxisLine, Area as AreaLine, Name, Track, Repeat, End, Spare, Extra, Item, Place, PictureRow}
+use Rattle.sheet_forms.specs.Said.{Fault, Axis as AxisLine, Area as AreaLine, Name, Track, Repeat, End, Spare, Extra, Item, Place, PictureRow, Cell}
 use Rattle.sheet_forms.specs.Faults.{first_of}
-use Rattle.sheet_forms.specs.Forms.{Kind, axis, area, name, track, repeat, end, spare, extra, item, place, row}
+use Rattle.sheet_forms.specs.Forms.{Kind, axis, area, name, track, repeat, end, spare, extra, item, place, row, cell}
 use Rattle.sheet_forms.specs.Records.{record_of, fault_of}
 use Rattle.sheet_forms.proofs.Firsts.{first_zero}
 use Rattle.panel_tables.specs.declared.AreaEdges.{AreaEdges}
@@ -82,6 +82,7 @@ module _ (before : List Line) (v : PanelView) (agrees : Agrees before v) (apart 
   shared-first (Item a i) e q h = absurd (h refl)
   shared-first (Place a s t) e q h = absurd (h refl)
   shared-first (PictureRow n) e q h = absurd (h refl)
+  shared-first (Cell cs ce rs re) e q h = absurd (h refl)
 
   -- what is not late stands at its place or before
   in-time : late_at 1 v.stage ≡ false → v.stage ≤ 1
@@ -108,6 +109,7 @@ module _ (before : List Line) (v : PanelView) (agrees : Agrees before v) (apart 
   shared-none (Item a i) s x e f g z = not-drawn item (other_kind item area before fs s.0.word refl)
   shared-none (Place a u t) s x e f g z = not-drawn place (other_kind place area before fs s.0.word refl)
   shared-none (PictureRow n) s x e f g z = not-drawn row (other_kind row area before fs s.word refl)
+  shared-none (Cell cs ce rs re) s x e f g z = not-drawn cell (other_kind cell area before fs s.word refl)
 
   -- a line at which an overlap is noted
   noted : (shared_at v fs ≡ 0 → ⊥) → FirstPair (drawn_by after) (shared_at v fs) (length v.areas + 1) × (length (drawn_by after) ≡ length v.areas + 1)

@@ -12,11 +12,11 @@ use Rattle.picture_rules.specs.Picture.{Word}
 use Rattle.picture_rules.specs.Steps.{taken_of}
 use Rattle.picture_rules.proofs.Theorem.{picture_exactly}
 use Rattle.sheet_forms.specs.Said.{Record}
-use Rattle.sheet_forms.specs.Said.{Fault, Axis as AxisLine, Area, Name, Track, Repeat, End, Spare, Extra, Item, Place, PictureRow}
+use Rattle.sheet_forms.specs.Said.{Fault, Axis as AxisLine, Area, Name, Track, Repeat, End, Spare, Extra, Item, Place, PictureRow, Cell}
 use Rattle.sheet_forms.specs.Faults.{first_of}
 use Rattle.sheet_forms.specs.Fields.{row_fault}
 use Rattle.sheet_forms.specs.Records.{unless, row_line, record_of, fault_of}
-use Rattle.sheet_forms.specs.Forms.{Kind, axis, area, name, track, repeat, end, spare, extra, item, place, row, Of}
+use Rattle.sheet_forms.specs.Forms.{Kind, axis, area, name, track, repeat, end, spare, extra, item, place, row, cell, Of}
 use Rattle.sheet_forms.proofs.Firsts.{first_zero}
 use Rattle.sheet_forms.proofs.LineFaults.{line_record}
 use Rattle.coordinates.specs.declared.axis.Axis.{Axis}
@@ -24,8 +24,9 @@ use Rattle.coordinates.specs.declared.axis.Axis.TheVariants.{Column, Row}
 use Rattle.sheet_forms.specs.Words.{at}
 use Rattle.axis_tables.specs.View.{AxisView, named_fault}
 use Rattle.panel_tables.specs.declared.AreaEdges.{AreaEdges}
-use Rattle.panel_tables.specs.View.{End as PlacedEnd, PanelView, PanelOutcome, refused, accepted, raised, edges_outside, area_step, end_outside, place_step}
+use Rattle.panel_tables.specs.View.{End as PlacedEnd, PanelView, PanelOutcome, refused, accepted, raised, edges_outside, area_step, ends_fault, lower, place_step, cell_step}
 use Rattle.panel_tables.specs.Axes.{with_view}
+use Rattle.panel_tables.proofs.Fits.{limited_by}
 use Rattle.sheet_rules.specs.Kinds.{is_kind, is_one, later_kinds, row_follows}
 use Rattle.sheet_rules.specs.Contents.{Line, words_in}
 use Rattle.sheet_rules.specs.Pictures.{areas_of, with_words, other_width, drawn_row, picture_step}
@@ -72,6 +73,7 @@ kind_or extra = inr (inr (inr (inr (inr (inr (inr (inl refl)))))))
 kind_or item = inr (inr (inr (inr (inr (inr (inr (inr (inl refl))))))))
 kind_or place = inr (inr (inr (inr (inr (inr (inr (inr (inr (inl refl)))))))))
 kind_or row = inl tt
+kind_or cell = inr (inr (inr (inr (inr (inr (inr (inr (inr (inr (inl refl))))))))))
 
 not-both : (k : Kind) → In k later_kinds → PictureKind k → ⊥
 not-both k (inl e) p = subst PictureKind (sym e) p
@@ -83,7 +85,8 @@ not-both k (inr (inr (inr (inr (inr (inl e)))))) p = subst PictureKind (sym e) p
 not-both k (inr (inr (inr (inr (inr (inr (inl e))))))) p = subst PictureKind (sym e) p
 not-both k (inr (inr (inr (inr (inr (inr (inr (inl e)))))))) p = subst PictureKind (sym e) p
 not-both k (inr (inr (inr (inr (inr (inr (inr (inr (inl e))))))))) p = subst PictureKind (sym e) p
-not-both k (inr (inr (inr (inr (inr (inr (inr (inr (inr e))))))))) p = e
+not-both k (inr (inr (inr (inr (inr (inr (inr (inr (inr (inl e)))))))))) p = subst PictureKind (sym e) p
+not-both k (inr (inr (inr (inr (inr (inr (inr (inr (inr (inr e)))))))))) p = e
 
 keeps : (fs : Line) → is_one later_kinds fs ≡ false → (k : Kind) → Of fs k → PictureKind k
 keeps fs e k o = go (kind_or k)
@@ -258,7 +261,9 @@ area_picture v n e = go (edges_outside e) (ltb 32 (length n)) (leb 64 (length v.
           areas = v.areas ++ (record { name = n; edges = e } ∷ []);
           picture = v.picture;
           placements = v.placements;
+          cells = v.cells;
           stage = v.stage;
+          lines = v.lines;
         }
 
     go : (a b c : Bool) → (cond a (refused (named_fault (length n) 4) v) (cond b (refused 2 v) (cond c (refused 8 v) (accepted drawn)))).panel.picture ≡ v.picture
@@ -269,29 +274,11 @@ area_picture v n e = go (edges_outside e) (ltb 32 (length n)) (leb 64 (length v.
 
 place_picture : (v : PanelView) (a : Axis) (s e : PlacedEnd) → (place_step v a s e).panel.picture ≡ v.picture
 unfolding place_step
-place_picture v a s e = go (end_outside s.end) (end_outside e.end) (ltb 32 (length s.name)) (ltb 32 (length e.name)) (leb 256 (length v.placements))
-  where
-    placed : PanelView
-    placed =
-        record {
-          columns = v.columns;
-          rows = v.rows;
-          areas = v.areas;
-          picture = v.picture;
-          placements = v.placements ++ (record { axis = a; start = s; end = e } ∷ []);
-          stage = v.stage;
-        }
+place_picture v a s e = limited_by (λ w. w.picture ≡ v.picture) v (ends_fault s e) _ refl (λ x y. refl)
 
-    f : ℕ
-    f = named_fault (length s.name) (named_fault (length e.name) 4)
-
-    go : (b c d g h : Bool) → (cond b (refused f v) (cond c (refused f v) (cond d (refused 2 v) (cond g (refused 2 v) (cond h (refused 8 v) (accepted placed)))))).panel.picture ≡ v.picture
-    go true c d g h = refl
-    go false true d g h = refl
-    go false false true g h = refl
-    go false false false true h = refl
-    go false false false false true = refl
-    go false false false false false = refl
+cell_picture : (v : PanelView) (cs ce rs re : PlacedEnd) → (cell_step v cs ce rs re).panel.picture ≡ v.picture
+unfolding cell_step
+cell_picture v cs ce rs re = limited_by (λ w. w.picture ≡ v.picture) v (lower (ends_fault cs ce) (ends_fault rs re)) _ refl (λ x y. refl)
 
 record_picture : (v : PanelView) (fs : Line) (r : Record) → Says fs r → (Of fs row → ⊥) → (record_step v fs r).panel.picture ≡ v.picture
 unfolding record_step
@@ -307,6 +294,53 @@ record_picture v fs (Extra a n p) s h = axis_picture v a _
 record_picture v fs (Item a i) s h = axis_picture v a _
 record_picture v fs (Place a u e) s h = place_picture v a (placed_end (at fs 3) u) (placed_end (at fs 6) e)
 record_picture v fs (PictureRow n) s h = absurd (h s)
+record_picture v fs (Cell cs ce rs re) s h = cell_picture v (placed_end (at fs 2) cs) (placed_end (at fs 5) ce) (placed_end (at fs 8) rs) (placed_end (at fs 11) re)
 
 pub other_picture : (v : PanelView) (fs : Line) → (Of fs row → ⊥) → (line_step v fs).fault ≡ 0 → (line_step v fs).panel.picture ≡ v.picture
 other_picture v fs h z = ap (λ (w : PanelView). w.picture) (clean_line v fs z).panel ∙ record_picture v fs (record_of fs) (record_says fs) h
+
+-- ---- no record counts lines
+
+axis_lines_lem : (v : PanelView) (a : Axis) (y : AxisView) → (with_view v a y).lines ≡ v.lines
+axis_lines_lem v Column y = refl
+axis_lines_lem v Row y = refl
+
+area-lines : (v : PanelView) (n : List ℕ) (e : AreaEdges) → (area_step v n e).panel.lines ≡ v.lines
+unfolding area_step
+area-lines v n e = go (edges_outside e) (ltb 32 (length n)) (leb 64 (length v.areas)) _ refl
+  where
+    go : (a b c : Bool) (w : PanelView) → w.lines ≡ v.lines → (cond a (refused (named_fault (length n) 4) v) (cond b (refused 2 v) (cond c (refused 8 v) (accepted w)))).panel.lines ≡ v.lines
+    go true b c w e = refl
+    go false true c w e = refl
+    go false false true w e = refl
+    go false false false w e = e
+
+picture_lines : (v : PanelView) (ws : List Word) → (picture_step v ws).panel.lines ≡ v.lines
+unfolding picture_step
+picture_lines v ws = go (leb 10000 (length v.picture)) (ltb 64 (length (areas_of (with_words v.picture ws)))) (other_width v.picture (length ws))
+  where
+    go : (a b c : Bool) → (cond a (refused 8 v) (cond b (refused 8 v) (cond c (refused 13 v) (accepted (drawn_row v ws))))).panel.lines ≡ v.lines
+    go true b c = refl
+    go false true c = refl
+    go false false true = refl
+    go false false false = refl
+
+pub record_lines_lem : (v : PanelView) (fs : Line) (r : Record) → (record_step v fs r).panel.lines ≡ v.lines
+unfolding record_step place_step cell_step
+record_lines_lem v fs (Fault n) = refl
+record_lines_lem v fs (AxisLine a) = axis_lines_lem v a.axis _
+record_lines_lem v fs (Area a) = area-lines v (at fs 1) (edges_of a)
+record_lines_lem v fs (Name a) = axis_lines_lem v a _
+record_lines_lem v fs (Track a min max) = axis_lines_lem v a _
+record_lines_lem v fs (Repeat a n) = axis_lines_lem v a _
+record_lines_lem v fs (End a) = axis_lines_lem v a _
+record_lines_lem v fs (Spare a min max) = axis_lines_lem v a _
+record_lines_lem v fs (Extra a n p) = axis_lines_lem v a _
+record_lines_lem v fs (Item a i) = axis_lines_lem v a _
+record_lines_lem v fs (Place a u e) = limited_by (λ w. w.lines ≡ v.lines) v _ _ refl (λ x y. refl)
+record_lines_lem v fs (Cell cs ce rs re) = limited_by (λ w. w.lines ≡ v.lines) v _ _ refl (λ x y. refl)
+record_lines_lem v fs (PictureRow n) = go (late_at 2 v.stage)
+  where
+    go : (t : Bool) → (cond t (accepted v) (picture_step v (drop 1 fs))).panel.lines ≡ v.lines
+    go true = refl
+    go false = picture_lines v (drop 1 fs)

@@ -72,7 +72,7 @@ module _ (v : PanelView) (f : FitsPanel v) (own : v.areas ≡ areas_of v.picture
         good = subst (All GoodArea) own f.drawn;
         few = subst (λ (l : List Area). length l ≤ 64) own f.areas;
         count = ap length own;
-        used = ap (λ (l : List Area). (panel_of (record { columns = v.columns; rows = v.rows; areas = l; picture = v.picture; placements = v.placements; stage = v.stage })).room.areabytes) own;
+        used = ap (λ (l : List Area). (panel_of (record { columns = v.columns; rows = v.rows; areas = l; picture = v.picture; placements = v.placements; cells = v.cells; stage = v.stage; lines = v.lines })).room.areabytes) own;
       }
 
   abbrev drawn : InPicture
@@ -205,6 +205,7 @@ row_follows_lem v f own ws n b = go (leb 10000 (length v.picture)) refl
                   panel = (row.panel ∙ panel-more v f own ws z few) i;
                   reading = record {
                     stage = v.stage;
+                    lines = v.lines;
                     picture = reading-more v f own ws z few n x.answer.broken b.count q row.broken i;
                     columns = reading_of v.columns;
                     rows = reading_of v.rows;
@@ -217,6 +218,6 @@ row_follows_lem v f own ws n b = go (leb 10000 (length v.picture)) refl
                   row_bytes = names_store v.rows;
                   areas = (row.words ∙ ap (λ (s : PictureState). area_words (table_of s.areas)) (sym (taken_more v.picture ws))) i;
                   area_bytes = (row.bytes ∙ ap (λ (s : PictureState). area_store (table_of s.areas)) (sym (taken_more v.picture ws))) i;
-                  placements = placement_words v.placements;
+                  placements = placement_words v.placements v.cells;
                   placement_bytes = placement_store v.placements;
                 }

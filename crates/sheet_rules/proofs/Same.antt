@@ -7,7 +7,7 @@ use lib.ListN.{drop}
 use Rattle.coordinates.specs.declared.axis.Axis.{Axis}
 use Rattle.coordinates.specs.declared.axis.Axis.TheVariants.{Column, Row}
 use Rattle.sheet_forms.specs.Said.{Record}
-use Rattle.sheet_forms.specs.Said.{Fault, Axis as AxisLine, Area, Name, Track, Repeat, End, Spare, Extra, Item, Place, PictureRow}
+use Rattle.sheet_forms.specs.Said.{Fault, Axis as AxisLine, Area, Name, Track, Repeat, End, Spare, Extra, Item, Place, PictureRow, Cell}
 use Rattle.sheet_forms.specs.Words.{at}
 use Rattle.axis_tables.specs.View.{AxisOutcome, accepted as accepted_axis, track_step, repeat_step, end_step, name_step, spare_step, item_step, extra_step, axis_step}
 use Rattle.axis_tables.specs.Written.{Held, held_of}
@@ -17,7 +17,7 @@ use Rattle.panel_tables.specs.Written.{PanelStepped, held_panel, stepped}
 use Rattle.panel_tables.specs.Axes.{view_in, step_in, held_in}
 use Rattle.panel_tables.proofs.Fits.{FitsPanel}
 use Rattle.panel_tables.proofs.Axes.{axis_step_lem, axis_in_fits}
-use Rattle.panel_tables.proofs.Same.{area_same, place_same}
+use Rattle.panel_tables.proofs.Same.{area_same, place_same, cell_same}
 use Rattle.sheet_forms.proofs.Bounds.{Bounded}
 use Rattle.sheet_rules.specs.Pictures.{picture_step}
 use Rattle.sheet_rules.specs.Lines.{bit, edges_of, placed_end, late_at, record_step}
@@ -58,6 +58,7 @@ module _ (v : PanelView) (sheet : FitsSheet v) where
   record_same fs (Extra a n p) b = follows_same (on_same a fs (Extra a n p) (extra_step (view_in v a) n p) (extra-same (view_in v a) n p))
   record_same fs (Item a i) b = follows_same (on_same a fs (Item a i) (item_step (view_in v a) i) (item-same (view_in v a) i))
   record_same fs (Place a s e) b = follows_same (place_same v f a (placed_end (at fs 3) s) (placed_end (at fs 6) e))
+  record_same fs (Cell cs ce rs re) b = follows_same (cell_same v f (placed_end (at fs 2) cs) (placed_end (at fs 5) ce) (placed_end (at fs 8) rs) (placed_end (at fs 11) re))
   record_same fs (PictureRow n) b = go (late_at 2 v.stage) refl
     where
       go : (t : Bool) → late_at 2 v.stage ≡ t → Follows (cond t (stayed (held_panel v)) (held_row (held_panel v) (drop 1 fs) n)) (cond t (accepted v) (picture_step v (drop 1 fs)))

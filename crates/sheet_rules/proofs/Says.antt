@@ -13,16 +13,16 @@ use Rattle.coordinates.specs.declared.axis.Axis.TheVariants.{Column, Row as Rows
 use Rattle.text.specs.Split.{index}
 use Rattle.text.proofs.Which.{index_word}
 use Rattle.sheet_forms.specs.Said.{Record}
-use Rattle.sheet_forms.specs.Said.{Fault, Axis as AxisLine, Area, Name, Track, Repeat, End, Spare, Extra, Item, Place, PictureRow}
+use Rattle.sheet_forms.specs.Said.{Fault, Axis as AxisLine, Area, Name, Track, Repeat, End, Spare, Extra, Item, Place, PictureRow, Cell}
 use Rattle.sheet_forms.specs.Said.{RepeatRecord}
 use Rattle.sheet_forms.specs.Words.{at, axis_words, kind_words}
 use Rattle.sheet_forms.specs.Faults.{first_of}
 use Rattle.sheet_forms.specs.Fields.{axis_at, axis_of, rule_of, count_of, repetition_of, name_fault, row_fault}
 use Rattle.sheet_forms.specs.declared.Position.TheVariants.{Minimum, Maximum, Gap}
 use Rattle.sheet_forms.specs.Sizes.{size_of, inner_of}
-use Rattle.sheet_forms.specs.Ends.{end_of}
-use Rattle.sheet_forms.specs.Records.{unless, edges_of, made_axis, made_area, made_name, made_sizes, made_repeat, made_end, made_extra, made_item, made_place, axis_line, area_line, name_line, sizes_line, repeat_line, end_line, extra_line, item_line, place_line, row_line, record_of}
-use Rattle.sheet_forms.specs.Forms.{Kind, axis, area, name, track, repeat, end, spare, extra, item, place, row, kind_number, Fields, Of}
+use Rattle.sheet_forms.specs.Ends.{end_of, cell_end_of}
+use Rattle.sheet_forms.specs.Records.{unless, edges_of, made_axis, made_area, made_name, made_sizes, made_repeat, made_end, made_extra, made_item, made_place, made_cell, axis_line, area_line, name_line, sizes_line, repeat_line, end_line, extra_line, item_line, place_line, row_line, cell_line, record_of}
+use Rattle.sheet_forms.specs.Forms.{Kind, axis, area, name, track, repeat, end, spare, extra, item, place, row, cell, kind_number, Fields, Of}
 use Rattle.sheet_forms.proofs.Firsts.{none_or_some, first_zero}
 use Rattle.sheet_forms.proofs.FieldRows.{below_or}
 use Rattle.sheet_forms.proofs.LineRows.{kind_at, number_back_lem, same_kind_lem}
@@ -43,6 +43,7 @@ Says fs (Extra a n p) = Of fs extra × OnAxis fs a
 Says fs (Item a i) = Of fs item × OnAxis fs a
 Says fs (Place a s e) = Of fs place × OnAxis fs a
 Says fs (PictureRow n) = Of fs row
+Says fs (Cell cs ce rs re) = Of fs cell
 
 -- ---- the axis
 
@@ -131,7 +132,7 @@ on_says fs k w n r h l s =
     unless-says fs k w (first_of (axis_of (at fs 1)).fault n) r h l (λ z. s (axis_word_lem fs (first_zero (axis_of (at fs 1)).fault n z).0))
 
 line_says : (k : Kind) (fs : List (List ℕ)) → at fs 0 ≡ get_or kind_words (kind_number k) [] → Says fs (line_of k fs)
-unfolding axis_line area_line name_line sizes_line repeat_line end_line extra_line item_line place_line row_line
+unfolding axis_line area_line name_line sizes_line repeat_line end_line extra_line item_line place_line row_line cell_line
 line_says axis fs w =
     let a = axis_of (at fs 1) in
     let i = inner_of (at fs 2) in
@@ -184,6 +185,14 @@ line_says place fs w =
     let e = end_of (at fs 5) (at fs 6) (at fs 7) in
     fields-says fs place w 8 (made_place a s e) (λ e. e)
     (λ o. on_says fs place w (first_of s.fault e.fault) (Place a.axis s.end e.end) (not_kind place repeat (λ e. omega arith)) (not_kind place end (λ e. omega arith)) (λ x. (o, x)))
+line_says cell fs w =
+    let cs = cell_end_of (at fs 1) (at fs 2) (at fs 3) in
+    let ce = cell_end_of (at fs 4) (at fs 5) (at fs 6) in
+    let rs = cell_end_of (at fs 7) (at fs 8) (at fs 9) in
+    let re = cell_end_of (at fs 10) (at fs 11) (at fs 12) in
+    fields-says fs cell w 13 (made_cell cs ce rs re) (λ e. e)
+    (λ o. unless-says fs cell w (first_of cs.fault (first_of ce.fault (first_of rs.fault re.fault))) (Cell cs.end ce.end rs.end re.end)
+    (not_kind cell repeat (λ e. omega arith)) (not_kind cell end (λ e. omega arith)) (λ z. o))
 line_says row fs w = go (ltb (length fs) 2) refl
   where
     go : (t : Bool) → ltb (length fs) 2 ≡ t → Says fs (cond t (Fault 1) (unless (row_fault (drop 1 fs)) (PictureRow (length (drop 1 fs)))))
@@ -201,7 +210,7 @@ record_says fs =
     let w = index_word (at fs 0) kind_words h ∙ ap (λ (i : ℕ). get_or kind_words i []) (sym (number_back_lem (index (at fs 0) kind_words) h)) in
     subst (Says fs) (sym (line_record k fs w)) (line_says k fs w))
     (λ h. subst (Says fs) (sym (no_record fs h)) (no_one fs))
-    (below_or (index (at fs 0) kind_words) 11)
+    (below_or (index (at fs 0) kind_words) 12)
 
 -- ---- a line has one kind and one axis
 

@@ -1,6 +1,6 @@
 -- What the lines of a sheet say, over their fields alone (document 01, panel sheet; SHEET.md, Lines of a sheet): which line, which axis, which field goes where, in which order.
 -- They don't name the reader of a line or of a sheet; proofs/Contents.antt shows that the view of every accepted sheet is what its lines say.
-use Rattle.std.specs.Prelude.{ℕ, ◌-◌, ◌<◌, max, ◌≡◌, List, [], ◌∷◌, ◌++◌, map, Bool, false, cond, ◌&&◌, ◌||◌, eqb, ℤ, pos, negsuc, length, get_or, drop, Option, Some, None}
+use Rattle.std.specs.Prelude.{ℕ, ◌+◌, ◌-◌, ◌<◌, max, ◌≡◌, List, [], ◌∷◌, ◌++◌, map, Bool, false, cond, ◌&&◌, ◌||◌, eqb, ℤ, pos, negsuc, length, get_or, drop, Option, Some, None}
 use Rattle.coordinates.specs.declared.axis.Axis.{Axis}
 use Rattle.coordinates.specs.declared.axis.Axis.TheVariants.{Column, Row}
 use Rattle.sizing.specs.Words.{size_word_of}
@@ -9,9 +9,9 @@ use Rattle.text.specs.Whole.{Written, none as unwritten, whole, whole_of}
 use Rattle.text.specs.Hexadecimal.{bits_of}
 use Rattle.sheet_forms.specs.Words.{at, dash, axis_words, kind_words, size_words, rule_words, repeat_words, end_words}
 use Rattle.sheet_forms.specs.Ends.{uses_name}
-use Rattle.sheet_forms.specs.Forms.{Kind, axis, area, name, track, repeat, end, spare, extra, item, place, row, kind_number}
+use Rattle.sheet_forms.specs.Forms.{Kind, axis, area, name, track, repeat, end, spare, extra, item, place, row, cell, kind_number}
 use Rattle.axis_tables.specs.View.{Sizes, Piece, name as a_name, track as a_track, Item, single, repeat as a_repeat, none, AxisLine, AxisView, no_line, tracks_of, name_of, axis_names}
-use Rattle.panel_tables.specs.View.{Area, End, Placement, PanelView}
+use Rattle.panel_tables.specs.View.{Area, End, Placement, half, PanelView}
 use Rattle.panel_tables.specs.Axes.{view_in}
 use Rattle.picture_rules.specs.Picture.{Word, Picture, width_of}
 use Rattle.sheet_rules.specs.Pictures.{areas_of}
@@ -149,7 +149,27 @@ end_in kind named number = record { end = record { kind = index kind end_words; 
 
 -- `place`, axis, "then kind, name, number for start and again for end"
 abbrev pub placement_in : Line → Placement
-placement_in l = record { axis = axis_in (at l 1); start = end_in (at l 2) (at l 3) (at l 4); end = end_in (at l 5) (at l 6) (at l 7) }
+placement_in l = record { axis = axis_in (at l 1); cell = false; start = end_in (at l 2) (at l 3) (at l 4); end = end_in (at l 5) (at l 6) (at l 7) }
+
+-- `cell`, "the six fields of a column placement and then six for its row" (document 02, request 10)
+abbrev pub halves_in : Line → List Placement
+halves_in l =
+    half Column (end_in (at l 1) (at l 2) (at l 3)) (end_in (at l 4) (at l 5) (at l 6))
+    ∷ half Row (end_in (at l 7) (at l 8) (at l 9)) (end_in (at l 10) (at l 11) (at l 12))
+    ∷ []
+
+-- the placements that a line gives
+abbrev pub item_in : Line → List Placement
+item_in l = cond (is_of place l) (placement_in l ∷ []) (cond (is_of cell l) (halves_in l) [])
+
+unfoldable pub placements_of : List Line → List Placement
+placements_of [] = []
+placements_of (l ∷ ls) = item_in l ++ placements_of ls
+
+-- the numbers of the `cell` lines, where the first line has number n
+unfoldable pub cells_from : ℕ → List Line → List ℕ
+cells_from n [] = []
+cells_from n (l ∷ ls) = cond (is_of cell l) (n ∷ []) [] ++ cells_from (n + 1) ls
 
 -- ---- a template as lines
 
@@ -220,4 +240,7 @@ pub record PanelSays (ls : List Line) (v : PanelView) : Type 0 where
   pub picture : v.picture ≡ picture_in ls
   -- those of the picture, or of the `area` lines: a sheet that has both is refused
   pub areas : v.areas ≡ areas_of (picture_in ls) ++ map area_in (lines_with area ls)
-  pub placements : v.placements ≡ map placement_in (lines_with place ls)
+  -- of the `place` and `cell` lines
+  pub placements : v.placements ≡ placements_of ls
+  -- each cell with its line in the sheet
+  pub cells : v.cells ≡ cells_from 1 ls

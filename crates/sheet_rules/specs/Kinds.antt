@@ -2,7 +2,7 @@
 use Rattle.std.specs.Prelude.{ℕ, List, [], ◌∷◌, Bool, true, false, cond, ◌&&◌, ◌||◌, eqb, leb, length, get_or}
 use Rattle.text.specs.Split.{same}
 use Rattle.sheet_forms.specs.Words.{at, kind_words}
-use Rattle.sheet_forms.specs.Forms.{Kind, axis, area, name, track, repeat, end, spare, extra, item, place, row, kind_number}
+use Rattle.sheet_forms.specs.Forms.{Kind, axis, area, name, track, repeat, end, spare, extra, item, place, row, cell, kind_number}
 
 -- whether a line of a kind may have n fields
 abbrev pub has_fields : Kind → ℕ → Bool
@@ -17,6 +17,7 @@ has_fields extra n = eqb n 4
 has_fields item n = eqb n 3
 has_fields place n = eqb n 8
 has_fields row n = leb 2 n
+has_fields cell n = eqb n 13
 
 unfoldable pub is_kind : Kind → List (List ℕ) → Bool
 is_kind k fs = same (at fs 0) (get_or kind_words (kind_number k) []) && has_fields k (length fs)
@@ -29,7 +30,7 @@ is_one (k ∷ ks) fs = is_kind k fs || is_one ks fs
 
 -- the kinds after which a row is late; `axis` lines and lines of no form don't end a picture
 abbrev pub later_kinds : List Kind
-later_kinds = area ∷ name ∷ track ∷ repeat ∷ end ∷ spare ∷ extra ∷ item ∷ place ∷ []
+later_kinds = area ∷ name ∷ track ∷ repeat ∷ end ∷ spare ∷ extra ∷ item ∷ place ∷ cell ∷ []
 
 -- whether one of these lines is a row that is not late by a line among them
 unfoldable pub row_follows : List (List (List ℕ)) → Bool

@@ -2,7 +2,7 @@
 -- SHEET.md, Lines of a sheet).
 use Rattle.std.specs.Prelude.{ℕ, List, [], Bool, cond, ◌&&◌, ◌||◌, eqb, ltb, drop}
 use Rattle.sheet_forms.specs.Said.{Record}
-use Rattle.sheet_forms.specs.Said.{Fault, Axis as AxisLine, Area, Name, Track, Repeat, End, Spare, Extra, Item, Place, PictureRow}
+use Rattle.sheet_forms.specs.Said.{Fault, Axis as AxisLine, Area, Name, Track, Repeat, End, Spare, Extra, Item, Place, PictureRow, Cell}
 use Rattle.sheet_forms.specs.declared.AreaRecord.{AreaRecord}
 use Rattle.sheet_forms.specs.Said.{PlaceEnd}
 use Rattle.sheet_forms.specs.Words.{at}
@@ -11,7 +11,7 @@ use Rattle.sheet_forms.specs.Ends.{uses_name}
 use Rattle.sheet_forms.specs.Records.{record_of, fault_of}
 use Rattle.axis_tables.specs.View.{track_step, repeat_step, end_step, name_step, spare_step, item_step, extra_step, axis_step}
 use Rattle.panel_tables.specs.declared.AreaEdges.{AreaEdges}
-use Rattle.panel_tables.specs.View.{PanelView, PanelOutcome, End as PlacedEnd, has_area, refused, accepted, area_step, place_step}
+use Rattle.panel_tables.specs.View.{PanelView, PanelOutcome, End as PlacedEnd, has_area, refused, accepted, area_step, place_step, next_line, cell_step}
 use Rattle.panel_tables.specs.Axes.{view_in, step_in}
 use Rattle.panel_cells.specs.Steps.{first_sharing}
 use Rattle.sheet_rules.specs.Pictures.{picture_step}
@@ -34,6 +34,7 @@ edges_of a = record { rowstart = a.rowstart; rowend = a.rowend; columnstart = a.
 abbrev pub placed_end : List ℕ → PlaceEnd → PlacedEnd
 placed_end f e = record { end = record { kind = e.kind; number = e.number }; name = cond (uses_name e.kind) f [] }
 
+-- what a record makes of a view; a late row draws nothing
 unfoldable pub record_step : PanelView → List (List ℕ) → Record → PanelOutcome
 record_step v fs (Fault n) = accepted v
 record_step v fs (AxisLine a) = step_in v a.axis (axis_step (view_in v a.axis) (bit a.definite) a.inner a.rule a.gap)
@@ -46,7 +47,7 @@ record_step v fs (Spare a min max) = step_in v a (spare_step (view_in v a) min m
 record_step v fs (Extra a n p) = step_in v a (extra_step (view_in v a) n p)
 record_step v fs (Item a i) = step_in v a (item_step (view_in v a) i)
 record_step v fs (Place a s e) = place_step v a (placed_end (at fs 3) s) (placed_end (at fs 6) e)
--- a late row draws nothing
+record_step v fs (Cell cs ce rs re) = cell_step v (placed_end (at fs 2) cs) (placed_end (at fs 5) ce) (placed_end (at fs 8) rs) (placed_end (at fs 11) re)
 record_step v fs (PictureRow n) = cond (late_at 2 v.stage) (accepted v) (picture_step v (drop 1 fs))
 
 -- ---- faults by the lines before it
@@ -65,6 +66,7 @@ twice_fault v fs (Extra a n p) = 0
 twice_fault v fs (Item a i) = 0
 twice_fault v fs (Place a s e) = 0
 twice_fault v fs (PictureRow n) = 0
+twice_fault v fs (Cell cs ce rs re) = 0
 
 -- "kind order: `axis`, then `area`, then the rest, freely mixed"; a line that is no record has no place in it. "Rows stand where area records do"
 abbrev pub stage_of : PanelView → Record → ℕ
@@ -80,6 +82,7 @@ stage_of v (Extra a n p) = 3
 stage_of v (Item a i) = 3
 stage_of v (Place a s e) = 3
 stage_of v (PictureRow n) = 2
+stage_of v (Cell cs ce rs re) = 3
 
 -- late: a record earlier in kind than one before it
 abbrev pub late_fault : PanelView → Record → ℕ
@@ -99,6 +102,7 @@ shared_with v (Extra a n p) = 0
 shared_with v (Item a i) = 0
 shared_with v (Place a s e) = 0
 shared_with v (PictureRow n) = 0
+shared_with v (Cell cs ce rs re) = 0
 
 -- overlap: an area that shares a cell with one before it (document 02, request 03)
 abbrev pub overlap_fault : PanelView → Record → ℕ
@@ -110,8 +114,19 @@ overlap_fault v r = cond (eqb (shared_with v r) 0) 0 12
 unfoldable pub record_fault : PanelView → List (List ℕ) → Record → ℕ
 record_fault v fs r = first_of (fault_of r) (first_of (twice_fault v fs r) (first_of (late_fault v r) (record_step v fs r).fault))
 
+-- one line more is accepted
 abbrev pub at_stage : ℕ → PanelView → PanelView
-at_stage n v = record { columns = v.columns; rows = v.rows; areas = v.areas; picture = v.picture; placements = v.placements; stage = n }
+at_stage n v =
+    record {
+      columns = v.columns;
+      rows = v.rows;
+      areas = v.areas;
+      picture = v.picture;
+      placements = v.placements;
+      cells = v.cells;
+      stage = n;
+      lines = next_line v.lines;
+    }
 
 -- a refused line changes nothing
 abbrev pub record_outcome : PanelView → List (List ℕ) → Record → PanelOutcome

@@ -27,7 +27,9 @@ drawn_row v ws =
       areas = areas_of (with_words v.picture ws);
       picture = with_words v.picture ws;
       placements = v.placements;
+      cells = v.cells;
       stage = v.stage;
+      lines = v.lines;
     }
 
 -- a 65th name is 8, and so would be a 10,001st row, for which a sheet is too short; another width than the first row's is 13

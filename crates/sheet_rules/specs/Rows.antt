@@ -7,10 +7,10 @@ use Rattle.coordinates.specs.declared.axis.Axis.TheVariants.{Column, Row as Rows
 use Rattle.sheet_forms.specs.Words.{at, axis_words}
 use Rattle.text.specs.Split.{split}
 use Rattle.sheet_forms.specs.Faults.{rank_of, FirstBy}
-use Rattle.sheet_forms.specs.Forms.{Kind, axis, area, name, track, repeat, end, spare, extra, item, place, row, Of}
+use Rattle.sheet_forms.specs.Forms.{Kind, axis, area, name, track, repeat, end, spare, extra, item, place, row, cell, Of}
 use Rattle.sheet_forms.specs.Rows.{UnreadLine, BadName, BadValue, BadCount, BadArea}
 use Rattle.axis_tables.specs.View.{Unended, none, inside, AxisView, tracks_in, components_of, axis_names, axis_bytes}
-use Rattle.panel_tables.specs.View.{Area, PanelView, empty_view}
+use Rattle.panel_tables.specs.View.{Area, PanelView, items, empty_view}
 use Rattle.picture_rules.specs.Picture.{Picture, AllFilled, width_of}
 use Rattle.panel_tables.specs.Axes.{view_in}
 use Rattle.panel_cells.specs.Cells.{SharedBy}
@@ -60,6 +60,7 @@ MisnestedBy extra v fs = ⊥
 MisnestedBy item v fs = ⊥
 MisnestedBy place v fs = ⊥
 MisnestedBy row v fs = ⊥
+MisnestedBy cell v fs = ⊥
 
 -- "an area name or axis record again"
 abbrev pub TwiceBy : Kind → PanelView → List (List ℕ) → Type 0
@@ -74,6 +75,7 @@ TwiceBy extra v fs = ⊥
 TwiceBy item v fs = ⊥
 TwiceBy place v fs = ⊥
 TwiceBy row v fs = ⊥
+TwiceBy cell v fs = ⊥
 
 -- "kind order: `axis`, then `area`, then the rest, freely mixed" (SHEET.md, Order of kinds)
 abbrev pub order_of : Kind → ℕ
@@ -88,6 +90,7 @@ order_of extra = 3
 order_of item = 3
 order_of place = 3
 order_of row = 2
+order_of cell = 3
 
 -- a place in that order after one that was reached; "an area record after a row, or a row after an area record, is late"
 abbrev pub LateAt : ℕ → ℕ → Type 0
@@ -110,7 +113,7 @@ NoRoomFor n x = (4096 ≤ length (axis_names x)) ⊎ (32768 < length (axis_bytes
 abbrev pub ManyNames : Picture → List (List ℕ) → Type 0
 ManyNames p fs = (10000 ≤ length p) ⊎ (64 < length (areas_of (with_words p (words_in fs))))
 
--- "one more would pass a panel limit"
+-- "one more would pass a panel limit"; "cells count among the 256 placements" (document 02, request 10)
 abbrev pub CrowdedBy : Kind → PanelView → List (List ℕ) → Type 0
 CrowdedBy axis v fs = ⊥
 CrowdedBy area v fs = 64 ≤ length v.areas
@@ -121,7 +124,8 @@ CrowdedBy end v fs = ⊥
 CrowdedBy spare v fs = OfAxis v fs (λ x. 64 ≤ length x.spares)
 CrowdedBy extra v fs = ⊥
 CrowdedBy item v fs = ⊥
-CrowdedBy place v fs = 256 ≤ length v.placements
+CrowdedBy place v fs = 256 ≤ items v
+CrowdedBy cell v fs = 256 ≤ items v
 CrowdedBy row v fs = (LateBy row v fs → ⊥) × ManyNames v.picture fs
 
 -- document 02, request 03: "two areas with a common cell", at the later one's line
@@ -137,6 +141,7 @@ OverlapBy extra v fs = ⊥
 OverlapBy item v fs = ⊥
 OverlapBy place v fs = ⊥
 OverlapBy row v fs = ⊥
+OverlapBy cell v fs = ⊥
 
 -- document 02, request 07: "rows of unequal width .. at the first such row": another width than the first row's
 abbrev pub UnequalBy : Kind → PanelView → List (List ℕ) → Type 0
@@ -150,6 +155,7 @@ UnequalBy spare v fs = ⊥
 UnequalBy extra v fs = ⊥
 UnequalBy item v fs = ⊥
 UnequalBy place v fs = ⊥
+UnequalBy cell v fs = ⊥
 UnequalBy row v fs = (LateBy row v fs → ⊥) × (v.picture ≡ [] → ⊥) × (length (words_in fs) ≡ width_of v.picture → ⊥)
 
 abbrev pub AtKind : (Kind → PanelView → List (List ℕ) → Type 0) → PanelView → List (List ℕ) → Type 0
@@ -224,6 +230,7 @@ PictureKind extra = ⊥
 PictureKind item = ⊥
 PictureKind place = ⊥
 PictureKind row = Unit {0}
+PictureKind cell = ⊥
 
 -- one of these lines is a row, and none before it ends the picture
 pub data RowFollows : List Line → Type 0 where

@@ -3,13 +3,14 @@ use Rattle.std.specs.Prelude.{ℕ, ◌+◌, List, Bool, true, cond, eqb, leb, dr
 use Rattle.coordinates.specs.declared.axis.Axis.{Axis}
 use Rattle.coordinates.specs.declared.axis.Axis.TheVariants.{Column, Row}
 use Rattle.sheet_forms.specs.Said.{Record}
-use Rattle.sheet_forms.specs.Said.{Fault, Axis as AxisLine, Area, Name, Track, Repeat, End, Spare, Extra, Item, Place, PictureRow}
+use Rattle.sheet_forms.specs.Said.{Fault, Axis as AxisLine, Area, Name, Track, Repeat, End, Spare, Extra, Item, Place, PictureRow, Cell}
 use Rattle.sheet_forms.specs.Words.{at}
 use Rattle.axis_tables.specs.Store.{put, InWords, InMarks, InNames, put_track, open_repeat, close_repeat, put_name, put_spare, put_item, put_extra, put_axis}
 use Rattle.axis_tables.specs.Written.{Held}
 use Rattle.axis_tables.specs.Store.{AxisPut}
+use Rattle.panel_tables.specs.View.{next_line}
 use Rattle.panel_tables.specs.Areas.{put_area}
-use Rattle.panel_tables.specs.Placements.{put_placement}
+use Rattle.panel_tables.specs.Placements.{put_placement, put_cell}
 use Rattle.panel_tables.specs.Written.{PanelHeld, PanelStepped, of_areas, of_placements}
 use Rattle.panel_tables.specs.Axes.{state_in, held_in}
 use Rattle.picture_rules.specs.Picture.{Word}
@@ -54,6 +55,7 @@ axis_record h fs (Extra a n p) = answered h (put_extra h.answer.state h.answer.r
 axis_record h fs (Item a i) = in_marks h (put_item h.answer.state h.answer.reading h.marks i)
 axis_record h fs (Place a s e) = h
 axis_record h fs (PictureRow n) = h
+axis_record h fs (Cell cs ce rs re) = h
 
 abbrev pub on_held : PanelHeld → Axis → List (List ℕ) → Record → PanelStepped
 on_held h a fs r = held_in h a (axis_record (axis_held h a) fs r)
@@ -75,7 +77,7 @@ of_row h width x =
       fault = first_of x.answer.fault (width_fault h.reading.picture width);
       held = record {
         panel = x.answer.panel;
-        reading = record { stage = h.reading.stage; picture = with_row h.reading.picture width x.answer.broken; columns = h.reading.columns; rows = h.reading.rows };
+        reading = record { stage = h.reading.stage; lines = h.reading.lines; picture = with_row h.reading.picture width x.answer.broken; columns = h.reading.columns; rows = h.reading.rows };
         columns = h.columns;
         rows = h.rows;
         column_marks = h.column_marks;
@@ -110,5 +112,8 @@ held_step h fs (Extra a n p) = on_held h a fs (Extra a n p)
 held_step h fs (Item a i) = on_held h a fs (Item a i)
 held_step h fs (Place a s e) =
     of_placements h
-    (put_placement h.panel h.placements h.placement_bytes a (placed_end (at fs 3) s).end (placed_end (at fs 3) s).name (placed_end (at fs 6) e).end (placed_end (at fs 6) e).name)
+    (put_placement h.panel h.placements h.placement_bytes a (placed_end (at fs 3) s) (placed_end (at fs 6) e))
+held_step h fs (Cell cs ce rs re) =
+    of_placements h
+    (put_cell h.panel h.placements h.placement_bytes (next_line h.reading.lines) (placed_end (at fs 2) cs) (placed_end (at fs 5) ce) (placed_end (at fs 8) rs) (placed_end (at fs 11) re))
 held_step h fs (PictureRow n) = cond (late_at 2 h.reading.stage) (stayed h) (held_row h (drop 1 fs) n)

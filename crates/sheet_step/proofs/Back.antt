@@ -29,8 +29,8 @@ use Rattle.picture_areas.specs.Runs.{InPicture}
 use Rattle.picture_rows.specs.Steps.{row_in}
 use Rattle.sheet_rules.specs.Lines.{late_at}
 use Rattle.sheet_rules.specs.Steps.{axis_record, on_held, stayed, of_row, held_row}
-use Rattle.sheet_faults.specs.Parts.{axis_part, part_of as part_written, named, place_in, part_step, named_step}
-use Rattle.sheet_step.specs.Regions.{axis_in, on_axis, on_axis_after, parts_back, on_areas, on_placements, picture_back, on_drawing, drawn_read, InPanel, unchanged, drawn_in, on_picture}
+use Rattle.sheet_faults.specs.Parts.{axis_part, part_of as part_written, named, Names, place_in, cell_in, part_step, named_step}
+use Rattle.sheet_step.specs.Regions.{axis_in, on_axis, on_axis_after, parts_back, on_areas, on_placements, on_cell, picture_back, on_drawing, drawn_read, InPanel, unchanged, drawn_in, on_picture}
 
 -- ---- what was written into parts, put back
 
@@ -105,11 +105,11 @@ same : (p : Panel) (r : Reading) (cs rs : List ℕ) {c₀ c r₀ r₁ m₀ m o�
     (record { panel = p; reading = r; columns = c; rows = r₁; column_marks = m; row_marks = o; column_bytes = cs; row_bytes = rs; areas = a; area_bytes = x; placements = q; placement_bytes = y })
 same p r cs rs e0 e1 e2 e3 e4 e5 e6 e7 = rw (e0, e1, e2, e3, e4, e5, e6, e7)
 
-module _ (p : Panel) (r : Reading) (w b cs rs : List ℕ) (lw : length w ≡ 25600) (lb : length b ≡ 78432) where
+module _ (p : Panel) (r : Reading) (w b cs rs : List ℕ) (lw : length w ≡ 26368) (lb : length b ≡ 94816) where
   abbrev held : PanelHeld
   held = panel_held_of p r w b cs rs
 
-  pub columns-back : (name₀ name : List ℕ) (said : Record) (x : Held) → x ≡ on_axis Column p r w b cs name₀ said → name₀ ≡ name → length x.words ≡ 25600 → length x.marks ≡ 78432
+  pub columns-back : (name₀ name : List ℕ) (said : Record) (x : Held) → x ≡ on_axis Column p r w b cs name₀ said → name₀ ≡ name → length x.words ≡ 26368 → length x.marks ≡ 94816
       → ◌≡◌ {A = PanelStepped}
       (record { fault = x.answer.fault; held = panel_held_of (with_state p Column x.answer.state) (with_reading r Column x.answer.reading) x.words x.marks x.bytes rs })
       (on_held held Column (named name) said)
@@ -130,10 +130,10 @@ module _ (p : Panel) (r : Reading) (w b cs rs : List ℕ) (lw : length w ≡ 256
       (lent-after b y.marks 0 30000 hb eb 30000 30000 (omega arith))
       (lent-after w y.words 0 12480 hw ew 24960 128 (omega arith))
       (lent-after b y.marks 0 30000 hb eb 60000 2048 (omega arith))
-      (lent-after w y.words 0 12480 hw ew 25088 512 (omega arith))
-      (lent-after b y.marks 0 30000 hb eb 62048 16384 (omega arith)))
+      (lent-after w y.words 0 12480 hw ew 25088 1280 (omega arith))
+      (lent-after b y.marks 0 30000 hb eb 62048 32768 (omega arith)))
 
-  pub rows_back : (name₀ name : List ℕ) (said : Record) (x : Held) → x ≡ on_axis Row p r w b rs name₀ said → name₀ ≡ name → length x.words ≡ 25600 → length x.marks ≡ 78432
+  pub rows_back : (name₀ name : List ℕ) (said : Record) (x : Held) → x ≡ on_axis Row p r w b rs name₀ said → name₀ ≡ name → length x.words ≡ 26368 → length x.marks ≡ 94816
       → ◌≡◌ {A = PanelStepped}
       (record { fault = x.answer.fault; held = panel_held_of (with_state p Row x.answer.state) (with_reading r Row x.answer.reading) x.words x.marks cs x.bytes })
       (on_held held Row (named name) said)
@@ -154,10 +154,10 @@ module _ (p : Panel) (r : Reading) (w b cs rs : List ℕ) (lw : length w ≡ 256
       (lent-own b y.marks 30000 30000 hb eb)
       (lent-after w y.words 12480 12480 hw ew 24960 128 (omega arith))
       (lent-after b y.marks 30000 30000 hb eb 60000 2048 (omega arith))
-      (lent-after w y.words 12480 12480 hw ew 25088 512 (omega arith))
-      (lent-after b y.marks 30000 30000 hb eb 62048 16384 (omega arith)))
+      (lent-after w y.words 12480 12480 hw ew 25088 1280 (omega arith))
+      (lent-after b y.marks 30000 30000 hb eb 62048 32768 (omega arith)))
 
-  pub areas-back : (name₀ name : List ℕ) (edges : AreaEdges) (x : InAreas) → x ≡ on_areas p w b name₀ edges → name₀ ≡ name → length x.words ≡ 25600 → length x.bytes ≡ 78432
+  pub areas-back : (name₀ name : List ℕ) (edges : AreaEdges) (x : InAreas) → x ≡ on_areas p w b name₀ edges → name₀ ≡ name → length x.words ≡ 26368 → length x.bytes ≡ 94816
       → ◌≡◌ {A = PanelStepped} (record { fault = x.answer.fault; held = panel_held_of x.answer.panel r x.words x.bytes cs rs }) (of_areas held (put_area held.panel held.areas held.area_bytes name edges))
   unfolding panel_held_of on_areas axis_words_in marks_in area_words_in area_bytes_in placement_words_in placement_bytes_in
   areas-back name₀ name edges x e₀ en lx ly =
@@ -176,30 +176,42 @@ module _ (p : Panel) (r : Reading) (w b cs rs : List ℕ) (lw : length w ≡ 256
       (lent-before b y.bytes 60000 2048 hb 30000 30000 (omega arith))
       (lent-own w y.words 24960 128 hw ew)
       (lent-own b y.bytes 60000 2048 hb eb)
-      (lent-after w y.words 24960 128 hw ew 25088 512 (omega arith))
-      (lent-after b y.bytes 60000 2048 hb eb 62048 16384 (omega arith)))
+      (lent-after w y.words 24960 128 hw ew 25088 1280 (omega arith))
+      (lent-after b y.bytes 60000 2048 hb eb 62048 32768 (omega arith)))
 
-  pub placements-back : (a : Axis) (s : PlaceEnd) (first₀ first : List ℕ) (e₁ : PlaceEnd) (second₀ second : List ℕ) (x : InAreas) → x ≡ on_placements p w b a s first₀ e₁ second₀ → first₀ ≡ first → second₀ ≡ second → length x.words ≡ 25600 → length x.bytes ≡ 78432
-      → ◌≡◌ {A = PanelStepped} (record { fault = x.answer.fault; held = panel_held_of x.answer.panel r x.words x.bytes cs rs }) (of_placements held (place_in held.panel held.placements held.placement_bytes a s first e₁ second))
-  unfolding panel_held_of on_placements axis_words_in marks_in area_words_in area_bytes_in placement_words_in placement_bytes_in
-  placements-back a s first₀ first e₁ second₀ second x e₀ ef es lx ly =
-      let e : x ≡ on_placements p w b a s first e₁ second = e₀ ∙ ap₂ (λ (m : List ℕ) (n : List ℕ). on_placements p w b a s m e₁ n) ef es in
-      let y : InAreas = place_in p (placement_words_in w) (placement_bytes_in b) a s first e₁ second in
-      let hw : 25088 + 512 ≤ length w = omega arith in
-      let hb : 62048 + 16384 ≤ length b = omega arith in
-      let ew : length y.words ≡ 512 = part_kept w y.words 25088 512 hw (ap (λ (z : InAreas). length z.words) (sym e) ∙ lx ∙ sym lw) in
-      let eb : length y.bytes ≡ 16384 = part_kept b y.bytes 62048 16384 hb (ap (λ (z : InAreas). length z.bytes) (sym e) ∙ ly ∙ sym lb) in
+  -- what is written into the placements' parts
+  placed-back : (op : List ℕ → List ℕ → InAreas) (x : InAreas) → x ≡ parts_back 25088 1280 62048 32768 w b (op (placement_words_in w) (placement_bytes_in b)) → length x.words ≡ 26368 → length x.bytes ≡ 94816
+      → ◌≡◌ {A = PanelStepped} (record { fault = x.answer.fault; held = panel_held_of x.answer.panel r x.words x.bytes cs rs }) (of_placements held (op (placement_words_in w) (placement_bytes_in b)))
+  unfolding panel_held_of axis_words_in marks_in area_words_in area_bytes_in placement_words_in placement_bytes_in
+  placed-back op x e lx ly =
+      let y : InAreas = op (placement_words_in w) (placement_bytes_in b) in
+      let hw : 25088 + 1280 ≤ length w = omega arith in
+      let hb : 62048 + 32768 ≤ length b = omega arith in
+      let ew : length y.words ≡ 1280 = part_kept w y.words 25088 1280 hw (ap (λ (z : InAreas). length z.words) (sym e) ∙ lx ∙ sym lw) in
+      let eb : length y.bytes ≡ 32768 = part_kept b y.bytes 62048 32768 hb (ap (λ (z : InAreas). length z.bytes) (sym e) ∙ ly ∙ sym lb) in
       ap (λ (x : InAreas). record { fault = x.answer.fault; held = panel_held_of x.answer.panel r x.words x.bytes cs rs }) e
       ∙ ap (λ (h : PanelHeld). record { fault = y.answer.fault; held = h })
       (same y.answer.panel r cs rs
-      (lent-before w y.words 25088 512 hw 0 12480 (omega arith))
-      (lent-before w y.words 25088 512 hw 12480 12480 (omega arith))
-      (lent-before b y.bytes 62048 16384 hb 0 30000 (omega arith))
-      (lent-before b y.bytes 62048 16384 hb 30000 30000 (omega arith))
-      (lent-before w y.words 25088 512 hw 24960 128 (omega arith))
-      (lent-before b y.bytes 62048 16384 hb 60000 2048 (omega arith))
-      (lent-own w y.words 25088 512 hw ew)
-      (lent-own b y.bytes 62048 16384 hb eb))
+      (lent-before w y.words 25088 1280 hw 0 12480 (omega arith))
+      (lent-before w y.words 25088 1280 hw 12480 12480 (omega arith))
+      (lent-before b y.bytes 62048 32768 hb 0 30000 (omega arith))
+      (lent-before b y.bytes 62048 32768 hb 30000 30000 (omega arith))
+      (lent-before w y.words 25088 1280 hw 24960 128 (omega arith))
+      (lent-before b y.bytes 62048 32768 hb 60000 2048 (omega arith))
+      (lent-own w y.words 25088 1280 hw ew)
+      (lent-own b y.bytes 62048 32768 hb eb))
+
+  pub placements-back : (a : Axis) (s : PlaceEnd) (first₀ first : List ℕ) (e₁ : PlaceEnd) (second₀ second : List ℕ) (x : InAreas) → x ≡ on_placements p w b a s first₀ e₁ second₀ → first₀ ≡ first → second₀ ≡ second → length x.words ≡ 26368 → length x.bytes ≡ 94816
+      → ◌≡◌ {A = PanelStepped} (record { fault = x.answer.fault; held = panel_held_of x.answer.panel r x.words x.bytes cs rs }) (of_placements held (place_in held.panel held.placements held.placement_bytes a s first e₁ second))
+  unfolding panel_held_of on_placements
+  placements-back a s first₀ first e₁ second₀ second x e₀ ef es lx ly =
+      let e : x ≡ on_placements p w b a s first e₁ second = e₀ ∙ ap₂ (λ (m : List ℕ) (n : List ℕ). on_placements p w b a s m e₁ n) ef es in
+      placed-back (λ (m : List ℕ) (n : List ℕ). place_in p m n a s first e₁ second) x e lx ly
+
+  pub cell-back : (line : ℕ) (s t u v : PlaceEnd) (n : Names) (x : InAreas) → x ≡ on_cell p w b line s t u v n → length x.words ≡ 26368 → length x.bytes ≡ 94816
+      → ◌≡◌ {A = PanelStepped} (record { fault = x.answer.fault; held = panel_held_of x.answer.panel r x.words x.bytes cs rs }) (of_placements held (cell_in held.panel held.placements held.placement_bytes line s t u v n))
+  unfolding panel_held_of on_cell
+  cell-back line s t u v n x e lx ly = placed-back (λ (m : List ℕ) (k : List ℕ). cell_in p m k line s t u v n) x e lx ly
 
   -- a row that was drawn into the areas' regions
   drawn-back : (width : ℕ) (y : InPicture) → length y.words ≡ 128 → length y.bytes ≡ 2048
@@ -218,8 +230,8 @@ module _ (p : Panel) (r : Reading) (w b cs rs : List ℕ) (lw : length w ≡ 256
       (lent-before b y.bytes 60000 2048 hb 30000 30000 (omega arith))
       (lent-own w y.words 24960 128 hw ew)
       (lent-own b y.bytes 60000 2048 hb eb)
-      (lent-after w y.words 24960 128 hw ew 25088 512 (omega arith))
-      (lent-after b y.bytes 60000 2048 hb eb 62048 16384 (omega arith)))
+      (lent-after w y.words 24960 128 hw ew 25088 1280 (omega arith))
+      (lent-after b y.bytes 60000 2048 hb eb 62048 32768 (omega arith)))
 
   -- a row of a picture, by whether it is late, and one too many
   abbrev picture_by : ℕ → InPicture → Bool → Bool → InPanel
@@ -228,14 +240,14 @@ module _ (p : Panel) (r : Reading) (w b cs rs : List ℕ) (lw : length w ≡ 256
   abbrev made : InPanel → PanelStepped
   made y = record { fault = y.answer.fault; held = panel_held_of y.answer.panel y.answer.reading y.words y.bytes cs rs }
 
-  by-back : (width : ℕ) (y : InPicture) (t u : Bool) → length (picture_by width y t u).words ≡ 25600 → length (picture_by width y t u).bytes ≡ 78432
+  by-back : (width : ℕ) (y : InPicture) (t u : Bool) → length (picture_by width y t u).words ≡ 26368 → length (picture_by width y t u).bytes ≡ 94816
       → made (picture_by width y t u) ≡ cond t (stayed held) (cond u (record { fault = 8; held = held }) (of_row held width y))
   by-back width y true u lx ly = refl
   by-back width y false true lx ly = refl
   by-back width y false false lx ly =
       drawn-back width y (part_kept w y.words 24960 128 (omega arith) (lx ∙ sym lw)) (part_kept b y.bytes 60000 2048 (omega arith) (ly ∙ sym lb))
 
-  pub picture-back : (ws : List Word) (width : ℕ) (x : InPanel) → x ≡ on_picture p r w b ws width → length x.words ≡ 25600 → length x.bytes ≡ 78432
+  pub picture-back : (ws : List Word) (width : ℕ) (x : InPanel) → x ≡ on_picture p r w b ws width → length x.words ≡ 26368 → length x.bytes ≡ 94816
       → made x ≡ cond (late_at 2 held.reading.stage) (stayed held) (held_row held ws width)
   unfolding on_picture on_drawing held_row panel_held_of
   picture-back ws width x e lx ly =
@@ -244,6 +256,6 @@ module _ (p : Panel) (r : Reading) (w b cs rs : List ℕ) (lw : length w ≡ 256
       (ap (λ (z : InPanel). length z.words) (sym e) ∙ lx) (ap (λ (z : InPanel). length z.bytes) (sym e) ∙ ly)
 
 -- a record of an axis is written to that axis's tables
-pub axis-step : (h : PanelHeld) (first second : List ℕ) (ws : List Word) (r : Record) (a : Axis) (x : PanelStepped) → part_written r ≡ axis_part a → x ≡ on_held h a (named first) r → x ≡ named_step h first second ws r
-axis-step h first second ws r Column x e d = d ∙ ap (part_step h first second ws r) (sym e)
-axis-step h first second ws r Row x e d = d ∙ ap (part_step h first second ws r) (sym e)
+pub axis-step : (h : PanelHeld) (n : Names) (ws : List Word) (r : Record) (a : Axis) (x : PanelStepped) → part_written r ≡ axis_part a → x ≡ on_held h a (named n.first) r → x ≡ named_step h n ws r
+axis-step h n ws r Column x e d = d ∙ ap (part_step h n ws r) (sym e)
+axis-step h n ws r Row x e d = d ∙ ap (part_step h n ws r) (sym e)

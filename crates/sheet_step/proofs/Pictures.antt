@@ -39,7 +39,7 @@ pub drawn-answer : (p : Panel) (r : Reading) (width : ℕ) (k : Result PictureAf
     (record {
       fault = f;
       panel = (result_unwrap_or k (record { broken = false; panel = p })).panel;
-      reading = record { stage = r.stage; picture = with_row r.picture width (result_unwrap_or k (record { broken = false; panel = p })).broken; columns = r.columns; rows = r.rows };
+      reading = record { stage = r.stage; lines = r.lines; picture = with_row r.picture width (result_unwrap_or k (record { broken = false; panel = p })).broken; columns = r.columns; rows = r.rows };
     })
     (drawn_read r width (answered_drawn p k))
 drawn-answer p r width (Ok a) f e = rw e

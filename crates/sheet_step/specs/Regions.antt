@@ -11,9 +11,9 @@ use Rattle.axis_tables.specs.Written.{Held}
 use Rattle.panel_tables.specs.declared.Panel.{Panel}
 use Rattle.panel_tables.specs.Readings.{Reading}
 use Rattle.panel_tables.specs.declared.AreaEdges.{AreaEdges}
-use Rattle.panel_tables.specs.declared.PlacementEnd.{PlacementEnd}
+use Rattle.panel_tables.specs.View.{End}
 use Rattle.panel_tables.specs.Areas.{InAreas, put_area}
-use Rattle.panel_tables.specs.Placements.{put_placement}
+use Rattle.panel_tables.specs.Placements.{put_placement, put_cell}
 use Rattle.panel_tables.specs.Axes.{state_in, reading_in, PanelRead}
 use Rattle.panel_tables.specs.Regions.{first_word, first_mark, axis_words_in, marks_in, area_words_in, area_bytes_in, placement_words_in, placement_bytes_in}
 use Rattle.sheet_forms.specs.Faults.{first_of}
@@ -22,7 +22,7 @@ use Rattle.picture_areas.specs.Runs.{Drawn, InPicture}
 use Rattle.picture_rows.specs.Steps.{row_in}
 use Rattle.sheet_rules.specs.Lines.{late_at}
 use Rattle.sheet_rules.specs.Steps.{axis_record, width_fault, with_row}
-use Rattle.sheet_faults.specs.Parts.{named, place_in}
+use Rattle.sheet_faults.specs.Parts.{named, Names, place_in, cell_in}
 
 -- ---- an axis
 
@@ -53,13 +53,20 @@ unfoldable pub on_areas : Panel → List ℕ → List ℕ → List ℕ → AreaE
 on_areas p words bytes name e = parts_back 24960 128 60000 2048 words bytes (put_area p (area_words_in words) (area_bytes_in bytes) name e)
 
 -- a placement by its ends with their names
-abbrev pub on_ends : Panel → List ℕ → List ℕ → Axis → PlacementEnd → List ℕ → PlacementEnd → List ℕ → InAreas
-on_ends p words bytes a s first e second =
-    parts_back 25088 512 62048 16384 words bytes (put_placement p (placement_words_in words) (placement_bytes_in bytes) a s first e second)
+abbrev pub on_ends : Panel → List ℕ → List ℕ → Axis → End → End → InAreas
+on_ends p words bytes a s e = parts_back 25088 1280 62048 32768 words bytes (put_placement p (placement_words_in words) (placement_bytes_in bytes) a s e)
 
 unfoldable pub on_placements : Panel → List ℕ → List ℕ → Axis → PlaceEnd → List ℕ → PlaceEnd → List ℕ → InAreas
 on_placements p words bytes a s first e second =
-    parts_back 25088 512 62048 16384 words bytes (place_in p (placement_words_in words) (placement_bytes_in bytes) a s first e second)
+    parts_back 25088 1280 62048 32768 words bytes (place_in p (placement_words_in words) (placement_bytes_in bytes) a s first e second)
+
+-- a cell by its ends with their names, and its line
+abbrev pub on_halves : Panel → List ℕ → List ℕ → ℕ → End → End → End → End → InAreas
+on_halves p words bytes line cs ce rs re = parts_back 25088 1280 62048 32768 words bytes (put_cell p (placement_words_in words) (placement_bytes_in bytes) line cs ce rs re)
+
+unfoldable pub on_cell : Panel → List ℕ → List ℕ → ℕ → PlaceEnd → PlaceEnd → PlaceEnd → PlaceEnd → Names → InAreas
+on_cell p words bytes line cs ce rs re n =
+    parts_back 25088 1280 62048 32768 words bytes (cell_in p (placement_words_in words) (placement_bytes_in bytes) line cs ce rs re n)
 
 -- ---- a row of a picture
 
@@ -76,7 +83,7 @@ drawn_read r width d =
     record {
       fault = first_of d.fault (width_fault r.picture width);
       panel = d.panel;
-      reading = record { stage = r.stage; picture = with_row r.picture width d.broken; columns = r.columns; rows = r.rows };
+      reading = record { stage = r.stage; lines = r.lines; picture = with_row r.picture width d.broken; columns = r.columns; rows = r.rows };
     }
 
 -- the answer with the words and the bytes

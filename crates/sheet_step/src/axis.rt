@@ -48,6 +48,6 @@ pub fn axis_record(
         Record::Spare(_, sizes) => put_spare(axis, words, sizes),
         Record::Extra(_, negative, positive) => Ok(put_extra(axis, negative, positive)),
         Record::Item(_, index) => put_item(axis, marks, index),
-        Record::Area(_) | Record::Place(_, _) | Record::PictureRow(_) => Ok(axis),
+        Record::Area(_) | Record::Place(_, _) | Record::PictureRow(_) | Record::Cell(_) => Ok(axis),
     }
 }

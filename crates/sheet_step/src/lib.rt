@@ -3,6 +3,7 @@
 #![tactic(auto)]
 
 mod axis;
+mod cell;
 mod panel;
 mod picture;
 
@@ -20,6 +21,7 @@ ghost use Rattle.sheet_step.specs.Drafts.{held_of};
 
 use axis_tables::AxisAfter;
 use axis_tables::layout::AXIS_BYTES;
+use cell::next_line;
 use coordinates::{Axis, Fault};
 use panel_tables::axis::{reading_in, state_in};
 use panel_tables::region::{PANEL_BYTES, PANEL_WORDS, area_bytes, area_words};
@@ -97,6 +99,7 @@ pub fn read_line(draft: &mut Draft, line: &[u8]) -> LineRead
     let reached = stage(draft.reading.stage, there.said);
     let written = draft.write(line, there).err();
     draft.reading.stage = reached;
+    draft.reading.lines = next_line(draft.reading.lines);
     LineRead {
         fault: first_fault(before, written),
         shared: noted(before, with, written),

@@ -1,4 +1,4 @@
-// What a record does to the panel: it is written to one axis, to the areas or to the placements, or drawn.
+// What a record does to the panel: it is written to one axis, to the areas or to the placements, or drawn; a cell is two placements.
 ghost use Rattle.std.specs.Prelude.{◌≡◌, cond, length, drop, [], Ok};
 ghost use Rattle.text.specs.Split.{split};
 ghost use Rattle.text.specs.Places.{part_at};
@@ -7,11 +7,11 @@ ghost use Rattle.sheet_forms.specs.Answers.{place_end, said_of};
 ghost use Rattle.axis_tables.specs.Readings.{axis_reading};
 ghost use Rattle.axis_tables.specs.Store.{answered_axis};
 ghost use Rattle.panel_tables.specs.Areas.{answered_panel};
-ghost use Rattle.panel_tables.specs.Placements.{uses_name};
+ghost use Rattle.panel_tables.specs.Placements.{end_named, uses_name};
 ghost use Rattle.sheet_rules.specs.Lines.{placed_end};
 ghost use Rattle.sheet_rules.specs.Steps.{on_held};
 ghost use Rattle.sheet_faults.specs.Parts.{named, named_step};
-ghost use Rattle.sheet_step.specs.Drafts.{held_of};
+ghost use Rattle.sheet_step.specs.Drafts.{held_of, names_at};
 ghost use Rattle.sheet_step.specs.Regions.{on_axis_after, on_areas, on_ends};
 
 use crate::Draft;
@@ -55,9 +55,8 @@ fn used_name(end: PlaceEnd, name: &[u8]) -> &[u8]
 }
 
 // An end as a placement has it, with the name that it uses.
-fn named_end(end: PlaceEnd, name: &[u8]) -> NamedEnd<'_>
-    ensures end { result.end ≡ (placed_end name.now (place_end end)).end }
-    ensures name { result.name.now ≡ (placed_end name.now (place_end end)).name }
+pub(crate) fn named_end(end: PlaceEnd, name: &[u8]) -> NamedEnd<'_>
+    ensures { end_named result.end result.name.now ≡ placed_end name.now (place_end end) }
 {
     NamedEnd {
         end: placed(end),
@@ -76,7 +75,7 @@ fn on_axis(
     said: Record,
 ) -> Result<AxisAfter, Fault>
     ensures written { record { answer = answered_axis before.state (axis_reading before.reading) result; words = words.new; marks = bytes.new; bytes = store.new } ≡ on_axis_after axis before.state (axis_reading before.reading) words.old bytes.old store.old name.now (said_of (Ok said)) }
-    ensures lengths { (length words.new ≡ 25600) × (length bytes.new ≡ 78432) }
+    ensures lengths { (length words.new ≡ 26368) × (length bytes.new ≡ 94816) }
 {
     let first = first_word(axis);
     let mark = first_mark(axis);
@@ -101,7 +100,7 @@ fn on_areas(
     edges: AreaEdges,
 ) -> Result<Panel, Fault>
     ensures written { record { answer = answered_panel panel result; words = words.new; bytes = bytes.new } ≡ on_areas panel words.old bytes.old name.now edges }
-    ensures lengths { (length words.new ≡ 25600) × (length bytes.new ≡ 78432) }
+    ensures lengths { (length words.new ≡ 26368) × (length bytes.new ≡ 94816) }
 {
     let words = &mut words[AREAS..AREAS + AREA_WORDS];
     let bytes = &mut bytes[AREA_NAMES_START..AREA_NAMES_START + AREA_BYTES];
@@ -117,8 +116,8 @@ fn on_placements(
     start: NamedEnd<'_>,
     end: NamedEnd<'_>,
 ) -> Result<Panel, Fault>
-    ensures written { record { answer = answered_panel panel result; words = words.new; bytes = bytes.new } ≡ on_ends panel words.old bytes.old axis start.entry.end start.entry.name.now end.entry.end end.entry.name.now }
-    ensures lengths { (length words.new ≡ 25600) × (length bytes.new ≡ 78432) }
+    ensures written { record { answer = answered_panel panel result; words = words.new; bytes = bytes.new } ≡ on_ends panel words.old bytes.old axis (end_named start.entry.end start.entry.name.now) (end_named end.entry.end end.entry.name.now) }
+    ensures lengths { (length words.new ≡ 26368) × (length bytes.new ≡ 94816) }
 {
     let words = &mut words[PLACEMENTS..PLACEMENTS + PLACEMENT_WORDS];
     let bytes = &mut bytes[PLACEMENT_NAMES_START..PLACEMENT_NAMES_START + PLACEMENT_BYTES];
@@ -152,7 +151,7 @@ impl Draft {
 
     // A record of a line with its names and words, written; whether it has a fault or may stand there is not looked at.
     pub(crate) fn write(&mut self, line: &[u8], there: LineRecord) -> Result<(), Fault>
-        ensures { record { fault = refused_by result; held = held_of self.new } ≡ named_step (held_of self.old) (part_at line.now there.first) (part_at line.now there.second) (drop 1 (split 9 line.now)) (said_of there.said) }
+        ensures { record { fault = refused_by result; held = held_of self.new } ≡ named_step (held_of self.old) (names_at line.now there) (drop 1 (split 9 line.now)) (said_of there.said) }
     {
         let Ok(said) = there.said else {
             return Ok(());
@@ -173,6 +172,7 @@ impl Draft {
                 Ok(())
             }
             Record::PictureRow(width) => self.draw(line, width),
+            Record::Cell(cell) => self.write_cell(line, there, cell),
             Record::Axis(AxisRecord { axis, .. })
             | Record::Name(axis)
             | Record::Track(axis, _)

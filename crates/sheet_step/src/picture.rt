@@ -51,7 +51,7 @@ fn on_drawing(
     row: u32,
 ) -> Result<PictureAfter, Fault>
     ensures drawn { record { answer = answered_drawn panel result; words = words.new; bytes = bytes.new } ≡ on_drawing panel words.old bytes.old (words_of line.now) row }
-    ensures lengths { (length words.new ≡ 25600) × (length bytes.new ≡ 78432) }
+    ensures lengths { (length words.new ≡ 26368) × (length bytes.new ≡ 94816) }
 {
     let words = &mut words[AREAS..AREAS + AREA_WORDS];
     let bytes = &mut bytes[AREA_NAMES_START..AREA_NAMES_START + AREA_BYTES];

@@ -1,13 +1,11 @@
 // One block of a list: a sheet, read or only displayed, entry calls, questions, and the expected answers.
-use crate::answers::seen_answer;
 use crate::calls::seen_calls;
 use crate::expected::Expected;
 use crate::input::{Lines, Reader, Word, head_of};
-use crate::marks::seen_marks;
-use crate::names::seen_names;
+use crate::panel::seen_panel;
 use crate::questions::seen_questions;
 use crate::tables::{Shown, StoreLengths, Tables};
-use sheet_rules::{LineFault, SheetFault};
+use sheet_rules::{LineFault, Overlap, SheetFault};
 
 // The parts of a block: the lengths of the stores where they are given, whether the sheet is only displayed, the sheet, the calls, the
 // questions where there are any, whether the expected text is cut, and that text.
@@ -27,13 +25,17 @@ fn lengths_of(line: &[u8]) -> StoreLengths {
     StoreLengths::written(text::part(line, b' ', 1), text::part(line, b' ', 2))
 }
 
-// The answers of what was read or displayed, or the answers to questions.
-fn seen_grid<'a>(expected: Expected<'a>, block: Block, shown: Shown) -> Expected<'a> {
-    if let Some(questions) = block.questions {
-        return seen_questions(expected, questions, shown);
+// The answers of what was read or displayed, or the answers to questions, and the areas of a display that share a cell.
+fn seen_grid<'a>(
+    expected: Expected<'a>,
+    block: Block,
+    shown: Shown,
+    overlap: Option<Overlap>,
+) -> Expected<'a> {
+    match block.questions {
+        Some(questions) => seen_questions(expected, questions, shown).overlap(overlap),
+        None => seen_panel(expected, block.cut, shown, overlap),
     }
-    let last = seen_answer(expected, block.cut, shown);
-    seen_marks(seen_names(last, block.cut, shown), shown)
 }
 
 // A sheet that is refused.
@@ -79,7 +81,7 @@ impl<'a> Block<'a> {
         match tables.read(self.sheet, self.lengths) {
             Ok(panel) => {
                 let called = seen_calls(expected, self, panel, tables);
-                seen_grid(called.seen, self, tables.shown(called.panel.grid))
+                seen_grid(called.seen, self, tables.shown(called.panel.grid), None)
             }
             Err(fault) => seen_fault(expected, fault),
         }
@@ -91,7 +93,7 @@ impl<'a> Block<'a> {
         match tables.display(self.sheet, self.lengths) {
             Ok(display) => {
                 let shown = tables.shown(display.grid);
-                seen_grid(expected, self, shown).overlap(display.overlap)
+                seen_grid(expected, self, shown, display.overlap)
             }
             Err(fault) => seen_fault(expected, fault),
         }

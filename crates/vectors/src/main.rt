@@ -7,6 +7,7 @@
 mod answers;
 mod block;
 mod calls;
+mod cells;
 mod conversions;
 mod counts;
 mod expected;
@@ -15,9 +16,11 @@ mod input;
 mod marks;
 mod names;
 mod nearest;
+mod panel;
 mod questions;
 mod replay;
 mod resizes;
+mod settled;
 mod tables;
 mod window;
 

@@ -1,23 +1,29 @@
 // Questions to a panel, each a line: its word, its axis, and what it asks.
 ghost use Rattle.std.specs.Prelude.{◌≤◌};
 
+use crate::cells::{packing_of, seen_cells};
 use crate::expected::Expected;
 use crate::hits::{ListLengths, Listed, seen_list};
 use crate::input::{Lines, axis_of, bits_of, field, line_of, number_of};
 use crate::nearest::{Cursor, seen_nearest};
 use crate::resizes::seen_resize;
+use crate::settled::{CellHalf, seen_settled};
 use crate::tables::{Shown, StoreLengths};
+use cell_placing::Packing;
 use coordinates::Axis;
 use line_positions::Span;
 use panel_hits::{Around, AxisSpan};
 use text::LINE_FEED;
 
-// What a line asks: the line nearest to a cursor, the least resize of an axis, or the placements within a span or around a line.
+// What a line asks: the line nearest to a cursor, the least resize of an axis, the placements within a span or around a line, where the cells
+// land, or the settled ends of a cell.
 #[derive(Clone, Copy, Debug, PartialEq, Eq)]
 enum Question {
     Nearest(Cursor),
     Resize(Axis),
     List(Listed, ListLengths),
+    Cells(Packing, StoreLengths),
+    Settled(CellHalf),
 }
 
 // The lengths that a list is asked with, from a field on.
@@ -41,6 +47,14 @@ fn question_of(text: &[u8]) -> Question {
             items: number_of(field(text, 3)),
         }),
         b"resize" => Question::Resize(axis),
+        b"cells" => Question::Cells(
+            packing_of(field(text, 1)),
+            StoreLengths::written(second, field(text, 3)),
+        ),
+        b"settled" => Question::Settled(CellHalf {
+            axis,
+            cell: number_of(second),
+        }),
         b"within" => {
             let low = bits_of(second);
             let high = bits_of(field(text, 3));
@@ -60,6 +74,8 @@ fn seen_question<'a>(expected: Expected<'a>, question: Question, shown: Shown) -
         Question::Nearest(cursor) => seen_nearest(expected, cursor, shown),
         Question::Resize(axis) => seen_resize(expected, axis, shown),
         Question::List(listed, lengths) => seen_list(expected, listed, lengths, shown),
+        Question::Cells(packing, lengths) => seen_cells(expected, packing, lengths, shown),
+        Question::Settled(half) => seen_settled(expected, half, shown),
     }
 }
 

@@ -13,8 +13,8 @@ use Rattle.sheet_forms.specs.Faults.{first_of}
 use Rattle.sheet_forms.specs.Said.{Record}
 use Rattle.sheet_faults.specs.Lines.{noted_by}
 use Rattle.sheet_faults.specs.Parts.{before_of, shared_of}
-use Rattle.sheet_faults.proofs.Parts.{line-by, line-noted}
-use Rattle.sheet_step.specs.Drafts.{held_of}
+use Rattle.sheet_faults.proofs.Parts.{names_of, line-by, line-noted}
+use Rattle.sheet_step.specs.Drafts.{held_of, names_at}
 use Rattle.panel_tables.specs.Readings.{Reading, panel_reading}
 use Rattle.sheet_step.proofs.read_line.Goals as goal
 
@@ -38,14 +38,17 @@ returns c =
     let h : PanelHeld = held_of d in
     let fs : List (List ℕ) = split 9 c.args.line.now in
     let there = c.read_record-there in
+    let names : names_at c.args.line.now there.result ≡ names_of fs (said_of there.result.said) =
+    λ i. record { first = there.ensures.first i; second = there.ensures.second i; third = there.ensures.third i; fourth = there.ensures.fourth i } in
     let areas = c.areas-areas.ensures in
     let earlier =
     c.fault_before-before.ensures
     ∙ before-same (panel_reading d.reading) (said_of there.result.said) areas.count areas.words areas.bytes c.part_at.ensures in
     let sharing = c.shared-with.ensures ∙ shared-same (said_of there.result.said) areas.count areas.words in
     let written : fault_number c.err-written.result ≡ refused_by c.write.result = ap fault_number c.err-written.ensures.value ∙ err-number c.write.result in record {
-      read = line-by h fs there.ensures.0 there.ensures.1 there.ensures.2 earlier c.write.ensures c.stage-reached.ensures
-          (c.first_fault.ensures ∙ ap (first_of (fault_number c.fault_before-before.result)) written);
-      overlap = line-noted h fs there.ensures.0 there.ensures.1 there.ensures.2 earlier c.write.ensures sharing
+      read = rw c.next_line-draft.ensures
+          (line-by h fs there.ensures.said names earlier c.write.ensures c.stage-reached.ensures
+          (c.first_fault.ensures ∙ ap (first_of (fault_number c.fault_before-before.result)) written));
+      overlap = line-noted h fs there.ensures.said names earlier c.write.ensures sharing
           (c.noted.ensures ∙ ap (noted_by (fault_number c.fault_before-before.result) (area_number_of c.shared-with.result)) written);
     }

@@ -20,7 +20,7 @@ returns-in_err-placed c =
     let fault = c.in_err-placed.field-0.0 in
     let h : c.from_residual.result ≡ Err fault = search rules in
     placed a.grid (lent_names a.lent) (lent_areas a.lent) (lent_placements a.lent) a.index c.if-grid-index.false place.result (line_placement place.result) (answered_resolution c.resolve_in.result) (short_names (lent_names a.lent)) _ (rw cut.ensures at place.ensures) refl (rw (← cut.ensures, ← place.ensures) at c.resolve_in.ensures) refl
-    (rw h (refused-placed (answered_resolution c.resolve_in.result) place.result.axis fault (short_names (lent_names a.lent)) c.in_err-placed.ensures))
+    (rw h (refused-placed (answered_resolution c.resolve_in.result) place.result.axis place.result.cell fault (short_names (lent_names a.lent)) c.in_err-placed.ensures))
 
 pub returns-in_err-check_stores : goal.returns-in_err-check_stores
 returns-in_err-check_stores c =
@@ -29,7 +29,7 @@ returns-in_err-check_stores c =
     let h : c.from_residual-in_err-check_stores.result ≡ Err fault = search rules in
     let told = short-told (short_names (lent_names a.lent)) fault (rw c.from.ensures at c.in_err-check_stores.ensures) in
     placed a.grid (lent_names a.lent) (lent_areas a.lent) (lent_placements a.lent) a.index c.if-grid-index.false place.result (line_placement place.result) (answered_resolution c.resolve_in.result) true _ (rw cut.ensures at place.ensures) refl (rw (← cut.ensures, ← place.ensures) at c.resolve_in.ensures) told.0
-    (rw h (rw told.1 (short-placed (answered_resolution c.resolve_in.result) place.result.axis c.in_ok-placed.placed c.in_ok-placed.ensures)))
+    (rw h (rw told.1 (short-placed (answered_resolution c.resolve_in.result) place.result.axis place.result.cell c.in_ok-placed.placed c.in_ok-placed.ensures)))
 
 pub returns : goal.returns
 returns c =

@@ -26,12 +26,12 @@ loop-index-preserved c =
       s.0.0 ∙ l.invariant.3,
       s.1.0 ∙ l.invariant.4,
       rest-next a.numbers.now k c.in-Some.chunk.now _ cut whole,
-      listed-turn t k (min a.count 256) before _ _ (omega (arith, few, s.0.1.0, l.invariant.2, l.invariant.3)) put l.invariant.6,
+      listed-turn t k (min a.count 512) before _ _ (omega (arith, few, s.0.1.0, l.invariant.2, l.invariant.3)) put l.invariant.6,
     )
 
 pub returns : goal.returns
 returns c =
-    let a = c.args in let l = c.loop-index in let t = is_hit a.asked a.numbers.now in let k = min a.count 256 in
+    let a = c.args in let l = c.loop-index in let t = is_hit a.asked a.numbers.now in let k = min a.count 512 in
     let ended : k ≤ length l.yielded =
     ⊎_elim
     (λ h. omega (arith, h.1.1, l.invariant.2, l.invariant.3))

@@ -8,6 +8,6 @@ use Rattle.placement_hits.proofs.list.write_hits.Given as goal
 
 abbrev pub invariant-loop-index : goal.invariant-loop-index
 invariant-loop-index l =
-    (l.written ≤ length l.yielded) × (length l.yielded ≤ min l.count 256) × ((zip_first l.index-iterator).start ≡ length l.yielded) × ((zip_first l.index-iterator).end ≡ l.count)
+    (l.written ≤ length l.yielded) × (length l.yielded ≤ min l.count 512) × ((zip_first l.index-iterator).start ≡ length l.yielded) × ((zip_first l.index-iterator).end ≡ l.count)
     × (chunks_exact_size (zip_second l.index-iterator) ≡ 8) × (chunks_exact_rest (zip_second l.index-iterator) ≡ drop (8 * length l.yielded) l.numbers)
-    × (listed_from (is_hit l.asked l.numbers) (length l.yielded) (min l.count 256 - length l.yielded) (record { count = l.written; hits = l.hits }) ≡ listed_from (is_hit l.asked l.numbers) 0 (min l.count 256) (record { count = 0; hits = l.initial.hits }))
+    × (listed_from (is_hit l.asked l.numbers) (length l.yielded) (min l.count 512 - length l.yielded) (record { count = l.written; hits = l.hits }) ≡ listed_from (is_hit l.asked l.numbers) 0 (min l.count 512) (record { count = 0; hits = l.initial.hits }))

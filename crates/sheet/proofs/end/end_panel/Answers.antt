@@ -17,8 +17,8 @@ returns c =
     let n = c.end_in-rows_end in
     let x : EndedAxis = record { answer = answered_end (state_in d.panel Column) k.result; words = k.new.words } in
     let y : EndedAxis = record { answer = answered_end (state_in d.panel Row) n.result; words = n.new.words } in
-    let l : length d.words ≡ 25600 = omega arith in
-    let m : length x.words ≡ 25600 = omega arith in
+    let l : length d.words ≡ 26368 = omega arith in
+    let m : length x.words ≡ 26368 = omega arith in
     let e : x ≡ ended_in Column (state_in d.panel Column) (panel_reading d.reading).columns d.words = rw (c.axis-columns.ensures.state, c.axis-columns.ensures.reading) at k.ensures.ended in
     let f : y ≡ ended_in Row (state_in d.panel Row) (panel_reading d.reading).rows x.words = rw (c.axis-rows.ensures.state, c.axis-rows.ensures.reading) at n.ensures.ended in
     rw (c.first_refusal.ensures, c.with_state-draft.ensures, c.with_state-columns_ended.ensures, c.unwrap_or.ensures, c.unwrap_or-2.ensures, c.axis-columns.ensures.state, c.axis-rows.ensures.state)

@@ -43,7 +43,7 @@ returns-in_err-self-in-Place c =
     (placements-back d.panel (panel_reading d.reading) d.words d.bytes d.column_bytes d.row_bytes (omega arith) (omega arith) c.in-Place.axis (place_end c.in-Place.ends.start) c.part_at-first.result.now (part_at a.line.now a.there.first)
     (place_end c.in-Place.ends.end) c.part_at-second.result.now (part_at a.line.now a.there.second)
     (record { answer = answered_panel d.panel (Err c.in_err-self-in-Place.field-0.0); words = c.on_placements.new.words; bytes = c.on_placements.new.bytes })
-    (rw (c.named_end-from.ensures.end, c.named_end-from.ensures.name, c.named_end-to.ensures.end, c.named_end-to.ensures.name) at c.in_err-self-in-Place.ensures.written) c.part_at-first.ensures c.part_at-second.ensures (omega arith) (omega arith))
+    (rw (c.named_end-from.ensures, c.named_end-to.ensures) at c.in_err-self-in-Place.ensures.written) c.part_at-first.ensures c.part_at-second.ensures (omega arith) (omega arith))
 
 pub returns-in_ok-self-in-Place : goal.returns-in_ok-self-in-Place
 unfolding on_placements
@@ -54,4 +54,4 @@ returns-in_ok-self-in-Place c =
     (placements-back d.panel (panel_reading d.reading) d.words d.bytes d.column_bytes d.row_bytes (omega arith) (omega arith) c.in-Place.axis (place_end c.in-Place.ends.start) c.part_at-first.result.now (part_at a.line.now a.there.first)
     (place_end c.in-Place.ends.end) c.part_at-second.result.now (part_at a.line.now a.there.second)
     (record { answer = answered_panel d.panel (Ok c.in_ok-self-in-Place.field-0); words = c.on_placements.new.words; bytes = c.on_placements.new.bytes })
-    (rw (c.named_end-from.ensures.end, c.named_end-from.ensures.name, c.named_end-to.ensures.end, c.named_end-to.ensures.name) at c.in_ok-self-in-Place.ensures.written) c.part_at-first.ensures c.part_at-second.ensures (omega arith) (omega arith))
+    (rw (c.named_end-from.ensures, c.named_end-to.ensures) at c.in_ok-self-in-Place.ensures.written) c.part_at-first.ensures c.part_at-second.ensures (omega arith) (omega arith))
