@@ -42,7 +42,9 @@ enum palgwern_refusal {
     PALGWERN_OVERLAP = 12,  /* overlap: an area that shares a cell with an earlier one */
     PALGWERN_UNEQUAL = 13,  /* unequal: a row of a picture that is not as wide as the first one */
     PALGWERN_BROKEN = 14,   /* broken: a picture in which the cells of a name form no filled rectangle */
-    PALGWERN_UNPLACED = 15  /* unplaced: a cell for which no place is free, or that leaves the columns or rows */
+    PALGWERN_UNPLACED = 15, /* unplaced: a cell for which no place is free, or that leaves the columns or rows */
+    PALGWERN_HISTORY_FULL = 16, /* history full: an edit whose line does not fit in the bytes that are free of a history; no call gives it yet */
+    PALGWERN_NO_STEP = 17   /* no step: a step above the last of a history; no call gives it yet */
 };
 
 /* Limits, by document 01. */

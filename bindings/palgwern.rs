@@ -389,6 +389,8 @@ pub enum Word {
     Unequal = 13,
     Broken = 14,
     Unplaced = 15,
+    HistoryFull = 16,
+    NoStep = 17,
 }
 
 /// Two areas that share a cell, numbered from 1 in sheet order.
@@ -415,7 +417,7 @@ pub struct Refusal {
 }
 
 /// The refusals with their words as they are written.
-const WORDS: [(Word, &str); 15] = [
+const WORDS: [(Word, &str); 17] = [
     (Word::Unread, "unread"),
     (Word::Name, "name"),
     (Word::Value, "value"),
@@ -431,6 +433,8 @@ const WORDS: [(Word, &str); 15] = [
     (Word::Unequal, "unequal"),
     (Word::Broken, "broken"),
     (Word::Unplaced, "unplaced"),
+    (Word::HistoryFull, "history full"),
+    (Word::NoStep, "no step"),
 ];
 
 impl fmt::Display for Word {

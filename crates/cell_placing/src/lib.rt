@@ -12,10 +12,10 @@ pub mod pass;
 pub mod words;
 
 use cell_sides::Side;
-use coordinates::limit::MOST_PLACEMENTS;
+use coordinates::limit::MOST_ITEMS;
 
 // The most cells of a call.
-pub const MOST_PLACED: usize = MOST_PLACEMENTS;
+pub const MOST_PLACED: usize = MOST_ITEMS;
 
 // How cells are packed: in sparse packing no automatic cell lands before the one placed last, in dense packing each takes the first place.
 #[derive(Clone, Copy, Debug, PartialEq, Eq)]

@@ -3,7 +3,7 @@ use native.Mathlib.Omega.{arith}
 use mathlib.Core.Path.{◌≡◌}
 use Rattle.coordinates.specs.Refusals.{number_of}
 use Rattle.coordinates.specs.declared.refusal.Fault.{Fault}
-use Rattle.coordinates.specs.declared.refusal.Fault.TheVariants.{Unread, Name, Value, Count, Area, Twice, Late, Crowded, ZeroLine, Short, Indefinite, Overlap, Unequal, Broken, Unplaced}
+use Rattle.coordinates.specs.declared.refusal.Fault.TheVariants.{Unread, Name, Value, Count, Area, Twice, Late, Crowded, ZeroLine, Short, Indefinite, Overlap, Unequal, Broken, Unplaced, HistoryFull, NoStep}
 
 -- a fault has a number
 pub fault_some : (fault : Fault) → number_of fault ≡ 0 → ⊥
@@ -22,3 +22,5 @@ fault_some Overlap e = omega (arith, e)
 fault_some Unequal e = omega (arith, e)
 fault_some Broken e = omega (arith, e)
 fault_some Unplaced e = omega (arith, e)
+fault_some HistoryFull e = omega (arith, e)
+fault_some NoStep e = omega (arith, e)

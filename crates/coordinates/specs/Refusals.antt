@@ -2,7 +2,7 @@
 use Rattle.std.specs.Prelude.{ℕ, ◌<◌, ◌≡◌, ◌⊎◌, Option, Some, None, Result, Ok, Err, MatchResult}
 use Rattle.coordinates.specs.declared.refusal.Fault.{Fault}
 use Rattle.coordinates.specs.declared.refusal.UnknownFault.{UnknownFault}
-use Rattle.coordinates.specs.declared.refusal.Fault.TheVariants.{Unread, Name, Value, Count, Area, Twice, Late, Crowded, ZeroLine, Short, Indefinite, Overlap, Unequal, Broken, Unplaced}
+use Rattle.coordinates.specs.declared.refusal.Fault.TheVariants.{Unread, Name, Value, Count, Area, Twice, Late, Crowded, ZeroLine, Short, Indefinite, Overlap, Unequal, Broken, Unplaced, HistoryFull, NoStep}
 
 -- a refusal: its number, 0 where nothing is refused, and its place, the sheet's line
 pub record Refusal : Type 0 where
@@ -69,6 +69,14 @@ broken = 14
 abbrev pub unplaced : ℕ
 unplaced = 15
 
+-- document 02, Req 14: "refuses an edit by 16, after all other refusals, when its line does not fit in the bytes then free"
+abbrev pub history_full : ℕ
+history_full = 16
+
+-- "and a step above the last by 17"
+abbrev pub no_step : ℕ
+no_step = 17
+
 -- the number of a fault in the table
 abbrev pub number_of : Fault → ℕ
 number_of Unread = unread
@@ -86,10 +94,12 @@ number_of Overlap = overlap
 number_of Unequal = unequal
 number_of Broken = broken
 number_of Unplaced = unplaced
+number_of HistoryFull = history_full
+number_of NoStep = no_step
 
 -- the fault that has a number, or that number where none has it
 abbrev pub Decodes : ℕ → Result Fault UnknownFault → Type 0
-Decodes number r = MatchResult r (λ fault. number_of fault ≡ number) (λ unknown. (unknown.0 ≡ number) × ((number ≡ 0) ⊎ (15 < number)))
+Decodes number r = MatchResult r (λ fault. number_of fault ≡ number) (λ unknown. (unknown.0 ≡ number) × ((number ≡ 0) ⊎ (17 < number)))
 
 -- the number of a fault that may be absent: 0 where there is none
 abbrev pub fault_number : Option Fault → ℕ

@@ -1,7 +1,10 @@
 // Limits of a panel that several layers name.
 
-// The most placements of a panel.
-pub const MOST_PLACEMENTS: usize = 256;
+// The most `place` and `cell` lines of a panel, together.
+pub const MOST_ITEMS: usize = 256;
+
+// The most placements of a panel: one for each `place` line, two for each `cell` line.
+pub const MOST_PLACEMENTS: usize = 2 * MOST_ITEMS;
 
 // How many numbers a placement takes in a run.
 pub const PLACEMENT_NUMBERS: usize = 8;

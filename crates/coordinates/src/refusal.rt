@@ -36,6 +36,10 @@ pub enum Fault {
     Broken = 14,
     // a cell for which no place is free, or whose lines leave the columns or the rows (document 02, Req 10)
     Unplaced = 15,
+    // an edit whose line does not fit in the bytes that are free of a history (document 02, Req 14)
+    HistoryFull = 16,
+    // a step above the last of a history
+    NoStep = 17,
 }
 
 // A number that no fault has.
@@ -84,6 +88,8 @@ impl TryFrom<u32> for Fault {
             13 => Ok(Fault::Unequal),
             14 => Ok(Fault::Broken),
             15 => Ok(Fault::Unplaced),
+            16 => Ok(Fault::HistoryFull),
+            17 => Ok(Fault::NoStep),
             _ => Err(UnknownFault(number)),
         }
     }

@@ -26,6 +26,7 @@ pub mod lines;
 pub mod resize;
 pub mod sizes;
 
+use coordinates::limit::PLACEMENT_RUN;
 use coordinates::{Axis, Fault};
 use library_names::{LINE_NAME_RUN, write_lists};
 use library_numbers::axis::entry_in_no_axis;
@@ -37,7 +38,7 @@ use panel_names::LentNames;
 use panel_names::entering::enter_in_place;
 use panel_names::naming::line_entry;
 use panel_resolving::placing::resolve_placement;
-use panel_resolving::run::{PLACEMENT_RUN, write_placements};
+use panel_resolving::run::write_placements;
 use panel_tables::region::{PANEL_BYTES, PANEL_WORDS};
 use panel_tables::{Grid, LentPanel, Panel};
 

@@ -6,8 +6,9 @@ ghost use Rattle.placement_hits.specs.Steps.{Listed, listed_of};
 ghost use Rattle.panel_hits.specs.Settled.{counts_in, lent_of, settled_hits};
 
 use coordinates::Axis;
+use coordinates::limit::PLACEMENT_RUN;
 use panel_calls::axis_track::axis_tracks;
-use panel_resolving::run::{PLACEMENT_RUN, write_placements};
+use panel_resolving::run::write_placements;
 use panel_tables::axis::grid_in;
 use panel_tables::{Grid, LentPanel};
 use placement_hits::list::{MOST_HITS, write_hits};

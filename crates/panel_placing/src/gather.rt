@@ -9,10 +9,10 @@ ghost use Rattle.panel_placing.specs.Steps.{Collected, Gathered, ItemAt, LinesOf
 
 use cell_placing::{Item, MOST_PLACED};
 use cell_sides::cell::CellLines;
-use coordinates::limit::PLACEMENT_NUMBERS;
+use coordinates::limit::{PLACEMENT_NUMBERS, PLACEMENT_RUN};
 use coordinates::{Axis, Line};
 use free_cells::search::LAST_ROW_LINE;
-use panel_resolving::run::{PLACEMENT_RUN, write_placements};
+use panel_resolving::run::write_placements;
 use panel_tables::placement::{MOST_PLACEMENTS, placement_at};
 use panel_tables::region::placement_words;
 use panel_tables::{Grid, LentPanel};

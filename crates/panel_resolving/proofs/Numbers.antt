@@ -16,7 +16,7 @@ use Rattle.coordinates.specs.declared.axis.Axis.{Axis}
 use Rattle.coordinates.specs.declared.axis.Axis.TheVariants.{Column, Row}
 use Rattle.std.specs.Prelude.{Result, Ok, Err}
 use Rattle.coordinates.specs.declared.refusal.Fault.{Fault}
-use Rattle.coordinates.specs.declared.refusal.Fault.TheVariants.{Unread, Name, Value, Count, Area, Twice, Late, Crowded, ZeroLine, Short, Indefinite, Overlap, Unequal, Broken, Unplaced}
+use Rattle.coordinates.specs.declared.refusal.Fault.TheVariants.{Unread, Name, Value, Count, Area, Twice, Late, Crowded, ZeroLine, Short, Indefinite, Overlap, Unequal, Broken, Unplaced, HistoryFull, NoStep}
 use Rattle.coordinates.specs.Refusals.{number_of, count, short}
 use Rattle.coordinates.proofs.Faults.{fault_some}
 use Rattle.name_resolver.specs.Types.{NonNamedGridPlacement}
@@ -50,6 +50,8 @@ small-fault Overlap = omega arith
 small-fault Unequal = omega arith
 small-fault Broken = omega arith
 small-fault Unplaced = omega arith
+small-fault HistoryFull = omega arith
+small-fault NoStep = omega arith
 
 small_axis : (a : Axis) (cell : Bool) → axis_mark a cell < 2147483648
 small_axis Column true = omega arith

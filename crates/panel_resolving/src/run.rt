@@ -12,14 +12,11 @@ ghost use Rattle.panel_resolving.specs.Placements.{WrittenNumbers, numbers_count
 use crate::axis_run::Run;
 use crate::placing::whole_around;
 use crate::write::write_axis;
-use coordinates::limit::PLACEMENT_NUMBERS;
+use coordinates::limit::PLACEMENT_RUN;
 use coordinates::{Axis, Fault};
 use panel_names::LentNames;
 use panel_tables::placement::MOST_PLACEMENTS;
 use panel_tables::{Grid, LentPanel};
-
-// The numbers of a run of as many placements as a panel holds.
-pub const PLACEMENT_RUN: usize = MOST_PLACEMENTS as usize * PLACEMENT_NUMBERS;
 
 // Whether a run can be given, of so many placements that are held.
 #[tactic(auto, unfolding(crate::specs::Placements::numbers_refusal))]

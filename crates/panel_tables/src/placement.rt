@@ -8,11 +8,11 @@ use crate::{EndPlace, PlacementEnd, PlacementPlace};
 use coordinates::Axis;
 use coordinates::limit::LONGEST_NAME;
 
-// The most `place` and `cell` lines of a panel, together.
-pub const MOST_ITEMS: u32 = coordinates::limit::MOST_PLACEMENTS as u32;
+// The most `place` and `cell` lines of a panel, together, as it counts them.
+pub const MOST_ITEMS: u32 = coordinates::limit::MOST_ITEMS as u32;
 
-// The most placements of the table: two for each cell.
-pub const MOST_PLACEMENTS: u32 = 2 * MOST_ITEMS;
+// The most placements of the table, as it counts them.
+pub const MOST_PLACEMENTS: u32 = coordinates::limit::MOST_PLACEMENTS as u32;
 
 // Where the lines of the cells start, behind the words of the placements.
 pub const CELL_LINES: usize = 2 * MOST_PLACEMENTS as usize;

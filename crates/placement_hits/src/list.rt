@@ -4,13 +4,10 @@ ghost use Rattle.placement_hits.specs.Steps.{Listed, is_hit, listed_of, one_list
 
 use crate::Asked;
 use crate::member::Placement;
-use coordinates::limit::{MOST_PLACEMENTS, PLACEMENT_NUMBERS};
+use coordinates::limit::{MOST_PLACEMENTS, PLACEMENT_NUMBERS, PLACEMENT_RUN};
 
-// The most placements of a list, which is as many as a panel holds: two for each cell.
-pub const MOST_HITS: usize = 2 * MOST_PLACEMENTS;
-
-// The numbers of a run of as many.
-pub const RUN_NUMBERS: usize = MOST_HITS * PLACEMENT_NUMBERS;
+// The most placements of a list, which is as many as a panel holds.
+pub const MOST_HITS: usize = MOST_PLACEMENTS;
 
 // Writes the index of a placement after those written so far where it is asked for; how many there are then.
 fn put_hit(
@@ -33,7 +30,7 @@ fn put_hit(
 // Writes the indexes of the placements of a run that are asked for, ascending, from the first place on; how many there are.
 pub fn write_hits(
     asked: Asked,
-    numbers: &[i32; RUN_NUMBERS],
+    numbers: &[i32; PLACEMENT_RUN],
     count: u32,
     hits: &mut [u32; MOST_HITS],
 ) -> u32

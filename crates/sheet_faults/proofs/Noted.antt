@@ -1,7 +1,7 @@
 -- A fault that is not an overlap has another number. Assumes nothing.
 use Rattle.std.specs.Prelude.{◌≡◌, false, eqb, Option, Some, None, refl}
 use Rattle.coordinates.specs.declared.refusal.Fault.{Fault}
-use Rattle.coordinates.specs.declared.refusal.Fault.TheVariants.{Unread, Name, Value, Count, Area, Twice, Late, Crowded, ZeroLine, Short, Indefinite, Overlap, Unequal, Broken, Unplaced}
+use Rattle.coordinates.specs.declared.refusal.Fault.TheVariants.{Unread, Name, Value, Count, Area, Twice, Late, Crowded, ZeroLine, Short, Indefinite, Overlap, Unequal, Broken, Unplaced, HistoryFull, NoStep}
 use Rattle.coordinates.specs.Refusals.{fault_number}
 
 pub other_fault : (f : Option Fault) → (f ≡ Some Overlap → ⊥) → eqb (fault_number f) 12 ≡ false
@@ -21,3 +21,5 @@ other_fault (Some Overlap) h = absurd (h refl)
 other_fault (Some Unequal) h = refl
 other_fault (Some Broken) h = refl
 other_fault (Some Unplaced) h = refl
+other_fault (Some HistoryFull) h = refl
+other_fault (Some NoStep) h = refl

@@ -5,7 +5,7 @@ use native.Mathlib.Omega.{arith}
 use mathlib.Core.Bool.{false≢true}
 use borrow.Author.Tests.{eq-eqb}
 use Rattle.coordinates.specs.declared.refusal.Fault.{Fault}
-use Rattle.coordinates.specs.declared.refusal.Fault.TheVariants.{Unread, Name, Value, Count, Area, Twice, Late, Crowded, ZeroLine, Short, Indefinite, Overlap, Unequal, Broken, Unplaced}
+use Rattle.coordinates.specs.declared.refusal.Fault.TheVariants.{Unread, Name, Value, Count, Area, Twice, Late, Crowded, ZeroLine, Short, Indefinite, Overlap, Unequal, Broken, Unplaced, HistoryFull, NoStep}
 use Rattle.coordinates.specs.Refusals.{number_of, refused_by}
 use Rattle.sheet_forms.specs.Faults.{rank_of, first_of}
 use Rattle.sheet_forms.specs.Answers.{first_named, both_of, value_or}
@@ -27,6 +27,8 @@ fault_number Overlap = refl
 fault_number Unequal = refl
 fault_number Broken = refl
 fault_number Unplaced = refl
+fault_number HistoryFull = refl
+fault_number NoStep = refl
 
 pub fault_some : (f : Fault) → number_of f ≡ 0 → ⊥
 fault_some f e = false≢true (sym (fault_number f) ∙ eq-eqb (number_of f) 0 e)

@@ -47,7 +47,9 @@ pub fn rank(fault: Fault) -> u64
         Fault::Unequal => 10,
         Fault::Broken => 11,
         Fault::Short => 12,
-        Fault::Indefinite | Fault::Unplaced => after_all(u32::from(fault)),
+        Fault::Indefinite | Fault::Unplaced | Fault::HistoryFull | Fault::NoStep => {
+            after_all(u32::from(fault))
+        }
     }
 }
 
