@@ -16,6 +16,7 @@ mod style_helpers;
 mod table;
 mod template;
 mod timing;
+mod trial;
 mod util;
 
 pub(crate) use geometry::*;
@@ -35,7 +36,7 @@ use timing::pair;
 
 const STAGES: [&str; 5] = ["sizes", "names", "placements", "records", "line names"];
 /// What is timed beside the stages.
-const PARTS: [&str; 4] = ["reading", "templates", "cursor", "cells"];
+const PARTS: [&str; 5] = ["reading", "templates", "cursor", "cells", "trials"];
 const GROWTH: [&str; 4] = ["small", "medium", "large, 16 names", "large, 1,440 names"];
 
 /// Both sides of a sheet, after they were seen to answer alike; ends the program where they do not.
@@ -93,7 +94,7 @@ fn readings(sheets: &[Sheet]) {
     [panels::forty_lines(), panels::longest()].iter().chain(sheets).for_each(reading);
 }
 
-/// Every stage, the reading, the templates, the cursor and the cells, or those that are named.
+/// Every stage, the reading, the templates, the cursor, the cells and the trials, or those that are named.
 fn main() {
     let words: Vec<String> = std::env::args().skip(1).collect();
     if let Some(word) = words.iter().find(|word| !PARTS.contains(&word.as_str()) && !STAGES.contains(&word.as_str())) {
@@ -124,5 +125,9 @@ fn main() {
     }
     if asked("cells") {
         cells::print();
+        println!();
+    }
+    if asked("trials") {
+        trial::print();
     }
 }

@@ -99,6 +99,16 @@ fn records() -> String {
     axis('c', 10_000) + &repeat('c', "fill", tracks('c', 16, 0..0)) + &spares + "extra\tc\t10000\t10000\n"
 }
 
+/// 16 columns, two names on each of their lines, and 256 cells, every fourth from a named line on.
+pub(crate) fn named_cells() -> Sheet {
+    let free = "\tauto\t-\t0\tauto\t-\t0";
+    let cell = |at: usize| match at % 4 {
+        0 => format!("cell\tnamed\t{}\t1\tauto\t-\t0{free}\n", name(at / 4 % 16)),
+        _ => format!("cell{free}{free}\n"),
+    };
+    Sheet { panel: "256 cells", text: tracks('c', 16, 0..32) + &(0..256).map(cell).collect::<String>() }
+}
+
 /// Forty lines: an axis, and names and tracks by turns.
 pub(crate) fn forty_lines() -> Sheet {
     Sheet { panel: "40 lines", text: axis('c', 20) + &tracks('c', 19, 0..20) }

@@ -1,5 +1,5 @@
-//! A name that is tried, beside the run of all placements alone, and beside entering it and asking for the same.
-use crate::palgwern::{Axis, Packing, Panel, LANDS, PLACEMENT_RUN};
+//! A name that is tried, beside the same answers of a panel in which it is entered, and beside entering it in a copy and asking that.
+use crate::palgwern::{Axis, Packing, Panel, CELLS, PLACEMENT_RUN};
 use crate::panels::{self, Sheet};
 use crate::table;
 use crate::timing::pair;
@@ -12,45 +12,52 @@ const LINE: u32 = 2;
 /// What an answer is written to.
 struct Room {
     numbers: [i32; PLACEMENT_RUN],
-    lands: [u64; LANDS],
+    lands: [u64; CELLS],
 }
 
 impl Room {
     fn new() -> Room {
-        Room { numbers: [0; PLACEMENT_RUN], lands: [0; LANDS] }
+        Room { numbers: [0; PLACEMENT_RUN], lands: [0; CELLS] }
     }
 
-    fn run(&mut self, panel: &Panel) {
+    /// All placements, and where the cells land.
+    fn answered(&mut self, panel: &Panel) {
         black_box(panel.write_placements(0, &mut self.numbers)).ok();
+        black_box(panel.place_cells(Packing::Sparse)).ok();
     }
 
     fn tried(&mut self, panel: &Panel) {
         black_box(panel.write_trial(Axis::Columns, LINE, black_box(NAME), Packing::Sparse, &mut self.numbers, &mut self.lands)).ok();
     }
 
-    /// The entry, the same answers, and the panel as it was.
-    fn entered(&mut self, panel: &mut Panel) {
-        let before = panel.state();
-        black_box(panel.enter(Axis::Columns, LINE, black_box(NAME))).ok();
-        self.run(panel);
-        black_box(panel.place_cells(Packing::Sparse)).ok();
-        panel.set_state(before);
+    fn copied(&mut self, panel: &Panel) {
+        self.answered(&entered(panel));
     }
 }
 
+/// A copy in which the name is entered.
+fn entered(panel: &Panel) -> Panel {
+    let mut copy = panel.clone();
+    copy.enter(Axis::Columns, LINE, black_box(NAME)).unwrap_or_else(|refusal| panic!("{refusal}"));
+    copy
+}
+
 fn print_panel(sheet: &Sheet) {
-    let panel = Panel::read(sheet.text.as_bytes()).unwrap_or_else(|refusal| panic!("{refusal}"));
-    let (mut own, mut room, mut other, mut again) = (panel.clone(), Room::new(), Room::new(), Room::new());
-    assert!(panel.try_name(Axis::Columns, LINE, NAME, Packing::Sparse).is_ok());
-    let (alone, tried) = pair(|| room.run(&panel), || other.tried(&panel));
-    let (entered, _) = pair(|| again.entered(&mut own), || ());
-    let placements = table::grouped(panel.placements() as usize);
-    let [alone, entered, tried, above] = [alone, entered, tried, tried - alone].map(table::time);
-    println!("| {} | {placements} | {alone} | {entered} | {tried} | {above} |", sheet.panel);
+    let panel = Panel::read(&sheet.text).unwrap_or_else(|refusal| panic!("{refusal}"));
+    let named = entered(&panel);
+    let (mut answers, mut trials, mut copies) = (Room::new(), Room::new(), Room::new());
+    let tried = panel.try_name(Axis::Columns, LINE, NAME, Packing::Sparse).unwrap_or_else(|refusal| panic!("{refusal}"));
+    assert!(named.resolved().eq(tried.placements) && named.place_cells(Packing::Sparse) == Ok(tried.lands));
+    let (answered, tried) = pair(|| answers.answered(&named), || trials.tried(&panel));
+    let (copied, _) = pair(|| copies.copied(&panel), || ());
+    let (placements, cells) = (table::grouped(panel.placements() as usize), panel.grid().cells);
+    let [answered, copied, tried, above] = [answered, copied, tried, tried - answered].map(table::time);
+    println!("| {} | {placements} | {cells} | {answered} | {copied} | {tried} | {above} |", sheet.panel);
 }
 
 pub(crate) fn print() {
-    println!("| Panel | Placements | All in one run | Entered, all in one run, and cells placed | Tried | Tried above the run |");
-    println!("|---|---|---|---|---|---|");
+    let times = ["Placements and cells, the name entered", "Copied, entered, and the same", "Tried", "Tried above the first"];
+    println!("| Panel | Placements | Cells | {} |", times.join(" | "));
+    println!("|---|---|---|---|---|---|---|");
     panels::all().iter().chain([&panels::named_cells()]).filter(|sheet| sheet.panel != "60,001 records").for_each(print_panel);
 }

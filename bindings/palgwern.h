@@ -1,11 +1,11 @@
-/* Palgwern's calls for C: a panel sheet read, names entered, placements, line names and track records answered.
+/* Palgwern's calls for C: a panel sheet read, names entered or tried, placements, line names and track records answered.
  *
  * Link target/staticlib/libpalgwern.a (x86-64 Linux), which `tools/make palgwern` writes. Every call is proved to end and to
  * answer as its contract in crates/palgwern/src says, whatever the panel and what is lent hold. What C must ensure:
  *
- * - stack: 512 KiB of room for palgwern_read_sheet and palgwern_display_sheet, 192 KiB for palgwern_line_names, 128 KiB for
- *   palgwern_placements_within, palgwern_placements_around and palgwern_place_cells, 64 KiB for each other call (`bindings/stack` bounds
- *   each from the archive's instructions, and `bindings/test` measures them);
+ * - stack: 512 KiB of room for palgwern_read_sheet, palgwern_display_sheet and palgwern_try_name, 192 KiB for palgwern_line_names,
+ *   128 KiB for palgwern_placements_within, palgwern_placements_around and palgwern_place_cells, 64 KiB for each other call
+ *   (`bindings/stack` bounds each from the archive's instructions, and `bindings/test` measures them);
  * - memory: everything that is lent is initialized, whatever it holds, and not null; an array has the length that is stated here,
  *   a pointer with a length has so many elements, and one of length 0 still points somewhere;
  * - no overlap: what a call may write (no `const`) is part of nothing else that is lent to it, and nobody else reads or writes it
@@ -222,6 +222,8 @@ typedef struct palgwern_count_answer { uint32_t number; uint64_t count; } palgwe
 typedef struct palgwern_line_answer { uint32_t number; int32_t line; } palgwern_line_answer;
 typedef struct palgwern_name_answer { uint32_t number; uint32_t offset; uint32_t length; } palgwern_name_answer;
 typedef struct palgwern_cells_answer { uint32_t number; uint32_t line; uint32_t count; } palgwern_cells_answer;
+/* How many placements and how many cells a trial answers. */
+typedef struct palgwern_trial_answer { uint32_t number; uint32_t line; uint32_t placements; uint32_t cells; } palgwern_trial_answer;
 typedef struct palgwern_resize_answer { uint32_t number; uint32_t found; uint32_t size; } palgwern_resize_answer;
 /* A mark is 1 where the line of its end was held within -10,000..10,000 of the first explicit line, or a line on the way to it was: a
  * written line, the line of a name, the line beside a named span. 0 says that it would be the same if lines were never held. */
@@ -343,11 +345,25 @@ palgwern_cells_answer palgwern_place_cells(
     const uint8_t *columnstore, size_t columnstore_bytes, const uint8_t *rowstore, size_t rowstore_bytes,
     uint32_t packing, uint64_t lands[PALGWERN_CELLS]);
 
-/* The lines of a word of palgwern_place_cells: line 1 is the first of its axis. */
+/* The lines of a word of palgwern_place_cells and of palgwern_try_name: line 1 is the first of its axis. */
 static inline uint32_t palgwern_land_column_start(uint64_t word) { return word & 0xffff; }
 static inline uint32_t palgwern_land_column_end(uint64_t word) { return word >> 16 & 0xffff; }
 static inline uint32_t palgwern_land_row_start(uint64_t word) { return word >> 32 & 0xffff; }
 static inline uint32_t palgwern_land_row_end(uint64_t word) { return word >> 48 & 0xffff; }
+
+/* What is tried beside a name: the axis and the line of its entry, and how cells are packed. */
+typedef struct palgwern_trial { uint32_t axis; uint32_t line; uint32_t packing; } palgwern_trial;
+
+/* A name tried before it is entered: where all placements and cells would be after palgwern_enter_name. The panel and all that is lent
+ * stay, but for the answer: `numbers` as palgwern_resolve_placements writes them from placement 0 on, and `lands` as palgwern_place_cells
+ * does by that packing, which is always named; what lies past them stays. Refuses by 2, by 4 (no axis, no packing, no line), by 8 and by 10
+ * as the entry, then by 4 (an explicit count above 10,000, which no sheet gives), all at line 0, and by 15 with the line of the first cell
+ * in placing order that would have no place; nothing is written then. */
+palgwern_trial_answer palgwern_try_name(
+    palgwern_panel panel, const uint64_t words[PALGWERN_PANEL_WORDS], const uint8_t bytes[PALGWERN_PANEL_BYTES],
+    const uint8_t *columnstore, size_t columnstore_bytes, const uint8_t *rowstore, size_t rowstore_bytes,
+    palgwern_trial trial, const uint8_t *name, size_t name_bytes,
+    int32_t numbers[PALGWERN_PLACEMENT_RUN], uint64_t lands[PALGWERN_CELLS]);
 
 /* The least resize that matters: of the whole inner sizes 0 to 65,535 the nearest to the size now at which the automatic repeat of an
  * axis is written out another number of times, the wider of two. `found` is 1 and `size` that size, not the change; both are 0 where
@@ -519,6 +535,12 @@ static inline palgwern_cells_answer palgwern_tables_cells(const palgwern_tables 
     uint64_t lands[PALGWERN_CELLS]) {
     return palgwern_place_cells(grid, t->words, t->bytes, t->columnstore, sizeof t->columnstore, t->rowstore, sizeof t->rowstore,
         packing, lands);
+}
+
+static inline palgwern_trial_answer palgwern_tables_try(const palgwern_tables *t, palgwern_panel panel, palgwern_trial trial,
+    const void *name, size_t bytes, int32_t numbers[PALGWERN_PLACEMENT_RUN], uint64_t lands[PALGWERN_CELLS]) {
+    return palgwern_try_name(panel, t->words, t->bytes, t->columnstore, sizeof t->columnstore, t->rowstore, sizeof t->rowstore, trial,
+        (const uint8_t *)name, bytes, numbers, lands);
 }
 
 static inline palgwern_line_answer palgwern_tables_nearest_line(const palgwern_tables *t, palgwern_grid grid, uint32_t axis,

@@ -23,7 +23,7 @@
 //!
 //! A [`Panel`] owns the buffers that the library reads and writes and hands them over together, so what the calls ask of a caller
 //! holds: initialized arrays of the right lengths that do not overlap. One thing is left to the program: 512 KiB of stack for
-//! [`Panel::read`] and [`Display::read`], which every Rust thread has unless it was asked for less.
+//! [`Panel::read`], [`Display::read`] and [`Panel::try_name`], which every Rust thread has unless it was asked for less.
 //!
 //! A call answers with a [`Refusal`] where its contract has one for it. Calls that have none for a panel that was read answer at once;
 //! should the archive refuse one all the same, they panic, and never answer with less.
@@ -239,6 +239,24 @@ pub mod raw {
 
     #[repr(C)]
     #[derive(Clone, Copy, Debug, PartialEq, Eq)]
+    pub struct TrialAnswer {
+        pub number: u32,
+        pub line: u32,
+        pub placements: u32,
+        pub cells: u32,
+    }
+
+    /// What is tried beside a name.
+    #[repr(C)]
+    #[derive(Clone, Copy, Debug, PartialEq, Eq)]
+    pub struct Trial {
+        pub axis: u32,
+        pub line: u32,
+        pub packing: u32,
+    }
+
+    #[repr(C)]
+    #[derive(Clone, Copy, Debug, PartialEq, Eq)]
     pub struct ResizeAnswer {
         pub number: u32,
         pub found: u32,
@@ -342,6 +360,11 @@ pub mod raw {
             grid: Grid, words: *const [u64; PANEL_WORDS], bytes: *const [u8; PANEL_BYTES], columnstore: *const u8,
             columnstore_bytes: usize, rowstore: *const u8, rowstore_bytes: usize, packing: u32, lands: *mut [u64; CELLS],
         ) -> CellsAnswer;
+        pub fn palgwern_try_name(
+            panel: State, words: *const [u64; PANEL_WORDS], bytes: *const [u8; PANEL_BYTES], columnstore: *const u8,
+            columnstore_bytes: usize, rowstore: *const u8, rowstore_bytes: usize, trial: Trial, name: *const u8, name_bytes: usize,
+            numbers: *mut [i32; PLACEMENT_RUN], lands: *mut [u64; CELLS],
+        ) -> TrialAnswer;
         pub fn palgwern_least_resize(grid: Grid, words: *const [u64; PANEL_WORDS], axis: u32) -> ResizeAnswer;
         pub fn palgwern_drawn_area(
             grid: Grid, words: *const [u64; PANEL_WORDS], bytes: *const [u8; PANEL_BYTES], axis: u32, name: *const u8,
@@ -369,6 +392,7 @@ const _: () = assert!(size_of::<raw::SizeAnswer>() == 12 && size_of::<raw::NameA
 const _: () = assert!(size_of::<raw::ResizeAnswer>() == 12 && size_of::<raw::CellsAnswer>() == 12);
 const _: () = assert!(size_of::<TrackCounts>() == 12 && size_of::<raw::ConversionAnswer>() == 12);
 const _: () = assert!(size_of::<raw::AreaAnswer>() == 12);
+const _: () = assert!(size_of::<raw::Trial>() == 12 && size_of::<raw::TrialAnswer>() == 16);
 const _: () = assert!(size_of::<raw::TrackAnswer>() == 8 && size_of::<raw::LineRecordAnswer>() == 12);
 
 /// A refusal by its word in the table of refusals.
@@ -586,6 +610,13 @@ impl Land {
         let line = |at: u32| (word >> (16 * at)) as u16;
         Land { columns: [line(0), line(1)], rows: [line(2), line(3)] }
     }
+}
+
+/// What a panel would answer with one more name: all placements with their names resolved, and where each cell would land.
+#[derive(Clone, Debug, PartialEq, Eq)]
+pub struct Tried {
+    pub placements: Vec<Placement>,
+    pub lands: Vec<Land>,
 }
 
 /// The minimum or the maximum of a track.
@@ -825,6 +856,32 @@ impl Panel {
             )
         };
         self.after(answer.number, answer.line, answer.panel)
+    }
+
+    /// What [`Answers::resolved`] and [`Answers::place_cells`] would answer with a line and a name entered in an axis, or the refusal: the
+    /// entry's, or `Word::Unplaced` with the line of the first cell in placing order that would have no place. The panel stays.
+    pub fn try_name(&self, axis: Axis, line: u32, name: impl AsRef<[u8]>, packing: Packing) -> Result<Tried, Refusal> {
+        let (mut numbers, mut lands) = (zeroed(), [0; CELLS]);
+        let (placements, cells) = self.write_trial(axis, line, name, packing, &mut numbers, &mut lands)?;
+        let placements = (0..placements).map(|at| Placement::of(part(&*numbers, at))).collect();
+        Ok(Tried { placements, lands: lands[..cells].iter().map(|word| Land::of(*word)).collect() })
+    }
+
+    /// Writes the same, eight numbers for each placement and a word for each cell; answers how many of each. On a refusal nothing is
+    /// written.
+    pub fn write_trial(
+        &self, axis: Axis, line: u32, name: impl AsRef<[u8]>, packing: Packing, numbers: &mut [i32; PLACEMENT_RUN],
+        lands: &mut [u64; CELLS],
+    ) -> Result<(usize, usize), Refusal> {
+        let (trial, name) = (raw::Trial { axis: axis as u32, line, packing: packing as u32 }, name.as_ref());
+        // SAFETY: as in `Panel::read_again`; `numbers` and `lands` are borrowed mutably, so they are none of the others.
+        let answer = unsafe {
+            raw::palgwern_try_name(
+                self.state(), &*self.words, &*self.bytes, self.columnstore.as_ptr(), STORE_BYTES, self.rowstore.as_ptr(), STORE_BYTES,
+                trial, name.as_ptr(), name.len(), numbers, lands,
+            )
+        };
+        accepted(answer.number, answer.line).map(|()| (answer.placements as usize, answer.cells as usize))
     }
 
     /// The panel after an edit, or as it was.

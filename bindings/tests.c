@@ -21,6 +21,7 @@ _Static_assert(sizeof(palgwern_placement_answer) == 32, "placement answer");
 _Static_assert(sizeof(palgwern_line_answer) == 8, "line answer");
 _Static_assert(sizeof(palgwern_track_counts) == 12 && sizeof(palgwern_conversion_answer) == 12, "counts, conversion answer");
 _Static_assert(sizeof(palgwern_area_answer) == 12, "area answer");
+_Static_assert(sizeof(palgwern_trial) == 12 && sizeof(palgwern_trial_answer) == 16, "trial, trial answer");
 _Static_assert(sizeof(palgwern_track_answer) == 8 && sizeof(palgwern_line_record_answer) == 12, "track and record answers");
 
 _Static_assert(PALGWERN_PLACEMENT_RUN == 2 * PALGWERN_PLACEMENTS * PALGWERN_PLACEMENT_NUMBERS, "run of placements");
@@ -833,6 +834,130 @@ static void cells(void) {
     CHECK(!memcmp(lands, untouched, sizeof lands));
 }
 
+/* Trials: what entering the name on a copy would give, and everything lent as it was. */
+#define COLUMN_LINE "track\tc\tauto\t00000000\tauto\t00000000\n"
+#define NO_END "\tauto\t-\t0"
+#define NAMED_CELL "cell\tnamed\tx\t1\tnamed\tx\t-1" NO_END NO_END "\n"
+#define LAST_CELL "cell\tnamed\tx\t-1" NO_END NO_END NO_END "\n"
+
+static palgwern_tables tried, copied;
+static palgwern_panel tried_panel;
+static int32_t copied_numbers[PALGWERN_PLACEMENT_RUN];
+static uint64_t copied_lands[PALGWERN_CELLS];
+
+static void fill_answers(void) {
+    memset(numbers, 7, sizeof numbers);
+    memset(copied_numbers, 7, sizeof numbers);
+    memset(lands, 7, sizeof lands);
+    memset(copied_lands, 7, sizeof lands);
+}
+
+/* Whether a trial has this number and line, all else in its answer 0, and nothing is written. */
+static int trial_refused(palgwern_trial_answer a, uint32_t number, uint32_t line) {
+    for (size_t i = 0; i < PALGWERN_PLACEMENT_RUN; i++) if (numbers[i] != 0x07070707) return 0;
+    for (size_t i = 0; i < PALGWERN_CELLS; i++) if (lands[i] != 0x0707070707070707) return 0;
+    return a.number == number && a.line == line && a.placements == 0 && a.cells == 0;
+}
+
+/* A trial beside the entry of the same name in a copy and the answers of that copy. */
+static palgwern_trial_answer as_entered(palgwern_trial trial, const char *name) {
+    fill_answers();
+    before = copied = tried;
+    palgwern_trial_answer a = palgwern_tables_try(&tried, tried_panel, trial, name, strlen(name), numbers, lands);
+    CHECK(!memcmp(&before, &tried, sizeof tried));
+    palgwern_panel_answer e = palgwern_tables_enter(&copied, tried_panel, trial.axis, trial.line, name, strlen(name));
+    palgwern_cells_answer c = palgwern_tables_cells(&copied, e.panel.grid, trial.packing, copied_lands);
+    uint32_t number = e.number ? e.number : c.number;
+    if (number) {
+        CHECK(trial_refused(a, number, e.number ? e.line : c.line));
+        return a;
+    }
+    CHECK(a.number == 0 && a.line == 0 && a.cells == c.count && a.placements == e.panel.grid.placements);
+    CHECK(is_count(palgwern_tables_placements(&copied, e.panel.grid, 0, copied_numbers), a.placements));
+    CHECK(!memcmp(numbers, copied_numbers, sizeof numbers) && !memcmp(lands, copied_lands, sizeof lands));
+    return a;
+}
+
+/* The start and the end of a placement in the run of a trial. */
+static int ends_at(uint32_t index, int32_t start, int32_t end) {
+    const int32_t *n = numbers + PALGWERN_PLACEMENT_NUMBERS * index;
+    return n[2] == PALGWERN_END_LINE && n[3] == start && n[4] == PALGWERN_END_LINE && n[5] == end;
+}
+
+/* Readouts before and after a name, on both axes: a name, an edge of an area by its suffix, and a cell. */
+static void trials(void) {
+    static const palgwern_trial third = {PALGWERN_COLUMNS, 3, PALGWERN_SPARSE}, second = {PALGWERN_COLUMNS, 2, PALGWERN_DENSE};
+    static const palgwern_trial row = {PALGWERN_ROWS, 1, PALGWERN_SPARSE}, first = {PALGWERN_COLUMNS, 1, PALGWERN_SPARSE};
+    palgwern_sheet_answer read = palgwern_tables_read(&tried,
+        TEXT("area\ta\t1\t2\t2\t4\nname\tc\tx\n" COLUMN_LINE COLUMN_LINE COLUMN_LINE "place\tc\tnamed\tx\t1\tnamed\tx\t2\n"
+             "place\tr\tnamed\ta\t0\tnamed\ta\t0\n" NAMED_CELL LAST_CELL "place\tc\tnamed\ta\t0\tnamed\ta\t0\n"));
+    tried_panel = read.panel;
+    CHECK(read.number == 0 && tried_panel.grid.placements == 7 && tried_panel.grid.cells == 2);
+    CHECK(is_count(palgwern_tables_placements(&tried, tried_panel.grid, 0, numbers), 7));
+    CHECK(ends_at(0, 1, 5) && ends_at(1, 1, 2) && ends_at(6, 2, 4));
+    CHECK(is_cells(palgwern_tables_cells(&tried, tried_panel.grid, PALGWERN_SPARSE, lands), 0, 0, 2));
+    CHECK(is_land(lands[0], 1, 2, 1, 2) && is_land(lands[1], 1, 2, 2, 3));
+    palgwern_trial_answer a = as_entered(third, "x");
+    CHECK(a.placements == 7 && a.cells == 2 && ends_at(0, 1, 3) && ends_at(1, 1, 2) && ends_at(6, 2, 4));
+    CHECK(is_land(lands[0], 1, 3, 1, 2) && is_land(lands[1], 3, 4, 1, 2) && lands[2] == 0x0707070707070707);
+    as_entered(second, "x");
+    CHECK(ends_at(0, 1, 2) && is_land(lands[0], 1, 2, 1, 2) && is_land(lands[1], 2, 3, 1, 2));
+    as_entered(first, "a-start");
+    CHECK(ends_at(0, 1, 5) && ends_at(6, 1, 4));
+    as_entered(row, "a-end");
+    CHECK(ends_at(1, 1, 1) && ends_at(6, 2, 4));
+    as_entered(row, "x");
+    CHECK(ends_at(0, 1, 5));
+}
+
+/* A trial of `x` with so many bytes of both stores. */
+static palgwern_trial_answer with_stores(size_t column_bytes, size_t row_bytes, palgwern_trial trial) {
+    return palgwern_try_name(tried_panel, tried.words, tried.bytes, tried.columnstore, column_bytes, tried.rowstore, row_bytes, trial,
+        (const uint8_t *)"x", 1, numbers, lands);
+}
+
+/* A panel without placements: a trial has none either, and is no refusal. */
+static void empty_trial(void) {
+    palgwern_panel empty = palgwern_tables_read(&copied, "", 0).panel;
+    fill_answers();
+    palgwern_trial_answer a = palgwern_tables_try(&copied, empty, (palgwern_trial){PALGWERN_ROWS, 1, PALGWERN_DENSE}, TEXT("x"), numbers, lands);
+    CHECK(trial_refused(a, 0, 0));
+}
+
+/* Each refusal, in its order; with `x` on the last line too the cell of line 9 would have no place. */
+static void refused_trials(void) {
+    static const palgwern_trial good = {PALGWERN_COLUMNS, 3, PALGWERN_SPARSE}, last = {PALGWERN_COLUMNS, 4, PALGWERN_DENSE};
+    static const palgwern_trial faulty[] = {{2, 1, PALGWERN_SPARSE}, {PALGWERN_ROWS, 0, PALGWERN_SPARSE},
+        {PALGWERN_ROWS, PALGWERN_ENTERED_LINE + 1, PALGWERN_DENSE}, {PALGWERN_COLUMNS, 1, 2}};
+    size_t n = PALGWERN_STORE_BYTES;
+    fill_answers();
+    before = tried;
+    for (size_t i = 0; i < sizeof faulty / sizeof *faulty; i++) {
+        CHECK(trial_refused(palgwern_tables_try(&tried, tried_panel, faulty[i], TEXT("x"), numbers, lands), PALGWERN_COUNT, 0));
+        CHECK(trial_refused(palgwern_tables_try(&tried, tried_panel, faulty[i], TEXT("not a name"), numbers, lands), PALGWERN_NAME, 0));
+        CHECK(trial_refused(with_stores(0, 0, faulty[i]), PALGWERN_COUNT, 0));
+    }
+    CHECK(trial_refused(palgwern_tables_try(&tried, tried_panel, good, TEXT(""), numbers, lands), PALGWERN_NAME, 0));
+    CHECK(trial_refused(with_stores(n - 1, n, good), PALGWERN_SHORT, 0) && trial_refused(with_stores(n, n - 1, good), PALGWERN_SHORT, 0));
+    CHECK(!memcmp(&before, &tried, sizeof tried));
+    CHECK(as_entered(last, "x").number == PALGWERN_UNPLACED && trial_refused(as_entered(last, "x"), PALGWERN_UNPLACED, 9));
+}
+
+/* An axis with all entries that it can have: 8, before 10 and 15; with one left a trial is answered. */
+static void crowded_trials(void) {
+    static const palgwern_trial last = {PALGWERN_COLUMNS, 4, PALGWERN_SPARSE};
+    palgwern_panel held = tried_panel;
+    while (tried_panel.grid.columns.entries < PALGWERN_ENTRIES) {
+        if (tried_panel.grid.columns.entries == PALGWERN_ENTRIES - 1) CHECK(as_entered(last, "y").number == 0);
+        tried_panel = palgwern_tables_enter(&tried, tried_panel, PALGWERN_COLUMNS, 1, TEXT("y")).panel;
+    }
+    CHECK(as_entered(last, "x").number == PALGWERN_CROWDED);
+    fill_answers();
+    CHECK(trial_refused(with_stores(0, 0, last), PALGWERN_CROWDED, 0));
+    CHECK(as_entered((palgwern_trial){PALGWERN_ROWS, 1, PALGWERN_SPARSE}, "x").number == 0);
+    tried_panel = held;
+}
+
 /* The calls, one for each number. */
 static void *call(void *number) {
     switch (*(int *)number) {
@@ -862,6 +987,7 @@ static void *call(void *number) {
     case 23: palgwern_tables_drawn_area(&tables, panel.grid, 0, "gamma", 5); break;
     case 24: palgwern_tables_named_area(&tables, panel.grid, 0, "gamma", 5); break;
     case 25: palgwern_tables_cells(&forged, forged_grid, PALGWERN_DENSE, lands); break;
+    case 26: palgwern_tables_try(&tried, tried_panel, (palgwern_trial){PALGWERN_ROWS, 1, PALGWERN_DENSE}, TEXT("x"), numbers, lands); break;
     }
     return NULL;
 }
@@ -886,8 +1012,8 @@ static void stacks(void) {
         "resolve_placement", "line_name", "records", "resolve_placements", "line_names", "display_sheet", "nearest_line",
         "placements_within", "placements_around", "least_resize", "into_origin_zero_line", "into_grid_line", "next_track",
         "previous_line", "line_record", "layout", "size_at",
-        "drawn_area", "named_area", "place_cells"};
-    static const size_t kibibytes[] = {0, 448, 48, 48, 48, 48, 48, 48, 48, 160, 160, 448, 48, 160, 160, 48, 48, 48, 48, 48, 48, 48, 48, 48, 48, 160};
+        "drawn_area", "named_area", "place_cells", "try_name"};
+    static const size_t kibibytes[] = {0, 448, 48, 48, 48, 48, 48, 48, 48, 160, 160, 448, 48, 160, 160, 48, 48, 48, 48, 48, 48, 48, 48, 48, 48, 160, 448};
     size_t none = stack_of(0);
     printf("stack in bytes:");
     for (size_t i = 1; i < sizeof names / sizeof *names; i++) {
@@ -918,6 +1044,10 @@ int main(int count, char **words) {
     placements();
     line_names(PALGWERN_ROWS);
     cells();
+    trials();
+    empty_trial();
+    refused_trials();
+    crowded_trials();
     stacks();
     resizes();
     sizes();

@@ -287,6 +287,59 @@ fn cells() {
     assert_eq!(Land::of(0x2711_0003_0002_0001), Land { columns: [1, 2], rows: [3, 10_001] });
 }
 
+/// A trial is what entering the name on a copy gives; the panel stays, and what lies past the answer, on a refusal all, is not written.
+fn as_entered(panel: &Panel, axis: Axis, line: u32, name: &[u8], packing: Packing) -> Result<Tried, Refusal> {
+    let (before, mut copy) = (panel.clone(), panel.clone());
+    let (mut numbers, mut lands) = ([7; PLACEMENT_RUN], [7; CELLS]);
+    let tried = panel.try_name(axis, line, name, packing);
+    let written = panel.write_trial(axis, line, name, packing, &mut numbers, &mut lands);
+    assert!(*panel == before);
+    let (placements, cells) = written.unwrap_or((0, 0));
+    assert!(numbers[PLACEMENT_NUMBERS * placements..].iter().all(|&number| number == 7) && lands[cells..].iter().all(|&land| land == 7));
+    let entered = copy.enter(axis, line, name).and_then(|()| copy.place_cells(packing));
+    assert_eq!(tried, entered.map(|lands| Tried { placements: copy.resolved().collect(), lands }));
+    assert_eq!(written.err(), tried.as_ref().err().copied());
+    tried
+}
+
+/// A name moves a placement between two lines of it, an edge of the area and the cells; without the name the last cell lies below.
+const TRIED: &[u8] = b"area\ta\t1\t2\t2\t4\nname\tc\tx\ntrack\tc\tauto\t00000000\tauto\t00000000\n\
+track\tc\tauto\t00000000\tauto\t00000000\ntrack\tc\tauto\t00000000\tauto\t00000000\n\
+place\tc\tnamed\tx\t1\tnamed\tx\t2\nplace\tr\tnamed\ta\t0\tnamed\ta\t0\n\
+cell\tnamed\tx\t1\tnamed\tx\t-1\tauto\t-\t0\tauto\t-\t0\ncell\tnamed\tx\t-1\tauto\t-\t0\tauto\t-\t0\tauto\t-\t0\n\
+place\tc\tnamed\ta\t0\tnamed\ta\t0\n";
+
+#[test]
+fn trials() {
+    let panel = Panel::read(TRIED).unwrap();
+    let ends = |tried: &Tried, index: usize| (tried.placements[index].start, tried.placements[index].end);
+    let between = |start, end| (End::Line(start), End::Line(end));
+    let land = |columns, row| Land { columns, rows: [row, row + 1] };
+    assert_eq!((panel.placement(0).unwrap().end, panel.place_cells(Packing::Sparse)), (End::Line(5), Ok(vec![land([1, 2], 1), land([1, 2], 2)])));
+    let third = as_entered(&panel, Axis::Columns, 3, b"x", Packing::Sparse).unwrap();
+    assert_eq!((ends(&third, 0), ends(&third, 6)), (between(1, 3), between(2, 4)));
+    assert_eq!(third.lands, [land([1, 3], 1), land([3, 4], 1)]);
+    let edge = as_entered(&panel, Axis::Columns, 1, b"a-start", Packing::Dense).unwrap();
+    assert_eq!(ends(&edge, 6), between(1, 4));
+    let row = as_entered(&panel, Axis::Rows, 1, b"a-end", Packing::Sparse).unwrap();
+    assert_eq!((ends(&row, 1), ends(&row, 6)), (between(1, 1), between(2, 4)));
+    assert_eq!(as_entered(&Panel::empty(), Axis::Rows, 1, b"x", Packing::Dense), Ok(Tried { placements: vec![], lands: vec![] }));
+}
+
+#[test]
+fn refused_trials() {
+    let mut panel = Panel::read(TRIED).unwrap();
+    let refused = |panel: &Panel, line, name: &[u8]| as_entered(panel, Axis::Columns, line, name, Packing::Dense).err();
+    assert_eq!((refused(&panel, 1, b""), refused(&panel, 0, b"no name")), (refusal(Word::Name, 0), refusal(Word::Name, 0)));
+    assert_eq!((refused(&panel, 0, b"x"), refused(&panel, 20_001, b"x")), (refusal(Word::Count, 0), refusal(Word::Count, 0)));
+    assert_eq!(refused(&panel, 4, b"x"), refusal(Word::Unplaced, 9));
+    for line in 1..ENTRIES as u32 {
+        panel.enter(Axis::Columns, line, b"y").unwrap();
+    }
+    assert_eq!(refused(&panel, 4, b"x"), refusal(Word::Crowded, 0));
+    assert!(as_entered(&panel, Axis::Rows, 4, b"x", Packing::Sparse).is_ok());
+}
+
 /// A sheet of columns with a fill of one track, `kind` its kind and `bits` those of its size.
 fn filled(axis: &str, kind: &str, bits: &str) -> String {
     format!("axis\tc\t{axis}\nrepeat\tc\tfill\ntrack\tc\t{kind}\t{bits}\t{kind}\t{bits}\nend\tc\n")
@@ -421,7 +474,7 @@ fn shown() {
 
 #[test]
 fn in_a_small_thread() {
-    let run = || Panel::read(LAYOUT).unwrap().placement(0).unwrap().start;
+    let run = || Panel::read(LAYOUT).unwrap().try_name(Axis::Columns, 1, "a", Packing::Sparse).unwrap().placements[0].start;
     let thread = std::thread::Builder::new().stack_size(512 * 1024).spawn(run).unwrap();
     assert_eq!(thread.join().unwrap(), End::Line(5));
 }

@@ -20,16 +20,16 @@ static const char *const ends[] = {"auto", "line", "", "span"};
 /* Large: not on the stack. */
 static palgwern_tables tables;
 static int32_t numbers[PALGWERN_PLACEMENT_RUN];
-static uint64_t lands[PALGWERN_LANDS];
+static uint64_t lands[PALGWERN_CELLS];
 
-/* The placements of `place` lines, and where the cells land. */
+/* The placements of `place` lines, whose axis is below that of a cell's half, and where the cells land. */
 static void print_readouts(uint64_t placements, uint32_t cells) {
     for (const int32_t *n = numbers; n < numbers + PALGWERN_PLACEMENT_NUMBERS * placements; n += PALGWERN_PLACEMENT_NUMBERS)
-        if (n[1] < PALGWERN_CELL)
+        if (n[1] <= PALGWERN_ROWS)
             printf("place\t%c\t%s\t%" PRId32 "\t%s\t%" PRId32 "\n", "cr"[n[1]], ends[n[2]], n[3], ends[n[4]], n[5]);
     for (const uint64_t *w = lands; w < lands + cells; w++)
-        printf("cell\t%" PRIu32 "\t%" PRIu32 "\t%" PRIu32 "\t%" PRIu32 "\n", palgwern_land_column(*w), palgwern_land_column_end(*w),
-            palgwern_land_row(*w), palgwern_land_row_end(*w));
+        printf("cell\t%" PRIu32 "\t%" PRIu32 "\t%" PRIu32 "\t%" PRIu32 "\n", palgwern_land_column_start(*w), palgwern_land_column_end(*w),
+            palgwern_land_row_start(*w), palgwern_land_row_end(*w));
 }
 
 /* The readouts as they are. */

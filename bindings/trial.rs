@@ -1,5 +1,5 @@
 //! Tries names on a panel: prints where its readouts are, and where they would go.
-use palgwern::*;
+use palgwern::{Axis, End, Land, Packing, Panel, Placement, Refusal};
 
 /// A level over two columns, a reading between two lines named `value`, of which there is one, and two cells.
 const SHEET: &str = "area\tlevel\t1\t2\t1\t3\n\
@@ -26,7 +26,7 @@ fn print_readouts(placements: &[Placement], lands: &[Land]) {
         println!("place\t{}\t{}\t{}", if p.axis == Axis::Columns { 'c' } else { 'r' }, end(p.start), end(p.end));
     }
     for Land { columns, rows } in lands {
-        println!("cell\t{}\t{}\t{}\t{}", columns.0, columns.1, rows.0, rows.1);
+        println!("cell\t{}\t{}\t{}\t{}", columns[0], columns[1], rows[0], rows[1]);
     }
 }
 
@@ -39,14 +39,14 @@ fn print_panel(panel: &Panel) -> Result<(), Refusal> {
 /// The readouts as they would be.
 fn print_trial(panel: &Panel, line: u32, name: &str) {
     println!("with {name} on line {line}");
-    match panel.try_name(Axis::Columns, line, name.as_bytes(), Packing::Sparse) {
+    match panel.try_name(Axis::Columns, line, name, Packing::Sparse) {
         Ok(tried) => print_readouts(&tried.placements, &tried.lands),
         Err(r) => println!("refused\t{}\t{}", r.number(), r.line),
     }
 }
 
 fn main() -> Result<(), Refusal> {
-    let panel = Panel::read(SHEET.as_bytes())?;
+    let panel = Panel::read(SHEET)?;
     println!("before");
     print_panel(&panel)?;
     print_trial(&panel, 3, "value");

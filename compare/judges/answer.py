@@ -1,9 +1,10 @@
-"""The model's answer to one sheet on standard input: `answer [--names] [--display] [--enter FILE]`."""
+"""The model's answer to one sheet on standard input: `answer [--names] [--display] [--enter FILE] [--try FILE]`."""
 import argparse
 import sys
 
 import build
 import model
+import questions
 
 
 def calls_of(path):
@@ -13,14 +14,22 @@ def calls_of(path):
     return [(letter.decode(), int(line), name) for letter, line, name in fields]
 
 
+def trials_of(path):
+    """The trials of a file, one line `axis TAB line TAB name TAB packing` each."""
+    rows = build.read_bytes(path).decode().split("\n")[:-1] if path else []
+    return [questions.trial(*row.split("\t")) for row in rows]
+
+
 def main():
     parser = argparse.ArgumentParser(prog="compare/answer", description="The model's answer to a sheet.")
     parser.add_argument("--names", action="store_true", help="with the line names")
     parser.add_argument("--display", action="store_true", help="the display call's answer")
     parser.add_argument("--enter", help="file of entry calls, made before the answer; their answers come first")
+    parser.add_argument("--try", dest="trials", help="file of names that are tried; their answers come last")
     options = parser.parse_args()
     answer = model.Answer(sys.stdin.buffer.read(), calls_of(options.enter), options.display)
-    sys.stdout.write(model.text_of(answer.full_answer(options.names)))
+    tried = [] if answer.refused or options.display else questions.answer_lines(answer.state, trials_of(options.trials))
+    sys.stdout.write(model.text_of(answer.full_answer(options.names) + tried))
 
 
 if __name__ == "__main__":

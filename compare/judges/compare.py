@@ -16,6 +16,8 @@ from build import CannotCompare
 
 # Above this the Rust isn't asked for the entries of a sheet that the model refuses as crowded.
 MOST_ENTRIES_ASKED = 100000
+# Above this the Rust isn't asked what a trial would give.
+MOST_TRACKS_TRIED = 300
 
 
 TEMPLATE_WORDS = (b"name", b"track", b"repeat", b"end")
@@ -352,6 +354,48 @@ def compare(sheet, calls, rust, judged=(), expected=None):
     return result
 
 
+def held_of(state):
+    """All that an entry changes."""
+    return [list(part) for part in (*state.entries.values(), state.used.items(), state.accepted)]
+
+
+def entered_lines(sheet, calls, row):
+    """What a trial has to answer, from the answers of the sheet with one call more; and that state."""
+    call, packing, stores = questions.call_of(row)
+    after = model.Answer(sheet, [*calls, call])
+    number = after.numbers[-1] or (reader.SHORT if min(stores) < model.STORE_BYTES else 0)
+    found = questions.answer_text(after.state, questions.cells(packing)).split("\t")
+    if number or found[0] == "refused":
+        return [model.refusal_line(number, 0) if number else "\t".join(found)], None
+    settled = iter(model.settled_lines(after.state))
+    placed = (f"{line}\t{held[7:]}" for line, held in zip(model.placement_lines(after.state), after.marks))
+    lines = ["settled" + next(settled)[5:] if placement.cell else next(placed) for placement in after.state.panel.placements]
+    lands = ["\t".join(["cell", *found[at:at + 4]]) for at in range(1, len(found), 4)]
+    return [f"tried\t{len(lines)}\t{len(lands)}", *lines, *lands], after.state
+
+
+def rust_placements(sheet, state, rust):
+    """The settled placements, cells' too, of a small grid by the Rust, which has no marks."""
+    if max(state.explicit.values()) > MOST_TRACKS_TRIED:
+        return None
+    lines = rust.ask(asked_of_the_rust(sheet, state.panel), state.accepted)
+    return [line[5:] for line in lines if line.startswith("place")]
+
+
+def trial_difference(answer, rust, sheet, row):
+    """A trial beside the entry of the same name after the calls, and the Rust's placements then; the panel itself stays."""
+    before = held_of(answer.state)
+    own = questions.answer_text(answer.state, row).split("\n")
+    if held_of(answer.state) != before:
+        return f"trial: {row!r} changes the panel"
+    lines, state = entered_lines(sheet, answer.calls, row)
+    if own != lines:
+        return first_difference(f"trial {row!r}", own, lines)
+    theirs = state and rust_placements(sheet, state, rust)
+    placed = [line[line.index("\t"):-4] for line in own if line.startswith(("place", "settled"))]
+    return first_difference(f"Rust: trial {row!r}", placed, theirs) if theirs is not None else None
+
+
 def recounted(sheet, calls, counts):
     """The numbers of entry calls, counted anew from the sheet's text and the Rust's entry counts."""
     used = {letter: sum(len(line.split(b"\t")[2]) for line in sheet.split(b"\n") if line.startswith(start))
@@ -391,7 +435,8 @@ def compare_accepted(answer, rust, sheet):
     if not differences[0]:
         differences.append(calls_difference(answer, sheet, lines))
     rows = questions.made(sheet, state)
-    differences.append(exact_cursor.difference(state, model.sheet_lines(state), rows, questions.answer_lines(state, rows)))
+    differences.append(exact_cursor.difference(state, model.sheet_lines(state), rows, questions.answer_texts(state, rows)))
+    differences += [trial_difference(answer, rust, sheet, row) for row in questions.trials(sheet, state)]
     differences.append(css_picture(state, sheet))
     css_found, demanded = css_differences(state)
     cells = "" if not state.panel.cells else ", cells that have no place" if answer.unplaced else ", cells"

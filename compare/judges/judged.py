@@ -59,11 +59,11 @@ class Library(Batch):
     def expected(self, sheet, answer, rows):
         """The model's whole answer: entry calls, output, names, the pair of areas that share a cell, the number of entries and the answers
         to questions; then that of the display call."""
-        return whole_answer(answer, rows) + [DISPLAYED] + whole_answer(model.displayed(sheet, answer), rows)
+        return whole_answer(answer, rows) + [DISPLAYED] + whole_answer(model.displayed(sheet, answer), questions.of_display(rows))
 
     def ask(self, sheet, calls, rows):
         """Its whole answer, and that of its display call."""
-        return self.sheet_answer(sheet, calls, rows) + [DISPLAYED] + self.sheet_answer(sheet, [], rows, b"display")
+        return self.sheet_answer(sheet, calls, rows) + [DISPLAYED] + self.sheet_answer(sheet, [], questions.of_display(rows), b"display")
 
     def sheet_answer(self, sheet, calls, rows=(), word=b"sheet"):
         """The answer of one call on a sheet; where it ended, how, and it is started again."""

@@ -8,7 +8,7 @@ import re
 import browser_sheets
 import build
 
-REPLAYED = ("cases", "limits", "areas", "pictures", "cells", "short", "entries", "accepted", "refused", "large", "differences", "cursor", "resize", "lines")
+REPLAYED = ("cases", "limits", "areas", "pictures", "cells", "trials", "short", "entries", "accepted", "refused", "large", "differences", "cursor", "resize", "lines")
 WRONG = "wrong"  # replayed after them: what is wrong on purpose
 DIFFERENCES = os.path.join(build.REPOSITORY, "docs", "DIFFERENCES.md")
 VECTORS = os.path.join(build.REPOSITORY, "crates", "vectors")

@@ -421,6 +421,43 @@ class Maker:
         """The same with a fault."""
         return damage.damaged(self.random, self.cells()[0])
 
+    # Names that are tried.
+
+    def named_tracks(self, letter, count):
+        """So many tracks with names on their lines, and the names that stand before the last one."""
+        lines, named = [], []
+        for _ in range(count):
+            lines += self.name_lines(letter, 0.4) + [f"track\t{letter}\t{self.track(False)}"]
+            named = [line.split("\t")[2] for line in lines if line.startswith("name")]
+        return lines + self.name_lines(letter, 0.4), named
+
+    def tried_end(self):
+        """An end by a name mostly."""
+        if self.chance(0.25):
+            return self.end()
+        if self.chance(0.3):
+            return f"nspan\t{self.used_name()}\t{self.pick([1, 1, 2, 3])}"
+        return f"named\t{self.used_name()}\t{self.pick([0, 0, 1, 1, 2, -1, -1, -2, 3])}"
+
+    def tried_side(self, named, lines):
+        """Both ends of a cell: by a name that a line bears, or by any; or free."""
+        if not self.chance(lines):
+            return self.pick(["auto\t-\t0\tauto\t-\t0", "span\t-\t2\tauto\t-\t0", "auto\t-\t0\tspan\t-\t1"])
+        if not named or self.chance(0.1):
+            return f"{self.tried_end()}\t{self.tried_end()}"
+        start = f"named\t{self.pick(named)}\t{self.pick([1, 1, -1])}"
+        return start + self.pick(["\tauto\t-\t0", "\tauto\t-\t0", f"\tnspan\t{self.pick(named)}\t1", f"\tnamed\t{self.pick(named)}\t{self.pick([2, -1])}"])
+
+    def trial(self):
+        """Placements and cells by few names, on a grid of a few named lines with areas: a name more moves them, or leaves a cell without a place."""
+        self.names = self.names[:3]
+        columns, named = self.named_tracks("c", self.random.randint(1, 6))
+        rows, named_rows = self.named_tracks("r", self.below(4))
+        places = [f"place\t{self.pick('ccr')}\t{self.tried_end()}\t{self.tried_end()}" for _ in range(self.random.randrange(6))]
+        sides = lambda: f"{self.tried_side(named, 0.5)}\t{self.tried_side(named_rows, 0.25)}"
+        cells = [self.spans_in_range(f"cell\t{sides()}") for _ in range(self.pick([0, 0, 1, 2, 3, 5]))]
+        return self.area_lines() + self.mixed(columns, rows, places, cells), self.calls(), None
+
     def cursor_template(self, letter):
         """Components whose tracks all have a definite size beside an inner size."""
         lines = [line for _ in range(self.below(5)) for line in self.name_lines(letter, 0.3) + self.plain_lines(letter, 0.2)]
@@ -701,7 +738,7 @@ class Maker:
         return damage.spoiled(self.random, self.sheet_lines()), self.calls(), None
 
 
-WEIGHTS = {"general": 600, "touching": 30, "overlap": 50, "picture": 50, "broken": 60, "cells": 80, "damaged_cells": 25, "invalid": 60, "tie": 100, "thin": 100, "cursor": 60, "resize": 30, "large": 8, "over": 5, "far": 5, "writing_out": 12, "full": 12, "store": 2, "long": 3,
+WEIGHTS = {"general": 600, "touching": 30, "overlap": 50, "picture": 50, "broken": 60, "cells": 80, "damaged_cells": 25, "trial": 40, "invalid": 60, "tie": 100, "thin": 100, "cursor": 60, "resize": 30, "large": 8, "over": 5, "far": 5, "writing_out": 12, "full": 12, "store": 2, "long": 3,
            "damaged": 220, "spoiled": 60, "grouped": 0}  # asked for by name alone: the sheets of a seed stay
 
 

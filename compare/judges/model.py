@@ -1,4 +1,5 @@
 """The second judge: a sheet and direct entry calls, answered from the words of documents 01 and 02 alone."""
+import copy
 from functools import cached_property
 
 import cursor
@@ -61,6 +62,13 @@ class State:
     def names(self, letter):
         return rules.Names(self.entries[letter], self.panel.areas, letter, self.explicit[letter])
 
+    def copied(self):
+        """A copy to enter names in; what no entry changes is shared."""
+        other = copy.copy(self)
+        other.entries = {letter: list(entries) for letter, entries in self.entries.items()}
+        other.used, other.accepted = dict(self.used), list(self.accepted)
+        return other
+
 
 def late_refusal(panel):
     """The number of what is wrong with the sheet as a whole, 0 where nothing is."""
@@ -103,6 +111,13 @@ def enter(state, letter, line, name, stores=FULL_STORES):
     return 0
 
 
+def try_name(state, letter, line, name, packing, stores=FULL_STORES):
+    """One trial: its number, and where that is 0 all settled placements as lines, and where each cell lands; raises `placing.Unplaced`."""
+    entered = state.copied()
+    number = enter(entered, letter, line, name, stores)
+    return (number, [], []) if number else (0, all_settled_lines(entered), entered.lands(packing))
+
+
 def refusal_line(number, line):
     return f"refused\t{number}\t{line}"
 
@@ -121,7 +136,11 @@ def output_lines(state):
 
 def cell_lines(state):
     """`cell`, its two column lines and its two row lines, in sheet order."""
-    return [f"cell\t{area.column}\t{area.column_end}\t{area.row}\t{area.row_end}" for area in state.lands(placing.SPARSE)]
+    return land_lines(state.lands(placing.SPARSE))
+
+
+def land_lines(lands):
+    return [f"cell\t{area.column}\t{area.column_end}\t{area.row}\t{area.row_end}" for area in lands]
 
 
 def sheet_lines(state, placements=None):
@@ -140,6 +159,17 @@ def settled_lines(state):
     halves = [half for halves in state.halves() for half in halves]
     marks = ["\t".join("y" if mark else "n" for mark in names[half.axis].marks(half)) for half in halves]
     return [f"{line}\t{mark}" for line, mark in zip(placement_lines(state, halves), marks)]
+
+
+def all_settled_lines(state):
+    """The settled ends of all placements and their marks, in sheet order: `place`, or `settled` for the columns and the rows of a cell."""
+    names = {letter: state.names(letter) for letter in LETTERS}
+    lines = []
+    for placement in state.panel.placements:
+        ends = [str(part) for end in names[placement.axis].resolve(placement) for part in end]
+        marks = ["y" if mark else "n" for mark in names[placement.axis].marks(placement)]
+        lines.append("\t".join(["settled" if placement.cell else "place", placement.axis, *ends, *marks]))
+    return lines
 
 
 def written_placements(state):

@@ -39,6 +39,15 @@ def settled(letter, cell):
     return f"settled\t{letter}\t{cell}"
 
 
+def trial(letter, line, name, packing=placing.SPARSE, stores=FULL[1:]):
+    """A name without tabs and line feeds."""
+    return "\t".join(["try", letter, str(line), name, packing, *map(str, stores)])
+
+
+def is_trial(row):
+    return row.startswith("try\t")
+
+
 # Answers.
 
 def nearest_answer(state, letter, bits, items):
@@ -78,22 +87,49 @@ ANSWERS = {"nearest": nearest_answer, "within": within_answer, "around": around_
            "settled": settled_answer}
 
 
-def answer_line(state, row):
-    """The line of an answer: the question's word, then the line, the placements that are listed, the size, or the lines; or the refusal."""
+def call_of(row):
+    """The entry that a trial tries, its packing, and the stores that are lent."""
+    _, letter, line, name, packing, *stores = row.split("\t")
+    return (letter, int(line), name.encode()), packing, [int(store) for store in stores]
+
+
+def trial_text(state, row):
+    """How many placements and cells there are, a line for each placement, and one for each cell; or the refusal."""
+    call, packing, stores = call_of(row)
+    number, settled, lands = model.try_name(state, *call, packing, stores)
+    lines = [f"tried\t{len(settled)}\t{len(lands)}", *settled, *model.land_lines(lands)]
+    return model.refusal_line(number, 0) if number else "\n".join(lines)
+
+
+def plain_text(state, row):
+    """A line: the question's word, then the line, the placements that are listed, the size, or the lines; or the refusal."""
     word, *fields = row.split("\t")
-    try:
-        number, found = ANSWERS[word](state, *fields)
-    except placing.Unplaced as unplaced:
-        return model.refusal_line(reader.UNPLACED, unplaced.line)
+    number, found = ANSWERS[word](state, *fields)
     return model.refusal_line(number, 0) if number else "\t".join([word, *map(str, found)])
 
 
+def answer_text(state, row):
+    """An answer without its last line feed."""
+    try:
+        return trial_text(state, row) if is_trial(row) else plain_text(state, row)
+    except placing.Unplaced as unplaced:
+        return model.refusal_line(reader.UNPLACED, unplaced.line)
+
+
+def answer_texts(state, rows):
+    return [answer_text(state, row) for row in rows]
+
+
 def answer_lines(state, rows):
-    return [answer_line(state, row) for row in rows]
+    return [line for text in answer_texts(state, rows) for line in text.split("\n")]
 
 
 # Questions made for a sheet, the same ones each time.
 
+# Names that no entry takes; none holds a tab or a line feed.
+BAD_NAMES = ["", "n" * 33, "a b", "\x7f", "\x1f", " ", "\u00e9"]
+# Entries that are passed over for all placements, and placements, above which no trial is made.
+MOST_TRIED, MOST_PLACED = 20000, 120
 OUTSIDE = [0x80000000, 0x477fff01, 0x7f800000, 0x7fc00000, 0xbf800000, 0xffffffff, 0xff800000, 0x7f7fffff]
 
 
@@ -161,6 +197,44 @@ class Asking:
         short = [cells(placing.DENSE, self.random.choice([(32767, 32768), (32768, 32767), (0, 0)]))] if self.chance(0.1) else []
         return [cells(placing.SPARSE), cells(placing.DENSE)] + short + [settled(letter, cell) for cell in chosen for letter in model.LETTERS]
 
+    def names_used(self):
+        """The names that placements and cells are put by, with the axis of each."""
+        return [(placement.axis, end.name) for placement in self.state.panel.placements for end in (placement.start, placement.end)
+                if end.kind in ("named", "nspan")]
+
+    def edges_of_areas(self):
+        return [name + suffix for name in self.state.panel.areas for suffix in ("-start", "-end")]
+
+    def tried_name(self):
+        """An axis and a name that is used in it, mostly; an edge of an area or a name that is used in the other axis; or one that is none."""
+        used = self.names_used()
+        letter, name = self.random.choice(used) if used else ("c", "x")
+        way = self.random.random()
+        if way < 0.05:
+            return letter, self.random.choice(BAD_NAMES)
+        if way < 0.25:
+            name = self.random.choice(self.edges_of_areas() or [(name + self.random.choice(["-start", "-end"]))[-32:]])
+        return self.random.choice([letter, letter, letter, "c", "r"]), name[:32]
+
+    def tried_line(self, letter):
+        """A line of the grid mostly, one past it, the furthest, or one outside the range."""
+        if self.chance(0.12):
+            return self.random.choice([0, 20000, 20001, 10001, 10002, 4294967295])
+        return self.random.randint(1, self.state.explicit[letter] + self.random.choice([1, 1, 1, 4]))
+
+    def one_trial(self):
+        letter, name = self.tried_name()
+        stores = self.random.choice([(32767, 32768), (32768, 32767), (0, 0)]) if self.chance(0.04) else FULL[1:]
+        return trial(letter, self.tried_line(letter), name, self.random.choice([placing.SPARSE, placing.DENSE]), stores)
+
+    def trials(self, count):
+        """So many where names are used; none on what is only displayed, nor where a trial takes long."""
+        placements = self.state.panel.placements
+        work = sum(len(self.state.entries[placement.axis]) for placement in placements)
+        if self.state.panel.display or work > MOST_TRIED or len(placements) > MOST_PLACED:
+            return []
+        return [self.one_trial() for _ in range(count if self.names_used() else self.chance(0.1))]
+
     def resizes(self, letter):
         """The least resize, where its answer is soon found, and now and then where it is not."""
         axis = self.state.panel.axes[letter]
@@ -174,9 +248,19 @@ def browser_rows(state):
 
 
 def asked(sheet, answer):
-    """Questions to the panel of a sheet, and to what is displayed of it; none where both are refused."""
+    """Questions to the panel of a sheet, and to what is displayed of it, and trials on the panel; none where both are refused."""
     displayed = model.displayed(sheet, answer)
-    return [] if displayed.refused else made(sheet, displayed.state)
+    return [] if displayed.refused else made(sheet, displayed.state) + ([] if answer.refused else trials(sheet, answer.state))
+
+
+def of_display(rows):
+    """Those that can be asked of what is only displayed: nothing can be entered there."""
+    return [row for row in rows if not is_trial(row)]
+
+
+def trials(sheet, state, count=3):
+    """Names tried on a state, so many where there are names to try."""
+    return Asking(sheet + b"try", state).trials(count)
 
 
 def made(sheet, state):

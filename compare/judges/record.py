@@ -19,6 +19,7 @@ import reader
 import resize as resizing
 import resize_edges
 import rules
+import trial_edges
 import wrong_blocks
 from answer import calls_of
 from compare import Rust, asked_of_the_rust, compare, compare_lines
@@ -44,6 +45,8 @@ DISPLAYED = {"touching": 20, "overlap": 60, "general": 20, "damaged": 20}
 PICTURED = {"picture": 80, "broken": 160}
 # Sheets of the family `cells` of which all cells are placed, and of which one is not; and damaged ones.
 PLACED, UNPLACED, DAMAGED_CELLS = 160, 40, 80
+# Sheets of the family `trial` on which a name is tried with success, and names on each.
+TRIED, TRIALS = 30, 6
 CUT = {"large": 60, "far": 40, "over": 12, "writing_out": 20, "full": 4}
 # Refused sheets for each number, record and kind of field.
 REFUSED_FOR_EACH = {1: 9, 3: 4, 4: 6}
@@ -119,13 +122,13 @@ def questions_block(name, sheet, calls, rows, display=False):
             + f"ask {len(rows)}\n".encode() + model.text_of(rows).encode() + f"expect {len(expected)}\n".encode() + expected)
 
 
-def edge_block(rust, name, lines, asked):
+def edge_block(rust, name, lines, asked, calls=()):
     """Questions whose answers are written by hand."""
-    case = Case(name, damage.sheet_of(lines), [], rust)
+    case = Case(name, damage.sheet_of(lines), list(calls), rust)
     rows = [row for row, _ in asked]
-    if questions.answer_lines(case.answer.state, rows) != [answer for _, answer in asked]:
+    if questions.answer_texts(case.answer.state, rows) != [answer for _, answer in asked]:
         raise build.CannotCompare(f"not recorded: {name} is answered otherwise than its edge says")
-    return questions_block(name, case.sheet, [], rows)
+    return questions_block(name, case.sheet, case.calls, rows)
 
 
 def made_questions(family, rust, count):
@@ -205,7 +208,7 @@ def held_case(rust, name, lines, held, calls=()):
     return case
 
 
-def write_cases(folder, rust):
+def write_cases(rust, folder):
     if not os.path.isdir(folder):
         raise build.CannotCompare(f"not recorded: the papers' cases are not in {folder}")
     names = sorted(name[:-3] for name in os.listdir(folder) if name.endswith(".in"))
@@ -307,6 +310,18 @@ def write_cells(rust):
     keep("cells", blocks + [case.block() for case in refused])
 
 
+def trial_block(case):
+    """A sheet with the names that are tried on it after its entry calls."""
+    return questions_block(case.name, case.sheet, case.calls, questions.trials(case.sheet, case.answer.state, TRIALS))
+
+
+def write_trials(rust):
+    """Names that are tried: the edges, and sheets made for it, on which some trial is answered."""
+    blocks = [edge_block(rust, *edge) for edge in trial_edges.edges()]
+    answered = lambda case: not case.refused and b"\ntried\t" in trial_block(case) and len(trial_block(case)) <= LONGEST_BLOCK
+    keep("trials", blocks + list(map(trial_block, taken(made_cases("trial", rust, SEED + 11), TRIED, answered))))
+
+
 def write_accepted(rust):
     small = lambda case: not case.refused and len(case.block()) <= LONGEST_BLOCK
     cases = [case for family, count in ACCEPTED.items() for case in taken(made_cases(family, rust), count, small)]
@@ -386,7 +401,7 @@ def short_block(name, sheet, stores, calls, display=False):
     return head + f"enter {len(calls)}\n".encode() + rows + f"expect {len(expected)}\n".encode() + expected
 
 
-def write_short():
+def write_short(rust):
     """Stores that are short: refusal 10, after every other number."""
     full, less = model.STORE_BYTES, model.STORE_BYTES - 1
     good = b"name\tc\tx\ntrack" + b"\tc" + b"\tauto\t00000000" * 2 + b"\nplace\tc\tnamed\tx\t1\tauto\t-\t0\n"
@@ -458,11 +473,30 @@ def check():
     return 1 if found else 0
 
 
+WRITERS = {"limits": write_limits, "areas": write_areas, "pictures": write_pictures, "cells": write_cells, "trials": write_trials, "lines": write_lines,
+           "short": write_short, "entries": write_entries, "accepted": write_accepted, "refused": write_refused, "large": write_cut,
+           "differences": write_differences, "cursor": write_cursor, "resize": write_resize}
+
+
+def remake(options):
+    """The lists that are asked for, the others as they are recorded."""
+    rust = Rust(build.build(options.rust))
+    if not options.only or "cases" in options.only:
+        write_cases(rust, options.cases)
+    for name in options.only or WRITERS:
+        if name in WRITERS:
+            WRITERS[name](rust)
+    rust.close()
+    write_wrong()
+    lists.write_replayed()
+
+
 def main():
     parser = argparse.ArgumentParser(prog="compare/record", description="Remake the recorded lists.")
     parser.add_argument("--rust", help="folder of the unchanged Rust files")
     parser.add_argument("--cases", default=DEFAULT_CASES, help="folder of the papers' cases")
     parser.add_argument("--check", action="store_true", help="remake nothing: only check what is recorded")
+    parser.add_argument("--only", action="append", choices=lists.REPLAYED, help="remake this list alone, and what is wrong on purpose")
     parser.add_argument("--list", choices=lists.REPLAYED + (lists.WRONG,), help="remake nothing: print one of the lists")
     options = parser.parse_args()
     if options.list:
@@ -470,24 +504,7 @@ def main():
         return 0
     if options.check:
         return check()
-    rust = Rust(build.build(options.rust))
-    write_cases(options.cases, rust)
-    write_limits(rust)
-    write_areas(rust)
-    write_pictures(rust)
-    write_cells(rust)
-    write_lines(rust)
-    write_short()
-    write_entries(rust)
-    write_accepted(rust)
-    write_refused(rust)
-    write_cut(rust)
-    write_differences(rust)
-    write_cursor(rust)
-    write_resize(rust)
-    rust.close()
-    write_wrong()
-    lists.write_replayed()
+    remake(options)
     return check()
 
 

@@ -1131,6 +1131,147 @@ FOUND_BY_EDGES.update({
 })
 
 
+# Names that are tried.
+
+def tried_on(entered_in):
+    """A trial whose entry is made by another function of the copy, the axis, the line and the name."""
+    def read(state, letter, line, name, packing, stores=model.FULL_STORES):
+        entered = state.copied()
+        number = entered_in(entered, letter, line, name, stores)
+        return (number, [], []) if number else (0, model.all_settled_lines(entered), entered.lands(packing))
+    return read
+
+
+def on_the_other_axis(state, letter, line, name, stores):
+    return model.enter(state, "r" if letter == "c" else "c", line, name, stores)
+
+
+def one_line_further(state, letter, line, name, stores):
+    return model.enter(state, letter, line + 1, name, stores)
+
+
+def twice_entered(state, letter, line, name, stores):
+    """A trial takes two entries."""
+    return model.enter(state, letter, line, name, stores) or model.enter(state, letter, line, name, stores)
+
+
+def no_edges_of_areas(state, letter, line, name, stores):
+    """An edge of an area that is drawn stays where it is."""
+    number = model.enter(state, letter, line, name, stores)
+    base = next((name[:-len(end)] for end in (b"-start", b"-end") if name.endswith(end)), b"").decode("latin-1")
+    if not number and base in state.panel.areas:
+        state.entries[letter].pop()
+    return number
+
+
+def never_crowded(state, letter, line, name, stores):
+    """A full axis is no refusal: the name is not kept anyway."""
+    number = model.enter(state, letter, line, name, stores)
+    return 0 if number == reader.CROWDED else number
+
+
+def crowded_one_before(state, letter, line, name, stores):
+    number = model.enter(state, letter, line, name, stores)
+    return reader.CROWDED if not number and len(state.entries[letter]) == reader.MOST["entry"] else number
+
+
+def known_names_not_crowded(state, letter, line, name, stores):
+    """A name that lies on its line already takes no room."""
+    if (line, name.decode("latin-1")) in state.entries[letter]:
+        return 0
+    return model.enter(state, letter, line, name, stores)
+
+
+def short_before_crowded(state, letter, line, name, stores):
+    number = model.enter(state, letter, line, name, stores)
+    return reader.SHORT if number == reader.CROWDED and min(stores) < model.STORE_BYTES else number
+
+
+def stores_not_needed(state, letter, line, name, stores):
+    """A trial that keeps nothing lends no room."""
+    return model.enter(state, letter, line, name)
+
+
+def entered_in_the_panel(self):
+    return self
+
+
+def unplaced_first(state, *trial):
+    """15 before the entry's refusals."""
+    state.lands(trial[3])
+    return right_try(state, *trial)
+
+
+def unplaced_by_the_panel(state, *trial):
+    """15 only where the panel's own cells have no place."""
+    state.lands(trial[3])
+    try:
+        return right_try(state, *trial)
+    except placing.Unplaced:
+        return 0, model.all_settled_lines(state), state.lands(trial[3])
+
+
+def lands_of_the_panel(state, *trial):
+    number, settled, _ = right_try(state, *trial)
+    return number, settled, [] if number else state.lands(trial[3])
+
+
+def placements_of_the_panel(state, *trial):
+    number, _, lands = right_try(state, *trial)
+    return number, [] if number else model.all_settled_lines(state), lands
+
+
+def settled_beside_15(state, *trial):
+    """The settled placements are given, though a cell has no place."""
+    try:
+        return right_try(state, *trial)
+    except placing.Unplaced:
+        entered = state.copied()
+        model.enter(entered, *trial[:3])
+        return 0, model.all_settled_lines(entered), []
+
+
+def without_cells(state, *trial):
+    number, settled, lands = right_try(state, *trial)
+    return number, [line for line in settled if line.startswith("place")], lands
+
+
+def those_that_move(state, *trial):
+    """Only the placements that the name moves."""
+    number, settled, lands = right_try(state, *trial)
+    before = model.all_settled_lines(state)
+    return number, [line for line, held in zip(settled, before) if line != held], lands
+
+
+def always_packed(packing):
+    return lambda state, letter, line, name, _, stores=model.FULL_STORES: right_try(state, letter, line, name, packing, stores)
+
+
+right_try = model.try_name
+
+FOUND_BY_EDGES.update({
+    "a name tried on the other axis": (model, "try_name", tried_on(on_the_other_axis)),
+    "a name tried one line further": (model, "try_name", tried_on(one_line_further)),
+    "two entries taken by a trial": (model, "try_name", tried_on(twice_entered)),
+    "an edge of an area not tried": (model, "try_name", tried_on(no_edges_of_areas)),
+    "a full axis not refused by a trial": (model, "try_name", tried_on(never_crowded)),
+    "a trial crowded with an entry free": (model, "try_name", tried_on(crowded_one_before)),
+    "a known name tried on a full axis": (model, "try_name", tried_on(known_names_not_crowded)),
+    "a trial refused by 10 before 8": (model, "try_name", tried_on(short_before_crowded)),
+    "short stores enough for a trial": (model, "try_name", tried_on(stores_not_needed)),
+    "a tried name entered in the panel": (model.State, "copied", entered_in_the_panel),
+    "15 before the refusals of an entry": (model, "try_name", unplaced_first),
+    "15 of the panel without the name": (model, "try_name", unplaced_by_the_panel),
+    "lands of the panel without the name": (model, "try_name", lands_of_the_panel),
+    "placements of the panel without the name": (model, "try_name", placements_of_the_panel),
+    "placements beside 15": (model, "try_name", settled_beside_15),
+    "cells left out of the placements of a trial": (model, "try_name", without_cells),
+    "a trial of those that move": (model, "try_name", those_that_move),
+    "every trial packed sparsely": (model, "try_name", always_packed(placing.SPARSE)),
+    "every trial packed densely": (model, "try_name", always_packed(placing.DENSE)),
+})
+
+
 @contextlib.contextmanager
 def put_in_place(reading):
     where, name, function = reading

@@ -10,6 +10,7 @@ import placing
 import questions
 import record
 import resize_edges
+import trial_edges
 import wrong
 from compare import Rust, compare, first_difference
 from judged import LIBRARY, Library, build_library, find
@@ -77,11 +78,12 @@ class ByTheLibrary:
 
 
 def by_hand():
-    """The edges: each with the answers that are written by hand."""
+    """The edges: each with the answers that are written by hand, and its entry calls."""
     written = [*cursor_edges.edges(), *resize_edges.edges()]
     packings = [questions.cells(placing.SPARSE), questions.cells(placing.DENSE)]
     written += [(name, lines, list(zip(packings, map(record.land_words, lands)))) for name, lines, *lands in cell_edges.edges()]
-    return [(damage.sheet_of(lines), rows, None) for _, lines, rows in written]
+    written = [(name, lines, rows, []) for name, lines, rows in written] + list(trial_edges.edges())
+    return [(damage.sheet_of(lines), rows, calls) for _, lines, rows, calls in written]
 
 
 class ByHand:
@@ -89,8 +91,8 @@ class ByHand:
     starts = ("edge",)
     shrinks = False
 
-    def found(self, sheet, rows, expected):
-        own = questions.answer_lines(model.Answer(sheet).state, [row for row, _ in rows])
+    def found(self, sheet, rows, calls):
+        own = questions.answer_texts(model.Answer(sheet, calls).state, [row for row, _ in rows])
         difference = first_difference("edge", own, [answer for _, answer in rows])
         return [difference] if difference else []
 

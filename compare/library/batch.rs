@@ -3,7 +3,7 @@ use crate::answer::{print_answers, print_pair, print_refusal};
 use crate::blocks::{bytes, calls, head, questions, Call};
 use crate::calls::{display_sheet, enter_name, read_sheet, Numbers};
 use crate::lent::{Lent, TEXT};
-use crate::palgwern::{Display, Grid, Panel};
+use crate::palgwern::{Display, Panel, Room, State};
 use crate::questions::print_questions;
 use std::io::{BufRead, Write};
 
@@ -27,14 +27,14 @@ fn print_call(out: &mut Vec<u8>, panel: &mut Panel, (axis, line, name): &Call) {
 }
 
 /// The same sheet and calls on lent buffers, for questions.
-fn lend_panel(lent: &mut Lent, sheet: &[u8], calls: &[Call]) -> Grid {
+fn lend_panel(lent: &mut Lent, sheet: &[u8], calls: &[Call]) -> State {
     lent.bytes[TEXT].fill_with(sheet);
     let mut state = read_sheet(lent).panel;
     for (axis, line, name) in calls {
         lent.bytes[TEXT].fill_with(name);
         state = enter_name(lent, state, Numbers { axis: *axis as u32, line: *line, place: 0 }).panel;
     }
-    state.grid
+    state
 }
 
 /// A sheet, calls and questions on a panel that still holds the sheet before.
@@ -48,8 +48,8 @@ fn answer(panel: &mut Panel, lent: &mut Lent, sheet: &[u8], calls: &[Call], ques
     }
     calls.iter().for_each(|call| print_call(&mut out, panel, call));
     print_answers(&mut out, panel, None);
-    let grid = lend_panel(lent, sheet, calls);
-    print_questions(&mut out, lent, grid, questions);
+    let state = lend_panel(lent, sheet, calls);
+    print_questions(&mut out, lent, state, questions);
     out
 }
 
@@ -65,8 +65,9 @@ fn displayed(lent: &mut Lent, sheet: &[u8], questions: &[String]) -> Vec<u8> {
         Ok(display) => {
             print_answers(&mut out, &display, display.overlap());
             lent.bytes[TEXT].fill_with(sheet);
-            let grid = display_sheet(lent).grid;
-            print_questions(&mut out, lent, grid, questions);
+            // Nothing can be entered, so nothing is tried.
+            let state = State { grid: display_sheet(lent).grid, room: Room::default() };
+            print_questions(&mut out, lent, state, questions);
         }
     }
     out

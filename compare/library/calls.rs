@@ -113,7 +113,7 @@ pub fn line_name(lent: &Lent, grid: Grid, numbers: Numbers) -> raw::NameAnswer {
 }
 
 pub fn records(lent: &mut Lent, grid: Grid, numbers: Numbers) -> raw::CountAnswer {
-    let [words, records] = &mut lent.words;
+    let [words, records, ..] = &mut lent.words;
     let (items, records) = (lent.bytes[ITEMS].content(), records.content_mut());
     // SAFETY: as in `read_sheet`.
     let mut answer = unsafe {

@@ -15,7 +15,7 @@ pub fn lend_lands(lent: &mut Lent) {
 }
 
 pub fn place_cells(lent: &mut Lent, grid: Grid, packing: u32) -> raw::CellsAnswer {
-    let [words, run] = &mut lent.words;
+    let [words, run, ..] = &mut lent.words;
     let (columnstore, rowstore) = (lent.bytes[COLUMN_STORE].content(), lent.bytes[ROW_STORE].content());
     // SAFETY: as in `calls::read_sheet`.
     let mut answer = unsafe {

@@ -28,7 +28,7 @@ pub fn nearest_line(lent: &Lent, grid: Grid, numbers: Numbers) -> raw::LineAnswe
 
 /// The line and the place are the bits of a span's ends.
 pub fn placements_within(lent: &mut Lent, grid: Grid, numbers: Numbers) -> raw::CountAnswer {
-    let [words, run] = &mut lent.words;
+    let [words, run, ..] = &mut lent.words;
     let (columnstore, rowstore) = (lent.bytes[COLUMN_STORE].content(), lent.bytes[ROW_STORE].content());
     let items = lent.bytes[ITEMS].content();
     let run: *mut [u64; HITS / 2] = run.array_mut();
@@ -45,7 +45,7 @@ pub fn placements_within(lent: &mut Lent, grid: Grid, numbers: Numbers) -> raw::
 
 /// The line is the given one.
 pub fn placements_around(lent: &mut Lent, grid: Grid, numbers: Numbers) -> raw::CountAnswer {
-    let [words, run] = &mut lent.words;
+    let [words, run, ..] = &mut lent.words;
     let (columnstore, rowstore) = (lent.bytes[COLUMN_STORE].content(), lent.bytes[ROW_STORE].content());
     let items = lent.bytes[ITEMS].content();
     let run: *mut [u64; HITS / 2] = run.array_mut();

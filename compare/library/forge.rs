@@ -10,6 +10,7 @@ use crate::palgwern::Grid;
 use crate::planted::{self, FAULTS};
 use crate::promises::{self, Promises};
 use crate::runs;
+use crate::trials;
 use std::collections::BTreeMap;
 use std::io::BufReader;
 use std::sync::atomic::{AtomicU64, Ordering};
@@ -20,11 +21,11 @@ const SHOWN: u64 = 20;
 /// Seconds after which a call is said not to end.
 const PATIENCE: u64 = 120;
 /// Calls of each panel, by name; those that look at the tables are made more often.
-const CALLS: [&str; 27] = [
+const CALLS: [&str; 29] = [
     "read_sheet", "display_sheet", "enter_name", "enter_name", "explicit_size", "line_count", "record_count", "resolve_placement", "resolve_placement",
     "resolve_placement", "resolve_placement", "line_name", "line_name", "line_name", "line_name", "records", "records",
     "resolve_placements", "line_names", "nearest_line", "placements_within", "placements_within", "placements_around", "placements_around",
-    "least_resize", "place_cells", "place_cells",
+    "least_resize", "place_cells", "place_cells", "try_name", "try_name",
 ];
 static CALLS_MADE: AtomicU64 = AtomicU64::new(0);
 
@@ -63,7 +64,7 @@ fn numbers(chance: &mut Chance, grid: Grid, call: &str) -> Numbers {
     let line = if chance.once_in(3) { chance.count() } else { chance.below(12) as u32 };
     let held = match call {
         "resolve_placement" | "resolve_placements" => grid.placements.clamp(1, 512) as usize,
-        "line_name" => 2,
+        "line_name" | "try_name" => 2,
         _ => 24,
     };
     let place = if chance.once_in(5) { chance.count() } else { chance.below(held) as u32 };
@@ -103,6 +104,10 @@ fn lend(call: &str, chance: &mut Chance, sheets: &Sheets, forged: &mut Forged, n
     match call {
         "read_sheet" | "display_sheet" => forged.lent.bytes[TEXT].fill_with(&a_sheet(chance, sheets)),
         "enter_name" => forged.lent.bytes[TEXT].fill_with(&a_name(chance)),
+        "try_name" => {
+            forged.lent.bytes[TEXT].fill_with(&a_name(chance));
+            trials::lend_answers(&mut forged.lent);
+        }
         "records" => lend_records(chance, forged, numbers),
         "place_cells" => cells::lend_lands(&mut forged.lent),
         "resolve_placements" | "line_names" => runs::lend_run(call, &mut forged.lent),
@@ -130,6 +135,7 @@ fn make(call: &str, forged: &Forged, numbers: Numbers) -> (u32, Promises) {
         "line_names" => runs::line_names(lent, state.grid, numbers),
         "least_resize" => promises::least_resize(lent, state.grid, numbers),
         "place_cells" => cells::placed(lent, state.grid, numbers),
+        "try_name" => trials::tried(lent, *state, numbers),
         "nearest_line" => cursor::nearest(lent, state.grid, cursor::numbers(call, numbers)),
         "placements_within" => cursor::within(lent, state.grid, cursor::numbers(call, numbers)),
         "placements_around" => cursor::around(lent, state.grid, cursor::numbers(call, numbers)),

@@ -4,9 +4,10 @@ pub use crate::palgwern::STORE_BYTES;
 use crate::palgwern::*;
 use std::ops::Range;
 
-/// Places in `words`: the panel's, and what a run is written to.
+/// Places in `words`: the panel's, what a run is written to, and where the cells of a trial land.
 pub const PANEL: usize = 0;
 pub const RUN: usize = 1;
+pub const TRIED_LANDS: usize = 2;
 /// Places in `bytes`: the panel's at `PANEL`, the stores; the text is a sheet or a name.
 pub const COLUMN_STORE: usize = 1;
 pub const ROW_STORE: usize = 2;
@@ -118,15 +119,15 @@ fn same_but_for<T: Copy + PartialEq>(own: &[Guarded<T>], others: &[Guarded<T>], 
 
 #[derive(Clone, PartialEq)]
 pub struct Lent {
-    pub words: [Guarded<u64>; 2],
+    pub words: [Guarded<u64>; 3],
     pub bytes: [Guarded<u8>; 5],
 }
 
 impl Lent {
-    /// Every buffer filled with one byte; text, items and run empty.
+    /// Every buffer filled with one byte; text, items, run and lands empty.
     pub fn filled(byte: u8) -> Lent {
         let word = u64::from_ne_bytes([byte; 8]);
-        let (words, bytes) = ([PANEL_WORDS, 0], [PANEL_BYTES, STORE_BYTES, STORE_BYTES, 0, 0]);
+        let (words, bytes) = ([PANEL_WORDS, 0, 0], [PANEL_BYTES, STORE_BYTES, STORE_BYTES, 0, 0]);
         Lent { words: words.map(|length| Guarded::new(length, word, 0)), bytes: bytes.map(|length| Guarded::new(length, byte, 0)) }
     }
 

@@ -16,6 +16,7 @@ mod planted;
 mod promises;
 mod questions;
 mod runs;
+mod trials;
 
 fn number(word: &str) -> u64 {
     word.parse().expect("a number")

@@ -5,7 +5,7 @@ use crate::palgwern::{raw, AREA_NAMES_START, PLACEMENT_NUMBERS};
 use std::sync::atomic::{AtomicUsize, Ordering};
 
 /// The faults, from 1 on.
-pub const FAULTS: [&str; 52] = [
+pub const FAULTS: [&str; 60] = [
     "a refused sheet changes a word",
     "a word that the tables held reaches the panel",
     "a sheet writes past the words",
@@ -58,6 +58,14 @@ pub const FAULTS: [&str; 52] = [
     "a land is written on a refusal",
     "a land past the last row",
     "a line with another refusal than 15",
+    "a trial enters its name",
+    "a trial that is refused is written",
+    "a trial that is refused counts placements",
+    "a placement of a trial is another",
+    "a land of a trial is another",
+    "a trial with a packing that is none is answered",
+    "a trial is written past its lands",
+    "a trial on a full axis is refused by 10",
 ];
 
 /// The fault in place, 0 for none.
@@ -191,6 +199,22 @@ pub fn in_cells(lent: &mut Lent, answer: &mut raw::CellsAnswer) {
         50 if answer.number == 15 => words[0] = 0,
         51 if answer.number == 0 && answer.count > 0 => words[0] |= 0x8000 << 48,
         52 if answer.number == 10 => answer.line = 1,
+        _ => (),
+    }
+}
+
+pub fn in_trial(lent: &mut Lent, numbers: Numbers, answer: &mut raw::TrialAnswer) {
+    let store = if numbers.axis == 0 { COLUMN_STORE } else { ROW_STORE };
+    let (run, lands) = (RUN, TRIED_LANDS);
+    match planted() {
+        53 if answer.number == 0 => lent.bytes[store].content_mut()[0] ^= 1,
+        54 if answer.number == 15 => lent.words[run].content_mut()[0] = 0,
+        55 if answer.number == 10 => answer.placements = 1,
+        56 if answer.placements > 0 => lent.words[run].content_mut()[PLACEMENT_NUMBERS / 2 * answer.placements as usize - 1] ^= 1,
+        57 if answer.cells > 0 => lent.words[lands].content_mut()[0] ^= 1 << 32,
+        58 if answer.number == 4 && numbers.place > 1 => answer.number = 0,
+        59 if answer.number == 0 => lent.words[lands].write_past(7),
+        60 if answer.number == 8 => answer.number = 10,
         _ => (),
     }
 }

@@ -6,7 +6,7 @@ use crate::planted;
 use crate::promises::{of_refusal, twice, Promises, Twice};
 
 /// The words of a run of placements: two numbers lie in each.
-const PLACEMENT_RUN_WORDS: usize = PLACEMENT_RUN / 2;
+pub const PLACEMENT_RUN_WORDS: usize = PLACEMENT_RUN / 2;
 /// The most placements of a run.
 const MOST_PLACEMENTS: u64 = (PLACEMENT_RUN / PLACEMENT_NUMBERS) as u64;
 
@@ -17,7 +17,7 @@ pub fn lend_run(call: &str, lent: &mut Lent) {
 }
 
 pub fn placements(lent: &mut Lent, grid: Grid, numbers: Numbers) -> raw::CountAnswer {
-    let [words, run] = &mut lent.words;
+    let [words, run, ..] = &mut lent.words;
     let (columnstore, rowstore) = (lent.bytes[COLUMN_STORE].content(), lent.bytes[ROW_STORE].content());
     let run: *mut [u64; PLACEMENT_RUN_WORDS] = run.array_mut();
     // SAFETY: as in `calls::read_sheet`; any word is two numbers.
@@ -31,8 +31,13 @@ pub fn placements(lent: &mut Lent, grid: Grid, numbers: Numbers) -> raw::CountAn
     answer
 }
 
+/// The numbers of a run of placements.
+pub fn numbers(lent: &Lent) -> Vec<i32> {
+    lent.words[RUN].content().iter().flat_map(|&word| [word as i32, (word >> 32) as i32]).collect()
+}
+
 fn names(lent: &mut Lent, grid: Grid, numbers: Numbers) -> raw::CountAnswer {
-    let [words, run] = &mut lent.words;
+    let [words, run, ..] = &mut lent.words;
     let (columnstore, rowstore) = (lent.bytes[COLUMN_STORE].content(), lent.bytes[ROW_STORE].content());
     // SAFETY: as above.
     let mut answer = unsafe {

@@ -2,7 +2,7 @@
 use crate::calls::{self, Numbers};
 use crate::cells;
 use crate::lent::*;
-use crate::palgwern::{raw, State, LANDS};
+use crate::palgwern::{raw, State, CELLS};
 use crate::planted;
 use crate::promises::{of_refusal, twice, Promises, Twice};
 use crate::runs::{self, PLACEMENT_RUN_WORDS};
@@ -10,7 +10,7 @@ use crate::runs::{self, PLACEMENT_RUN_WORDS};
 /// Words for the placements and for where cells land, of the lengths that the call fixes.
 pub fn lend_answers(lent: &mut Lent) {
     runs::lend_run("resolve_placements", lent);
-    lent.words[TRIED_LANDS].fill_with(&[0x7777_7777_7777_7777; LANDS]);
+    lent.words[TRIED_LANDS].fill_with(&[0x7777_7777_7777_7777; CELLS]);
 }
 
 /// The text is the name, the place is the packing.

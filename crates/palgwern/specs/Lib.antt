@@ -8,3 +8,4 @@ pub mod Lines
 pub mod Layout
 pub mod Sizes
 pub mod Areas
+pub mod Trial

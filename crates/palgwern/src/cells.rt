@@ -40,7 +40,7 @@ impl From<Result<u32, LineFault>> for CellsAnswer {
 }
 
 // The packing of a number: 0 sparse, 1 dense.
-fn packing_in(number: u32) -> Option<Packing>
+pub(crate) fn packing_in(number: u32) -> Option<Packing>
     ensures { result ≡ packing_in number }
 {
     match number {

@@ -25,6 +25,7 @@ pub mod layout;
 pub mod lines;
 pub mod resize;
 pub mod sizes;
+mod trial;
 
 use coordinates::limit::PLACEMENT_RUN;
 use coordinates::{Axis, Fault};

@@ -5,6 +5,7 @@ use crate::input::{Lines, Reader, Word, head_of};
 use crate::panel::seen_panel;
 use crate::questions::seen_questions;
 use crate::tables::{Shown, StoreLengths, Tables};
+use panel_tables::{Panel, Room};
 use sheet_rules::{LineFault, Overlap, SheetFault};
 
 // The parts of a block: the lengths of the stores where they are given, whether the sheet is only displayed, the sheet, the calls, the
@@ -81,7 +82,7 @@ impl<'a> Block<'a> {
         match tables.read(self.sheet, self.lengths) {
             Ok(panel) => {
                 let called = seen_calls(expected, self, panel, tables);
-                seen_grid(called.seen, self, tables.shown(called.panel.grid), None)
+                seen_grid(called.seen, self, tables.shown(called.panel), None)
             }
             Err(fault) => seen_fault(expected, fault),
         }
@@ -92,7 +93,10 @@ impl<'a> Block<'a> {
         let expected = Expected::new(self.expected);
         match tables.display(self.sheet, self.lengths) {
             Ok(display) => {
-                let shown = tables.shown(display.grid);
+                let shown = tables.shown(Panel {
+                    grid: display.grid,
+                    room: Room::default(),
+                });
                 seen_grid(expected, self, shown, display.overlap)
             }
             Err(fault) => seen_fault(expected, fault),

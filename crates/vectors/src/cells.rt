@@ -21,7 +21,7 @@ fn seen_lines<'a>(expected: Expected<'a>, lines: LinePair) -> Expected<'a> {
 }
 
 // The lines of one cell.
-fn seen_land<'a>(expected: Expected<'a>, land: Rectangle) -> Expected<'a> {
+pub fn seen_land<'a>(expected: Expected<'a>, land: Rectangle) -> Expected<'a> {
     seen_lines(seen_lines(expected, land.columns), land.rows)
 }
 

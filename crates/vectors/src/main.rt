@@ -22,6 +22,7 @@ mod replay;
 mod resizes;
 mod settled;
 mod tables;
+mod trials;
 mod window;
 
 use replay::replay_all;

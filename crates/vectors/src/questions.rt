@@ -9,6 +9,7 @@ use crate::nearest::{Cursor, seen_nearest};
 use crate::resizes::seen_resize;
 use crate::settled::{CellHalf, seen_settled};
 use crate::tables::{Shown, StoreLengths};
+use crate::trials::{TriedName, seen_trial};
 use cell_placing::Packing;
 use coordinates::Axis;
 use line_positions::Span;
@@ -16,14 +17,15 @@ use panel_hits::{Around, AxisSpan};
 use text::LINE_FEED;
 
 // What a line asks: the line nearest to a cursor, the least resize of an axis, the placements within a span or around a line, where the cells
-// land, or the settled ends of a cell.
+// land, the settled ends of a cell, or what a name that is tried would give.
 #[derive(Clone, Copy, Debug, PartialEq, Eq)]
-enum Question {
+enum Question<'a> {
     Nearest(Cursor),
     Resize(Axis),
     List(Listed, ListLengths),
     Cells(Packing, StoreLengths),
     Settled(CellHalf),
+    Try(TriedName<'a>),
 }
 
 // The lengths that a list is asked with, from a field on.
@@ -37,7 +39,7 @@ fn lengths_at(line: &[u8], first: usize) -> ListLengths
 }
 
 // The question of a line.
-fn question_of(text: &[u8]) -> Question {
+fn question_of(text: &[u8]) -> Question<'_> {
     let axis = axis_of(field(text, 1));
     let second = field(text, 2);
     match field(text, 0) {
@@ -55,6 +57,7 @@ fn question_of(text: &[u8]) -> Question {
             axis,
             cell: number_of(second),
         }),
+        b"try" => Question::Try(TriedName::written(axis, text)),
         b"within" => {
             let low = bits_of(second);
             let high = bits_of(field(text, 3));
@@ -76,6 +79,7 @@ fn seen_question<'a>(expected: Expected<'a>, question: Question, shown: Shown) -
         Question::List(listed, lengths) => seen_list(expected, listed, lengths, shown),
         Question::Cells(packing, lengths) => seen_cells(expected, packing, lengths, shown),
         Question::Settled(half) => seen_settled(expected, half, shown),
+        Question::Try(tried) => seen_trial(expected, tried, shown),
     }
 }
 

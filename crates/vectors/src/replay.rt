@@ -9,7 +9,7 @@ use std::io;
 use std::io::{Read, Write};
 
 // How many that differ are named.
-const MOST_NAMED: u64 = 64;
+const MOST_NAMED: u64 = 128;
 
 // The first line of a block or of a list of rows that differs.
 fn print_different<W: Write>(out: &mut W, line: &[u8]) -> io::Result<()> {

@@ -5,7 +5,7 @@ use crate::input::number_of;
 use coordinates::{Axis, Fault};
 use panel_names::entering::enter_name;
 use panel_tables::region::{PANEL_BYTES, PANEL_WORDS, marks};
-use panel_tables::{Grid, LentPanel, Panel};
+use panel_tables::{Grid, LentPanel, Panel, Room};
 use sheet_rules::{Display, SheetFault};
 
 // The most bytes of a store that are lent.
@@ -45,10 +45,11 @@ pub struct Tables {
     pub rowstore: [u8; STORE],
 }
 
-// A panel that answers, and what is lent with it.
+// A panel that answers, and what is lent with it; only a trial asks for the room, which a display does not have.
 #[derive(Clone, Copy)]
 pub struct Shown<'a> {
     pub grid: Grid,
+    pub room: Room,
     pub lent: LentPanel<'a>,
 }
 
@@ -140,14 +141,18 @@ impl Tables {
     }
 
     // A panel with these tables.
-    pub fn shown(&self, grid: Grid) -> Shown<'_> {
+    pub fn shown(&self, panel: Panel) -> Shown<'_> {
         let lent = LentPanel {
             words: &self.words,
             bytes: &self.bytes,
             columnstore: &self.columnstore,
             rowstore: &self.rowstore,
         };
-        Shown { grid, lent }
+        Shown {
+            grid: panel.grid,
+            room: panel.room,
+            lent,
+        }
     }
 }
 
