@@ -7,6 +7,7 @@ mod cells;
 mod compute;
 mod cursor;
 mod geometry;
+mod history;
 mod ours;
 mod palgwern;
 mod panels;
@@ -36,7 +37,7 @@ use timing::pair;
 
 const STAGES: [&str; 5] = ["sizes", "names", "placements", "records", "line names"];
 /// What is timed beside the stages.
-const PARTS: [&str; 5] = ["reading", "templates", "cursor", "cells", "trials"];
+const PARTS: [&str; 6] = ["reading", "templates", "cursor", "cells", "trials", "history"];
 const GROWTH: [&str; 4] = ["small", "medium", "large, 16 names", "large, 1,440 names"];
 
 /// Both sides of a sheet, after they were seen to answer alike; ends the program where they do not.
@@ -94,7 +95,7 @@ fn readings(sheets: &[Sheet]) {
     [panels::forty_lines(), panels::longest()].iter().chain(sheets).for_each(reading);
 }
 
-/// Every stage, the reading, the templates, the cursor, the cells and the trials, or those that are named.
+/// Every stage, the reading, the templates, the cursor, the cells, the trials and the history, or those that are named.
 fn main() {
     let words: Vec<String> = std::env::args().skip(1).collect();
     if let Some(word) = words.iter().find(|word| !PARTS.contains(&word.as_str()) && !STAGES.contains(&word.as_str())) {
@@ -129,5 +130,9 @@ fn main() {
     }
     if asked("trials") {
         trial::print();
+        println!();
+    }
+    if asked("history") {
+        history::print();
     }
 }

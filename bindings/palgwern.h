@@ -1,11 +1,13 @@
-/* Palgwern's calls for C: a panel sheet read, names entered or tried, placements, line names and track records answered.
+/* Palgwern's calls for C: a panel sheet read, names entered or tried, edits recalled, placements, line names and
+ * track records answered.
  *
  * Link target/staticlib/libpalgwern.a (x86-64 Linux), which `tools/make palgwern` writes. Every call is proved to end and to
  * answer as its contract in crates/palgwern/src says, whatever the panel and what is lent hold. What C must ensure:
  *
- * - stack: 512 KiB of room for palgwern_read_sheet, palgwern_display_sheet and palgwern_try_name, 192 KiB for palgwern_line_names,
- *   128 KiB for palgwern_placements_within, palgwern_placements_around and palgwern_place_cells, 64 KiB for each other call
- *   (`bindings/stack` bounds each from the archive's instructions, and `bindings/test` measures them);
+ * - stack: 512 KiB of room for palgwern_read_sheet, palgwern_display_sheet, palgwern_try_name, palgwern_edit, palgwern_edit_name and
+ *   palgwern_recall, 192 KiB for palgwern_line_names, 128 KiB for palgwern_placements_within, palgwern_placements_around and
+ *   palgwern_place_cells, 64 KiB for each other call (`bindings/stack` bounds each from the archive's instructions, and `bindings/test`
+ *   measures them);
  * - memory: everything that is lent is initialized, whatever it holds, and not null; an array has the length that is stated here,
  *   a pointer with a length has so many elements, and one of length 0 still points somewhere;
  * - no overlap: what a call may write (no `const`) is part of nothing else that is lent to it, and nobody else reads or writes it
@@ -43,8 +45,8 @@ enum palgwern_refusal {
     PALGWERN_UNEQUAL = 13,  /* unequal: a row of a picture that is not as wide as the first one */
     PALGWERN_BROKEN = 14,   /* broken: a picture in which the cells of a name form no filled rectangle */
     PALGWERN_UNPLACED = 15, /* unplaced: a cell for which no place is free, or that leaves the columns or rows */
-    PALGWERN_HISTORY_FULL = 16, /* history full: an edit whose line does not fit in the bytes that are free of a history; no call gives it yet */
-    PALGWERN_NO_STEP = 17   /* no step: a step above the last of a history; no call gives it yet */
+    PALGWERN_HISTORY_FULL = 16, /* history full: an edit whose line does not fit in the bytes that are free of a history */
+    PALGWERN_NO_STEP = 17   /* no step: a step above the last of a history, or a history that no edit wrote */
 };
 
 /* Limits, by document 01. */
@@ -199,7 +201,7 @@ typedef struct palgwern_panel {
 } palgwern_panel;
 
 /* Answers: `number` is the refusal's, 0 where there is none; the rest is 0 where there is one, but for the panel of
- * palgwern_enter_name, which comes back as it came. */
+ * palgwern_enter_name and what an edit through a history and a recall hand back, which come as they came. */
 typedef struct palgwern_panel_answer { uint32_t number; uint32_t line; palgwern_panel panel; } palgwern_panel_answer;
 /* `earlier` and `later`: the first two areas that share a cell (smallest later, then smallest earlier), numbered from 1 in sheet order;
  * of a sheet they come with refusal 12 alone, of a display wherever it is accepted and there are any. */
@@ -364,6 +366,52 @@ palgwern_trial_answer palgwern_try_name(
     const uint8_t *columnstore, size_t columnstore_bytes, const uint8_t *rowstore, size_t rowstore_bytes,
     palgwern_trial trial, const uint8_t *name, size_t name_bytes,
     int32_t numbers[PALGWERN_PLACEMENT_RUN], uint64_t lands[PALGWERN_CELLS]);
+
+/* The step of a panel, and the last step of its history: both 0 where a sheet is read. 16 bytes. */
+typedef struct palgwern_history { uint64_t step; uint64_t last; } palgwern_history;
+/* What a name is entered in through a history: an axis and a line. */
+typedef struct palgwern_name_edit { uint32_t axis; uint32_t line; } palgwern_name_edit;
+/* `earlier` and `later` come with refusal 12 alone. On a refusal the panel and the history come back as they came. 208 bytes. */
+typedef struct palgwern_edit_answer {
+    uint32_t number;
+    uint32_t line;
+    uint32_t earlier;
+    uint32_t later;
+    palgwern_panel panel;
+    palgwern_history history;
+} palgwern_edit_answer;
+
+/* A panel edited through a history: the sheet that it was read from is lent again, and `lines` holds the history, a line for each edit
+ * from its first byte on, whatever it holds at first. `text` is one line, without a line feed: an `area`, `track` or `place` line of a
+ * sheet, or `enter`, axis, line and name, parted by tabs. It is settled as if it were last in the sheet, an area last of the areas,
+ * after the edits of the first `history.step` lines, and direct entries come after all names. It becomes the line after them, its
+ * number and a tab before it, and a line feed after it; later lines are dropped, their bytes too. Every edit has to come through these
+ * calls with what the last one left; names that palgwern_enter_name entered are forgotten.
+ * Refuses a sheet whose lines are refused as palgwern_read_sheet does, then a history that has no such lines by 17, then, at line 0,
+ * an edit by 1 (another text), 2 to 6, 12 (`later` is the number that the new area would have) and 8, by 4 and 8 as a whole sheet, by
+ * 10 (a short store), and by 16 where its line does not fit. Time is that of reading the sheet and the lines before it. */
+palgwern_edit_answer palgwern_edit(
+    const uint8_t *sheet, size_t sheet_bytes, palgwern_panel panel, palgwern_history history,
+    uint64_t words[PALGWERN_PANEL_WORDS], uint8_t bytes[PALGWERN_PANEL_BYTES],
+    uint8_t *columnstore, size_t columnstore_bytes, uint8_t *rowstore, size_t rowstore_bytes,
+    uint8_t *lines, size_t lines_bytes, const uint8_t *text, size_t text_bytes);
+
+/* The same where the edit is a line and a name in an axis, whose line is `enter`. Refuses by 2 (no name) and by 4 (no axis) before all
+ * else. */
+palgwern_edit_answer palgwern_edit_name(
+    const uint8_t *sheet, size_t sheet_bytes, palgwern_panel panel, palgwern_history history,
+    uint64_t words[PALGWERN_PANEL_WORDS], uint8_t bytes[PALGWERN_PANEL_BYTES],
+    uint8_t *columnstore, size_t columnstore_bytes, uint8_t *rowstore, size_t rowstore_bytes,
+    uint8_t *lines, size_t lines_bytes, palgwern_name_edit entry, const uint8_t *name, size_t name_bytes);
+
+/* The panel of an earlier or a later step: that of the sheet with the first `step` edits alone. The lines stay as they are, so a later
+ * step can be recalled until a new edit. Refuses a sheet whose lines are refused as palgwern_read_sheet does, then by 10 (a short
+ * store) and by 17 (a step above the last, or a history that has no such lines). */
+palgwern_edit_answer palgwern_recall(
+    const uint8_t *sheet, size_t sheet_bytes, palgwern_panel panel, palgwern_history history,
+    uint64_t words[PALGWERN_PANEL_WORDS], uint8_t bytes[PALGWERN_PANEL_BYTES],
+    uint8_t *columnstore, size_t columnstore_bytes, uint8_t *rowstore, size_t rowstore_bytes,
+    const uint8_t *lines, size_t lines_bytes, uint64_t step);
 
 /* The least resize that matters: of the whole inner sizes 0 to 65,535 the nearest to the size now at which the automatic repeat of an
  * axis is written out another number of times, the wider of two. `found` is 1 and `size` that size, not the change; both are 0 where
@@ -541,6 +589,43 @@ static inline palgwern_trial_answer palgwern_tables_try(const palgwern_tables *t
     const void *name, size_t bytes, int32_t numbers[PALGWERN_PLACEMENT_RUN], uint64_t lands[PALGWERN_CELLS]) {
     return palgwern_try_name(panel, t->words, t->bytes, t->columnstore, sizeof t->columnstore, t->rowstore, sizeof t->rowstore, trial,
         (const uint8_t *)name, bytes, numbers, lands);
+}
+
+/* A panel that is edited through a history: its sheet, its panel and its step, and the bytes of its history, which are the caller's. */
+typedef struct palgwern_recorded {
+    const void *sheet;
+    size_t sheet_bytes;
+    palgwern_panel panel;
+    palgwern_history history;
+    uint8_t *lines;
+    size_t lines_bytes;
+} palgwern_recorded;
+
+/* What an edit or a recall answers is kept; on a refusal that is what was there. */
+static inline palgwern_edit_answer palgwern_recorded_keep(palgwern_recorded *r, palgwern_edit_answer answer) {
+    r->panel = answer.panel;
+    r->history = answer.history;
+    return answer;
+}
+
+static inline palgwern_edit_answer palgwern_recorded_edit(palgwern_recorded *r, palgwern_tables *t, const void *text, size_t bytes) {
+    return palgwern_recorded_keep(r, palgwern_edit((const uint8_t *)r->sheet, r->sheet_bytes, r->panel, r->history, t->words, t->bytes,
+        t->columnstore, sizeof t->columnstore, t->rowstore, sizeof t->rowstore, r->lines, r->lines_bytes, (const uint8_t *)text, bytes));
+}
+
+static inline palgwern_edit_answer palgwern_recorded_edit_name(palgwern_recorded *r, palgwern_tables *t, uint32_t axis, uint32_t line,
+    const void *name, size_t bytes) {
+    palgwern_name_edit entry;
+    entry.axis = axis;
+    entry.line = line;
+    return palgwern_recorded_keep(r, palgwern_edit_name((const uint8_t *)r->sheet, r->sheet_bytes, r->panel, r->history, t->words, t->bytes,
+        t->columnstore, sizeof t->columnstore, t->rowstore, sizeof t->rowstore, r->lines, r->lines_bytes, entry, (const uint8_t *)name,
+        bytes));
+}
+
+static inline palgwern_edit_answer palgwern_recorded_recall(palgwern_recorded *r, palgwern_tables *t, uint64_t step) {
+    return palgwern_recorded_keep(r, palgwern_recall((const uint8_t *)r->sheet, r->sheet_bytes, r->panel, r->history, t->words, t->bytes,
+        t->columnstore, sizeof t->columnstore, t->rowstore, sizeof t->rowstore, r->lines, r->lines_bytes, step));
 }
 
 static inline palgwern_line_answer palgwern_tables_nearest_line(const palgwern_tables *t, palgwern_grid grid, uint32_t axis,

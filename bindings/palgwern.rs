@@ -23,7 +23,8 @@
 //!
 //! A [`Panel`] owns the buffers that the library reads and writes and hands them over together, so what the calls ask of a caller
 //! holds: initialized arrays of the right lengths that do not overlap. One thing is left to the program: 512 KiB of stack for
-//! [`Panel::read`], [`Display::read`] and [`Panel::try_name`], which every Rust thread has unless it was asked for less.
+//! [`Panel::read`], [`Display::read`], [`Panel::try_name`] and the calls of [`Recorded`], which every Rust thread has unless it was asked
+//! for less.
 //!
 //! A call answers with a [`Refusal`] where its contract has one for it. Calls that have none for a panel that was read answer at once;
 //! should the archive refuse one all the same, they panic, and never answer with less.
@@ -164,6 +165,14 @@ pub struct TrackCounts {
     pub positive: u32,
 }
 
+/// The step of a panel, and the last step of its history.
+#[repr(C)]
+#[derive(Clone, Copy, Debug, Default, PartialEq, Eq)]
+pub struct History {
+    pub step: u64,
+    pub last: u64,
+}
+
 /// The number of the layout that this module declares: `layout` says that of the library.
 pub const LAYOUT: u32 = 2;
 
@@ -253,6 +262,24 @@ pub mod raw {
         pub axis: u32,
         pub line: u32,
         pub packing: u32,
+    }
+
+    #[repr(C)]
+    #[derive(Clone, Copy, Debug, PartialEq, Eq)]
+    pub struct NameEdit {
+        pub axis: u32,
+        pub line: u32,
+    }
+
+    #[repr(C)]
+    #[derive(Clone, Copy, Debug, PartialEq, Eq)]
+    pub struct EditAnswer {
+        pub number: u32,
+        pub line: u32,
+        pub earlier: u32,
+        pub later: u32,
+        pub panel: State,
+        pub history: History,
     }
 
     #[repr(C)]
@@ -365,6 +392,21 @@ pub mod raw {
             columnstore_bytes: usize, rowstore: *const u8, rowstore_bytes: usize, trial: Trial, name: *const u8, name_bytes: usize,
             numbers: *mut [i32; PLACEMENT_RUN], lands: *mut [u64; CELLS],
         ) -> TrialAnswer;
+        pub fn palgwern_edit(
+            sheet: *const u8, sheet_bytes: usize, panel: State, history: History, words: *mut [u64; PANEL_WORDS],
+            bytes: *mut [u8; PANEL_BYTES], columnstore: *mut u8, columnstore_bytes: usize, rowstore: *mut u8, rowstore_bytes: usize,
+            lines: *mut u8, lines_bytes: usize, text: *const u8, text_bytes: usize,
+        ) -> EditAnswer;
+        pub fn palgwern_edit_name(
+            sheet: *const u8, sheet_bytes: usize, panel: State, history: History, words: *mut [u64; PANEL_WORDS],
+            bytes: *mut [u8; PANEL_BYTES], columnstore: *mut u8, columnstore_bytes: usize, rowstore: *mut u8, rowstore_bytes: usize,
+            lines: *mut u8, lines_bytes: usize, entry: NameEdit, name: *const u8, name_bytes: usize,
+        ) -> EditAnswer;
+        pub fn palgwern_recall(
+            sheet: *const u8, sheet_bytes: usize, panel: State, history: History, words: *mut [u64; PANEL_WORDS],
+            bytes: *mut [u8; PANEL_BYTES], columnstore: *mut u8, columnstore_bytes: usize, rowstore: *mut u8, rowstore_bytes: usize,
+            lines: *const u8, lines_bytes: usize, step: u64,
+        ) -> EditAnswer;
         pub fn palgwern_least_resize(grid: Grid, words: *const [u64; PANEL_WORDS], axis: u32) -> ResizeAnswer;
         pub fn palgwern_drawn_area(
             grid: Grid, words: *const [u64; PANEL_WORDS], bytes: *const [u8; PANEL_BYTES], axis: u32, name: *const u8,
@@ -393,6 +435,7 @@ const _: () = assert!(size_of::<raw::ResizeAnswer>() == 12 && size_of::<raw::Cel
 const _: () = assert!(size_of::<TrackCounts>() == 12 && size_of::<raw::ConversionAnswer>() == 12);
 const _: () = assert!(size_of::<raw::AreaAnswer>() == 12);
 const _: () = assert!(size_of::<raw::Trial>() == 12 && size_of::<raw::TrialAnswer>() == 16);
+const _: () = assert!(size_of::<History>() == 16 && size_of::<raw::NameEdit>() == 8 && size_of::<raw::EditAnswer>() == 208);
 const _: () = assert!(size_of::<raw::TrackAnswer>() == 8 && size_of::<raw::LineRecordAnswer>() == 12);
 
 /// A refusal by its word in the table of refusals.
@@ -714,6 +757,28 @@ pub struct Panel {
     room: Room,
 }
 
+/// A panel that is edited through a history: its sheet, the panel of its step, and a line for each edit. It answers as a [`Panel`] does;
+/// every edit comes through it, so an earlier step can be brought back.
+///
+/// ```
+/// # use palgwern::{Axis, End, Recorded};
+/// let mut panel = Recorded::read("track\tc\tauto\t00000000\tauto\t00000000\n", 100)?;
+/// panel.edit("place\tc\tnamed\tx\t1\tauto\t-\t0")?;
+/// let stored = panel.step();
+/// panel.edit_name(Axis::Columns, 1, "x")?;
+/// assert_eq!(panel.placement(0)?.start, End::Line(1));
+/// panel.recall(stored)?;
+/// assert_eq!(panel.placement(0)?.start, End::Line(3));
+/// # Ok::<(), palgwern::Refusal>(())
+/// ```
+#[derive(Clone, PartialEq, Eq)]
+pub struct Recorded {
+    sheet: Vec<u8>,
+    panel: Panel,
+    history: History,
+    lines: Vec<u8>,
+}
+
 /// A panel for display, whose areas may share cells: what answers, and nothing to edit.
 #[derive(Clone, Debug, PartialEq, Eq)]
 pub struct Display {
@@ -724,6 +789,12 @@ pub struct Display {
 impl fmt::Debug for Answers {
     fn fmt(&self, f: &mut fmt::Formatter) -> fmt::Result {
         f.debug_struct("Answers").field("grid", &self.grid).finish_non_exhaustive()
+    }
+}
+
+impl fmt::Debug for Recorded {
+    fn fmt(&self, f: &mut fmt::Formatter) -> fmt::Result {
+        f.debug_struct("Recorded").field("panel", &self.panel).field("history", &self.history).finish_non_exhaustive()
     }
 }
 
@@ -902,6 +973,92 @@ impl Panel {
     /// The panel as the library has it.
     pub fn state(&self) -> State {
         State { grid: self.answers.grid, room: self.room }
+    }
+}
+
+impl Deref for Recorded {
+    type Target = Panel;
+
+    fn deref(&self) -> &Panel {
+        &self.panel
+    }
+}
+
+impl Recorded {
+    /// The panel that a sheet describes, at step 0, with a history of so many bytes.
+    pub fn read(sheet: impl Into<Vec<u8>>, bytes: usize) -> Result<Recorded, Refusal> {
+        let sheet = sheet.into();
+        Ok(Recorded { panel: Panel::read(&sheet)?, sheet, history: History::default(), lines: vec![0; bytes] })
+    }
+
+    /// Edits the panel by a line of a sheet, `area`, `track` or `place`, or by `enter`, axis, line and name, parted by tabs and without a line
+    /// feed: the line of the next step, and the later steps are dropped. [`Word::HistoryFull`] where it does not fit. On a refusal all stays.
+    pub fn edit(&mut self, text: impl AsRef<[u8]>) -> Result<(), Refusal> {
+        let (state, text) = (self.panel.state(), text.as_ref());
+        let held = &mut self.panel.answers;
+        // SAFETY: as in `Panel::read_again`; the sheet and the lines are vectors of their own.
+        let answer = unsafe {
+            raw::palgwern_edit(
+                self.sheet.as_ptr(), self.sheet.len(), state, self.history, &mut *held.words, &mut *held.bytes,
+                held.columnstore.as_mut_ptr(), STORE_BYTES, held.rowstore.as_mut_ptr(), STORE_BYTES, self.lines.as_mut_ptr(),
+                self.lines.len(), text.as_ptr(), text.len(),
+            )
+        };
+        self.after(answer)
+    }
+
+    /// Enters a line and a name in an axis: the edit of an `enter` line.
+    pub fn edit_name(&mut self, axis: Axis, line: u32, name: impl AsRef<[u8]>) -> Result<(), Refusal> {
+        let (state, entry, name) = (self.panel.state(), raw::NameEdit { axis: axis as u32, line }, name.as_ref());
+        let held = &mut self.panel.answers;
+        // SAFETY: as in `edit`.
+        let answer = unsafe {
+            raw::palgwern_edit_name(
+                self.sheet.as_ptr(), self.sheet.len(), state, self.history, &mut *held.words, &mut *held.bytes,
+                held.columnstore.as_mut_ptr(), STORE_BYTES, held.rowstore.as_mut_ptr(), STORE_BYTES, self.lines.as_mut_ptr(),
+                self.lines.len(), entry, name.as_ptr(), name.len(),
+            )
+        };
+        self.after(answer)
+    }
+
+    /// Brings back the panel of a step, that of the sheet and the first edits alone; the later ones stay until a new edit.
+    /// [`Word::NoStep`] above the last step. On a refusal all stays.
+    pub fn recall(&mut self, step: u64) -> Result<(), Refusal> {
+        let state = self.panel.state();
+        let held = &mut self.panel.answers;
+        // SAFETY: as in `edit`; the lines are only read.
+        let answer = unsafe {
+            raw::palgwern_recall(
+                self.sheet.as_ptr(), self.sheet.len(), state, self.history, &mut *held.words, &mut *held.bytes,
+                held.columnstore.as_mut_ptr(), STORE_BYTES, held.rowstore.as_mut_ptr(), STORE_BYTES, self.lines.as_ptr(),
+                self.lines.len(), step,
+            )
+        };
+        self.after(answer)
+    }
+
+    /// The panel and the step after a call, or as they were.
+    fn after(&mut self, answer: raw::EditAnswer) -> Result<(), Refusal> {
+        let pair = Pair::of(answer.earlier, answer.later);
+        self.panel.after(answer.number, answer.line, answer.panel).map_err(|refusal| Refusal { pair, ..refusal })?;
+        self.history = answer.history;
+        Ok(())
+    }
+
+    /// The step of the panel: how many edits it has.
+    pub fn step(&self) -> u64 {
+        self.history.step
+    }
+
+    /// The last step that can be recalled.
+    pub fn steps(&self) -> u64 {
+        self.history.last
+    }
+
+    /// The bytes of the history: a line for each step, and what lies past them.
+    pub fn lines(&self) -> &[u8] {
+        &self.lines
     }
 }
 
@@ -1089,8 +1246,8 @@ impl Answers {
     fn text(&self, axis: Axis, offset: usize, length: usize) -> &str {
         let name = &self.store(axis)[offset..][..length];
         debug_assert!(name.is_ascii());
-        // SAFETY: a store has zeros at first, and by the contracts of its two writers, the sheet's call and the entry's, they write
-        // bytes of accepted names and nothing else: codes 33 to 126. All of it is ASCII.
+        // SAFETY: a store has zeros at first, and by the contracts of its writers, the sheet's call, the entry's, an edit and a recall, they
+        // write bytes of accepted names and nothing else: codes 33 to 126. All of it is ASCII.
         unsafe { std::str::from_utf8_unchecked(name) }
     }
 

@@ -22,6 +22,8 @@ _Static_assert(sizeof(palgwern_line_answer) == 8, "line answer");
 _Static_assert(sizeof(palgwern_track_counts) == 12 && sizeof(palgwern_conversion_answer) == 12, "counts, conversion answer");
 _Static_assert(sizeof(palgwern_area_answer) == 12, "area answer");
 _Static_assert(sizeof(palgwern_trial) == 12 && sizeof(palgwern_trial_answer) == 16, "trial, trial answer");
+_Static_assert(sizeof(palgwern_history) == 16 && sizeof(palgwern_name_edit) == 8, "history, name");
+_Static_assert(sizeof(palgwern_edit_answer) == 208 && offsetof(palgwern_edit_answer, panel) == 16 && offsetof(palgwern_edit_answer, history) == 192, "edit answer");
 _Static_assert(sizeof(palgwern_track_answer) == 8 && sizeof(palgwern_line_record_answer) == 12, "track and record answers");
 
 _Static_assert(PALGWERN_PLACEMENT_RUN == 2 * PALGWERN_PLACEMENTS * PALGWERN_PLACEMENT_NUMBERS, "run of placements");
@@ -958,6 +960,118 @@ static void crowded_trials(void) {
     tried_panel = held;
 }
 
+/* A panel that is edited through a history: x on line 1 of one column, and a placement on the second line of x. */
+#define SECOND_X COLUMN_LINE "place\tc\tnamed\tx\t2\tauto\t-\t0\n"
+static const char recorded_sheet[] = "area\tb\t5\t6\t1\t2\nname\tc\tx\n" SECOND_X;
+static palgwern_tables recorded_tables, tables_before;
+static uint8_t lines[128], lines_before[sizeof lines];
+static palgwern_recorded recorded;
+
+static void fill_lines(size_t bytes) {
+    memset(lines, 'Z', sizeof lines);
+    recorded = (palgwern_recorded){recorded_sheet, sizeof recorded_sheet - 1, no_panel, {0, 0}, lines, bytes};
+    recorded.panel = palgwern_tables_read(&recorded_tables, recorded_sheet, sizeof recorded_sheet - 1).panel;
+    CHECK(recorded.panel.grid.placements == 1);
+}
+
+static int is_step(palgwern_edit_answer a, uint64_t step, uint64_t last) {
+    return a.number == 0 && a.line == 0 && a.earlier == 0 && a.later == 0 && a.history.step == step && a.history.last == last;
+}
+
+/* The history has this text first, and what lies past it is as it was. */
+static int has_lines(const char *text) {
+    size_t length = strlen(text);
+    for (size_t i = length; i < sizeof lines; i++) if (lines[i] != 'Z') return 0;
+    return !memcmp(lines, text, length);
+}
+
+static int starts_at(uint32_t index, int32_t line) {
+    palgwern_placement_answer p = palgwern_tables_placement(&recorded_tables, recorded.panel.grid, index);
+    return p.number == 0 && p.startkind == PALGWERN_END_LINE && p.startnumber == line;
+}
+
+/* The panel of a step is the one that a sheet with its edits describes; of the stores the names count. */
+static int as_read(const char *text, size_t bytes) {
+    palgwern_panel read = palgwern_tables_read(&copied, text, bytes).panel;
+    return same(read, recorded.panel) && !memcmp(copied.words, recorded_tables.words, sizeof copied.words) &&
+        !memcmp(copied.bytes, recorded_tables.bytes, sizeof copied.bytes) &&
+        !memcmp(copied.columnstore, recorded_tables.columnstore, read.room.columns.used);
+}
+
+/* An edit of each kind, each step brought back, and an edit that drops the later ones. */
+static void edits(void) {
+    fill_lines(sizeof lines);
+    CHECK(starts_at(0, 3) && is_step(palgwern_recorded_edit(&recorded, &recorded_tables, TEXT("area\ta\t1\t2\t1\t3")), 1, 1));
+    CHECK(recorded.panel.grid.areas == 2 && recorded.panel.grid.columns.size.explicit_count == 2 && recorded.panel.grid.rows.size.explicit_count == 5);
+    CHECK(as_read(TEXT("area\tb\t5\t6\t1\t2\narea\ta\t1\t2\t1\t3\nname\tc\tx\n" SECOND_X)));
+    CHECK(is_step(palgwern_recorded_edit(&recorded, &recorded_tables, TEXT("track\tc\tauto\t00000000\tauto\t00000000")), 2, 2));
+    CHECK(as_read(TEXT("area\tb\t5\t6\t1\t2\narea\ta\t1\t2\t1\t3\nname\tc\tx\n" SECOND_X COLUMN_LINE)) && starts_at(0, 4));
+    CHECK(is_step(palgwern_recorded_edit_name(&recorded, &recorded_tables, PALGWERN_COLUMNS, 2, TEXT("x")), 3, 3) && starts_at(0, 2));
+    CHECK(recorded.panel.grid.columns.entries == 2 && recorded.panel.room.columns.used == 2);
+    static const char held[] = "1\tarea\ta\t1\t2\t1\t3\n2\ttrack\tc\tauto\t00000000\tauto\t00000000\n3\tenter\tc\t2\tx\n";
+    CHECK(has_lines(held));
+    CHECK(is_step(palgwern_recorded_recall(&recorded, &recorded_tables, 0), 0, 3) && as_read(recorded_sheet, sizeof recorded_sheet - 1) && starts_at(0, 3));
+    CHECK(is_step(palgwern_recorded_recall(&recorded, &recorded_tables, 3), 3, 3) && starts_at(0, 2));
+    CHECK(is_step(palgwern_recorded_recall(&recorded, &recorded_tables, 1), 1, 3) && recorded.panel.grid.areas == 2 && has_lines(held));
+    CHECK(is_step(palgwern_recorded_edit(&recorded, &recorded_tables, TEXT("place\tr\tline\t-\t2\tauto\t-\t0")), 2, 2) && starts_at(1, 2));
+    CHECK(!memcmp(lines, TEXT("1\tarea\ta\t1\t2\t1\t3\n2\tplace\tr\tline\t-\t2\tauto\t-\t0\n")));
+}
+
+/* A refusal leaves the tables, the lines, the panel and the step as they were. */
+static int edit_refused(palgwern_edit_answer a, uint32_t number, uint32_t line) {
+    return a.number == number && a.line == line && (a.number == PALGWERN_OVERLAP || (a.earlier == 0 && a.later == 0)) &&
+        same(a.panel, recorded.panel) && a.history.step == recorded.history.step && a.history.last == recorded.history.last &&
+        !memcmp(&tables_before, &recorded_tables, sizeof tables_before) && !memcmp(lines_before, lines, sizeof lines);
+}
+
+static const struct { const char *text; uint32_t number; } refused_edits[] = {
+    {"", PALGWERN_UNREAD}, {"name\tc\ty", PALGWERN_UNREAD}, {"enter\tc\t01\tx", PALGWERN_UNREAD}, {"enter\tc\t1\tx\n", PALGWERN_UNREAD},
+    {"area\t\t1\t2\t3\t4", PALGWERN_NAME}, {"enter\tc\t0\t", PALGWERN_NAME}, {"track\tc\tlen\t80000000\tauto\t00000000", PALGWERN_VALUE},
+    {"place\tc\tline\t-\t32768\tauto\t-\t0", PALGWERN_COUNT}, {"enter\tr\t20001\tx", PALGWERN_COUNT}, {"area\tc\t2\t2\t3\t4", PALGWERN_AREA},
+    {"area\tb\t1\t2\t3\t4", PALGWERN_TWICE}, {"place\tr\tauto\t-\t0\tauto\t-\t0", PALGWERN_HISTORY_FULL}};
+
+/* Each refusal in its order, at step 1 with one step after it and no room for another line. */
+static void refused_history(void) {
+    fill_lines(sizeof "1\tenter\tc\t2\tx\n2\tenter\tr\t1\ty");
+    CHECK(is_step(palgwern_recorded_edit(&recorded, &recorded_tables, TEXT("enter\tc\t2\tx")), 1, 1));
+    CHECK(is_step(palgwern_recorded_edit_name(&recorded, &recorded_tables, PALGWERN_ROWS, 1, TEXT("y")), 2, 2));
+    CHECK(is_step(palgwern_recorded_recall(&recorded, &recorded_tables, 1), 1, 2));
+    tables_before = recorded_tables;
+    memcpy(lines_before, lines, sizeof lines);
+    for (size_t i = 0; i < sizeof refused_edits / sizeof *refused_edits; i++)
+        CHECK(edit_refused(palgwern_recorded_edit(&recorded, &recorded_tables, refused_edits[i].text, strlen(refused_edits[i].text)), refused_edits[i].number, 0));
+    palgwern_edit_answer shared = palgwern_recorded_edit(&recorded, &recorded_tables, TEXT("area\tc\t5\t7\t1\t9"));
+    CHECK(edit_refused(shared, PALGWERN_OVERLAP, 0) && shared.earlier == 1 && shared.later == 2);
+    CHECK(edit_refused(palgwern_recorded_edit_name(&recorded, &recorded_tables, 2, 1, TEXT("x")), PALGWERN_COUNT, 0));
+    CHECK(edit_refused(palgwern_recorded_edit_name(&recorded, &recorded_tables, 2, 0, TEXT("")), PALGWERN_NAME, 0));
+    CHECK(edit_refused(palgwern_recorded_edit_name(&recorded, &recorded_tables, PALGWERN_ROWS, 0, TEXT("x")), PALGWERN_COUNT, 0));
+    CHECK(edit_refused(palgwern_recorded_recall(&recorded, &recorded_tables, 3), PALGWERN_NO_STEP, 0));
+    CHECK(edit_refused(palgwern_recorded_recall(&recorded, &recorded_tables, UINT64_MAX), PALGWERN_NO_STEP, 0));
+}
+
+/* A short store, a sheet that is refused, a history that no edit wrote. */
+static void refused_for_others(void) {
+    palgwern_recorded held = recorded;
+    uint8_t *c = recorded_tables.columnstore, *r = recorded_tables.rowstore;
+    const uint8_t *own = (const uint8_t *)recorded_sheet, *text = (const uint8_t *)"enter\tr\t1\tz";
+    size_t n = PALGWERN_STORE_BYTES, bytes = sizeof recorded_sheet - 1;
+    CHECK(edit_refused(palgwern_edit(own, bytes, recorded.panel, recorded.history, recorded_tables.words, recorded_tables.bytes, c, n - 1, r, n,
+                           lines, 0, text, 11), PALGWERN_NO_STEP, 0));
+    CHECK(edit_refused(palgwern_edit(own, bytes, recorded.panel, recorded.history, recorded_tables.words, recorded_tables.bytes, c, n - 1, r, n,
+                           lines, recorded.lines_bytes, text, 11), PALGWERN_SHORT, 0));
+    CHECK(edit_refused(palgwern_recall(own, bytes, recorded.panel, recorded.history, recorded_tables.words, recorded_tables.bytes, c, n, r, n - 1,
+                           lines, recorded.lines_bytes, 9), PALGWERN_SHORT, 0));
+    recorded.history.step = recorded.history.last = 3;
+    CHECK(edit_refused(palgwern_recorded_edit(&recorded, &recorded_tables, TEXT("")), PALGWERN_NO_STEP, 0));
+    CHECK(edit_refused(palgwern_recorded_recall(&recorded, &recorded_tables, 3), PALGWERN_NO_STEP, 0));
+    recorded.sheet = "name\tc\tx\nnothing\n";
+    recorded.sheet_bytes = strlen((const char *)recorded.sheet);
+    CHECK(edit_refused(palgwern_recorded_edit(&recorded, &recorded_tables, TEXT("")), PALGWERN_UNREAD, 2));
+    CHECK(edit_refused(palgwern_recorded_recall(&recorded, &recorded_tables, 0), PALGWERN_UNREAD, 2));
+    recorded = held;
+    CHECK(is_step(palgwern_recorded_recall(&recorded, &recorded_tables, 2), 2, 2));
+}
+
 /* The calls, one for each number. */
 static void *call(void *number) {
     switch (*(int *)number) {
@@ -988,6 +1102,9 @@ static void *call(void *number) {
     case 24: palgwern_tables_named_area(&tables, panel.grid, 0, "gamma", 5); break;
     case 25: palgwern_tables_cells(&forged, forged_grid, PALGWERN_DENSE, lands); break;
     case 26: palgwern_tables_try(&tried, tried_panel, (palgwern_trial){PALGWERN_ROWS, 1, PALGWERN_DENSE}, TEXT("x"), numbers, lands); break;
+    case 27: palgwern_recorded_edit(&recorded, &recorded_tables, TEXT("enter\tc\t1\tz")); break;
+    case 28: palgwern_recorded_edit_name(&recorded, &recorded_tables, 0, 1, TEXT("z")); break;
+    case 29: palgwern_recorded_recall(&recorded, &recorded_tables, 1); break;
     }
     return NULL;
 }
@@ -1012,8 +1129,8 @@ static void stacks(void) {
         "resolve_placement", "line_name", "records", "resolve_placements", "line_names", "display_sheet", "nearest_line",
         "placements_within", "placements_around", "least_resize", "into_origin_zero_line", "into_grid_line", "next_track",
         "previous_line", "line_record", "layout", "size_at",
-        "drawn_area", "named_area", "place_cells", "try_name"};
-    static const size_t kibibytes[] = {0, 448, 48, 48, 48, 48, 48, 48, 48, 160, 160, 448, 48, 160, 160, 48, 48, 48, 48, 48, 48, 48, 48, 48, 48, 160, 448};
+        "drawn_area", "named_area", "place_cells", "try_name", "edit", "edit_name", "recall"};
+    static const size_t kibibytes[] = {0, 448, 48, 48, 48, 48, 48, 48, 48, 160, 160, 448, 48, 160, 160, 48, 48, 48, 48, 48, 48, 48, 48, 48, 48, 160, 448, 448, 448, 448};
     size_t none = stack_of(0);
     printf("stack in bytes:");
     for (size_t i = 1; i < sizeof names / sizeof *names; i++) {
@@ -1048,6 +1165,9 @@ int main(int count, char **words) {
     empty_trial();
     refused_trials();
     crowded_trials();
+    edits();
+    refused_history();
+    refused_for_others();
     stacks();
     resizes();
     sizes();

@@ -340,6 +340,60 @@ fn refused_trials() {
     assert!(as_entered(&panel, Axis::Rows, 4, b"x", Packing::Sparse).is_ok());
 }
 
+/// x on line 1 of one column, and a placement on the second line of x, which is counted on past the end.
+const SECOND_X: &str = "name\tc\tx\ntrack\tc\tauto\t00000000\tauto\t00000000\nplace\tc\tnamed\tx\t2\tauto\t-\t0\n";
+
+/// A call that is refused leaves the panel, its step and the lines.
+fn refused_call(panel: &mut Recorded, call: impl Fn(&mut Recorded) -> Result<(), Refusal>) -> Option<Refusal> {
+    let before = panel.clone();
+    let refused = call(panel).err();
+    assert!(*panel == before && refused.is_some());
+    refused
+}
+
+#[test]
+fn histories() {
+    let mut panel = Recorded::read(SECOND_X, 100).unwrap();
+    let start = |panel: &Recorded| panel.placement(0).unwrap().start;
+    assert_eq!((panel.step(), panel.steps(), start(&panel)), (0, 0, End::Line(3)));
+    panel.edit("enter\tc\t2\tx").unwrap();
+    panel.edit_name(Axis::Rows, 1, "y").unwrap();
+    panel.edit("area\ta\t1\t2\t1\t4").unwrap();
+    assert_eq!((panel.step(), panel.steps(), start(&panel), panel.size(Axis::Columns).explicit), (3, 3, End::Line(2), 3));
+    let lines = b"1\tenter\tc\t2\tx\n2\tenter\tr\t1\ty\n3\tarea\ta\t1\t2\t1\t4\n";
+    assert!(panel.lines().starts_with(lines) && panel.lines()[lines.len()..].iter().all(|&byte| byte == 0));
+    let last = panel.clone();
+    panel.recall(0).unwrap();
+    assert_eq!((panel.step(), panel.steps(), panel.grid()), (0, 3, Panel::read(SECOND_X).unwrap().grid()));
+    panel.recall(3).unwrap();
+    assert!(panel == last);
+    panel.recall(1).unwrap();
+    panel.edit("place\tr\tline\t-\t1\tauto\t-\t0").unwrap();
+    assert_eq!((panel.step(), panel.steps(), panel.placements(), panel.size(Axis::Columns).explicit), (2, 2, 2, 1));
+    assert_eq!(format!("{panel:?}").matches("Recorded").count(), 1);
+}
+
+#[test]
+fn refused_by_histories() {
+    let mut panel = Recorded::read(format!("area\tb\t1\t2\t1\t3\n{SECOND_X}"), 20).unwrap();
+    panel.edit("enter\tc\t2\tx").unwrap();
+    for (text, word) in [
+        ("nothing", Word::Unread), ("cell", Word::Unread), ("enter\tc\t1\t", Word::Name), ("track\tc\tlen\t80000000\tauto\t00000000", Word::Value),
+        ("enter\tc\t0\tx", Word::Count), ("area\ta\t2\t1\t1\t2", Word::Area), ("area\tb\t2\t3\t1\t2", Word::Twice), ("enter\tc\t1\tx", Word::HistoryFull),
+    ] {
+        assert_eq!(refused_call(&mut panel, |panel| panel.edit(text)), refusal(word, 0), "{text}");
+    }
+    let shared = refused_call(&mut panel, |panel| panel.edit("area\ta\t1\t2\t2\t9")).unwrap();
+    assert_eq!((shared.word, shared.pair), (Word::Overlap, Some(Pair { earlier: 1, later: 2 })));
+    assert_eq!(refused_call(&mut panel, |panel| panel.edit_name(Axis::Rows, 0, "x")), refusal(Word::Count, 0));
+    assert_eq!(refused_call(&mut panel, |panel| panel.edit_name(Axis::Rows, 1, "x y")), refusal(Word::Name, 0));
+    assert_eq!(refused_call(&mut panel, |panel| panel.edit_name(Axis::Rows, 1, "x")), refusal(Word::HistoryFull, 0));
+    assert_eq!(refused_call(&mut panel, |panel| panel.recall(2)), refusal(Word::NoStep, 0));
+    assert_eq!(Recorded::read("nothing\n", 20).err(), refusal(Word::Unread, 1));
+    panel.recall(0).unwrap();
+    panel.edit_name(Axis::Rows, 1, "x").unwrap();
+}
+
 /// A sheet of columns with a fill of one track, `kind` its kind and `bits` those of its size.
 fn filled(axis: &str, kind: &str, bits: &str) -> String {
     format!("axis\tc\t{axis}\nrepeat\tc\tfill\ntrack\tc\t{kind}\t{bits}\t{kind}\t{bits}\nend\tc\n")

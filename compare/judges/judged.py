@@ -4,6 +4,7 @@ import os
 import shutil
 import subprocess
 
+import acts
 import build
 import model
 import questions
@@ -66,9 +67,17 @@ class Library(Batch):
         return self.sheet_answer(sheet, calls, rows) + [DISPLAYED] + self.sheet_answer(sheet, [], questions.of_display(rows), b"display")
 
     def sheet_answer(self, sheet, calls, rows=(), word=b"sheet"):
-        """The answer of one call on a sheet; where it ended, how, and it is started again."""
+        """The answer of one call on a sheet."""
+        return self.answered(lambda: self.send(sheet, calls, word, rows))
+
+    def history_answer(self, sheet, size, made):
+        """The answers to acts on a sheet's panel."""
+        return self.answered(lambda: self.process.stdin.write(acts.block_bytes(sheet, size, made)))
+
+    def answered(self, send):
+        """The answer to what is sent; where it ended, how, and it is started again."""
         try:
-            self.send(sheet, calls, word, rows)
+            send()
             return self.read_answer()
         except (Ended, BrokenPipeError):
             status = self.process.wait()

@@ -1,14 +1,15 @@
 """The recorded lists: read, counted, written as the input of the program `vectors`, and held to docs/DIFFERENCES.md.
 
 They stand once in the repository, one after the other in the file that `vectors` is run on under the gate. Before each stands
-its head, a line `lines ROWS list NAME`: the number of its conversions of lines, which is 0 for a list of blocks."""
+its head, a line `lines ROWS list NAME`: the number of its conversions of lines, which is 0 for a list of blocks. A block of the list
+`histories` is a sheet with acts on its panel."""
 import os
 import re
 
 import browser_sheets
 import build
 
-REPLAYED = ("cases", "limits", "areas", "pictures", "cells", "trials", "short", "entries", "accepted", "refused", "large", "differences", "cursor", "resize", "lines")
+REPLAYED = ("cases", "limits", "areas", "pictures", "cells", "trials", "histories", "short", "entries", "accepted", "refused", "large", "differences", "cursor", "resize", "lines")
 WRONG = "wrong"  # replayed after them: what is wrong on purpose
 DIFFERENCES = os.path.join(build.REPOSITORY, "docs", "DIFFERENCES.md")
 VECTORS = os.path.join(build.REPOSITORY, "crates", "vectors")
@@ -40,6 +41,7 @@ class Reading:
 
 class Block:
     """A block of a list, its `case` line read already."""
+    acts = 0
 
     def __init__(self, name, reading):
         self.name = name
@@ -66,6 +68,27 @@ class Block:
         return b"case %s\n" % name.encode() + self.asked + b"%s %d\n" % (self.word, len(expected)) + expected
 
 
+class HistoryBlock:
+    """A block of acts on a panel and its history, its `history` line read already."""
+    display, rows, questions = False, [], []
+
+    def __init__(self, name, reading):
+        self.name = name
+        start = reading.at
+        reading.head()
+        self.sheet = reading.part(reading.head()[1])
+        count, size = reading.head()[1].split()
+        self.acts = int(count)
+        reading.part(size)
+        self.asked = reading.data[start:reading.at]
+        self.lines = reading.part(reading.head()[1]).decode("latin-1").split("\n")[:-1]
+
+    def written(self, name, lines):
+        """The same sheet and acts under another name, with other expected lines."""
+        expected = "".join(line + "\n" for line in lines).encode("latin-1")
+        return b"history %s\n" % name.encode() + self.asked + b"expect %d\n" % len(expected) + expected
+
+
 def parts(data):
     """The first line of each part of the lists, with its block, or else with the rows of its conversions."""
     return ((first, block, rows) for _, first, block, rows in placed_parts(data))
@@ -81,7 +104,8 @@ def placed_parts(data):
         if word == b"lines":
             yield at, first, None, [reading.line() for _ in range(int(rest.split()[0]))]
         else:
-            yield at, first, Block(rest.decode(), reading), []
+            kind = HistoryBlock if word == b"history" else Block
+            yield at, first, kind(rest.decode(), reading), []
 
 
 def parted(data):
@@ -129,6 +153,7 @@ def totals():
         "blocks": len(read),
         "calls": sum(len(block.rows) for block in read),
         "questions": sum(len(block.questions) for block in read),
+        "acts": sum(block.acts for block in read),
         "rows": sum(len(rows) for _, _, rows in found),
         "different": len(differs),
     }

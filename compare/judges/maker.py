@@ -458,6 +458,18 @@ class Maker:
         cells = [self.spans_in_range(f"cell\t{sides()}") for _ in range(self.pick([0, 0, 1, 2, 3, 5]))]
         return self.area_lines() + self.mixed(columns, rows, places, cells), self.calls(), None
 
+    # Panels that are edited through a history.
+
+    def history(self):
+        """Small panels of every kind: named tracks with repeats, areas or a picture, placements and now and then a cell."""
+        way = self.random.randrange(4)
+        if way == 0:
+            return self.trial()[0], [], None
+        if way == 1:
+            return self.sheet_lines(pictures.lines(self.good_picture())), [], None
+        drawn = self.touching()[0] if way == 2 else self.sheet_lines()
+        return drawn, [], None
+
     def cursor_template(self, letter):
         """Components whose tracks all have a definite size beside an inner size."""
         lines = [line for _ in range(self.below(5)) for line in self.name_lines(letter, 0.3) + self.plain_lines(letter, 0.2)]
@@ -739,7 +751,7 @@ class Maker:
 
 
 WEIGHTS = {"general": 600, "touching": 30, "overlap": 50, "picture": 50, "broken": 60, "cells": 80, "damaged_cells": 25, "trial": 40, "invalid": 60, "tie": 100, "thin": 100, "cursor": 60, "resize": 30, "large": 8, "over": 5, "far": 5, "writing_out": 12, "full": 12, "store": 2, "long": 3,
-           "damaged": 220, "spoiled": 60, "grouped": 0}  # asked for by name alone: the sheets of a seed stay
+           "damaged": 220, "spoiled": 60, "grouped": 0, "history": 0}  # asked for by name alone: the sheets of a seed stay
 
 
 def make(seed, number, only=None):

@@ -202,6 +202,11 @@ def mark_lines(state):
     return ["\t".join(["held", letter, *("y" if mark else "n" for mark in both)]) for letter, both in marks]
 
 
+def cut_lines(lines):
+    """The lines without records and without empty name lists."""
+    return [line for line in lines if not line[0].isdigit() and not (line.startswith("names") and line.count("\t") == 2)]
+
+
 def count_lines(state):
     """The number of name entries of each axis."""
     return [f"entries\t{letter}\t{len(state.entries[letter])}" for letter in LETTERS]

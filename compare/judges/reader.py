@@ -24,6 +24,8 @@ OVERLAP = 12
 UNEQUAL = 13
 BROKEN = 14
 UNPLACED = 15
+HISTORY_FULL = 16
+NO_STEP = 17
 # Which of the faults of a line is given: document 02 puts 12 after 6 and 7 and before 8, and 14 after 13.
 FAULT_ORDER = (UNREAD, NAME, VALUE, COUNT, AREA, TWICE, LATE, OVERLAP, CROWDED, UNEQUAL, BROKEN)
 
@@ -504,8 +506,8 @@ def last_row(lines):
     return found
 
 
-def read_lines(sheet, display=False):
-    """The panel that the lines say, and the number of the line after the last."""
+def read_all(sheet, display=False):
+    """The panel that the lines say one by one, and the number of the line after the last."""
     if len(sheet) > LONGEST_SHEET:
         raise Refused(UNREAD, 0)
     panel = Panel(display=display)
@@ -520,9 +522,20 @@ def read_lines(sheet, display=False):
             end_picture(panel, number)
     if lines[-1]:
         raise Refused(UNREAD, len(lines))
-    if any(axis.open for axis in panel.axes.values()):
-        raise Refused(UNREAD, len(lines))
     return panel, len(lines)
+
+
+def is_open(panel):
+    """Whether a repeat is left open, which is unread at the line after the last."""
+    return any(axis.open for axis in panel.axes.values())
+
+
+def read_lines(sheet, display=False):
+    """The same, with no repeat left open."""
+    panel, line_after = read_all(sheet, display)
+    if is_open(panel):
+        raise Refused(UNREAD, line_after)
+    return panel, line_after
 
 
 def end_picture(panel, line):

@@ -4,12 +4,16 @@ import os
 import random
 import sys
 
+import acts
 import build
 import cell_edges
 import cursor_edges
 import damage
 import differences
 import edges
+import history
+import history_compare
+import history_edges
 import lists
 import maker
 import model
@@ -47,6 +51,9 @@ PICTURED = {"picture": 80, "broken": 160}
 PLACED, UNPLACED, DAMAGED_CELLS = 160, 40, 80
 # Sheets of the family `trial` on which a name is tried with success, and names on each.
 TRIED, TRIALS = 30, 6
+# Sheets of each family on which acts are made, and the longest block that is kept.
+ACTED = {"history": 80, "trial": 15, "thin": 12, "invalid": 12, "cells": 15}
+LONGEST_ACTS = 8000
 CUT = {"large": 60, "far": 40, "over": 12, "writing_out": 20, "full": 4}
 # Refused sheets for each number, record and kind of field.
 REFUSED_FOR_EACH = {1: 9, 3: 4, 4: 6}
@@ -92,7 +99,7 @@ class Case:
         return questions.answer_lines(self.answer.state, questions.made(self.sheet, self.answer.state))
 
     def block(self, cut=False):
-        lines = cut_lines(self.lines) if cut else self.lines
+        lines = model.cut_lines(self.lines) if cut else self.lines
         expected = model.text_of(lines).encode()
         calls = b"".join(call_line(call) for call in self.calls)
         word = "display" if self.display else "sheet"
@@ -104,12 +111,6 @@ class Case:
 def call_line(call):
     letter, line, name = call
     return f"{letter}\t{line}\t".encode() + name + b"\n"
-
-
-def cut_lines(lines):
-    """The lines without records and without empty name lists."""
-    return [line for line in lines
-            if not line[0].isdigit() and not (line.startswith("names") and line.count("\t") == 2)]
 
 
 def questions_block(name, sheet, calls, rows, display=False):
@@ -192,7 +193,7 @@ def paper_case(folder, name, rust):
     given = [line for line in given if not line.startswith("enter")]
     own = rust.ask(sheet, [(letter, line, text.decode()) for letter, line, text in calls], b"crate")[:-2]
     if not any(line[0].isdigit() for line in given):
-        own = cut_lines(own)
+        own = model.cut_lines(own)
     if not any(line.startswith("names") for line in given):
         own = [line for line in own if not line.startswith("names")]
     if own != given:
@@ -320,6 +321,48 @@ def write_trials(rust):
     blocks = [edge_block(rust, *edge) for edge in trial_edges.edges()]
     answered = lambda case: not case.refused and b"\ntried\t" in trial_block(case) and len(trial_block(case)) <= LONGEST_BLOCK
     keep("trials", blocks + list(map(trial_block, taken(made_cases("trial", rust, SEED + 11), TRIED, answered))))
+
+
+def history_block(name, sheet, size, made):
+    """A sheet, acts on its panel and history, and their answers."""
+    expected = "".join(line + "\n" for line in acts.answer_lines(sheet, size, made)).encode("latin-1")
+    return f"history {name}\n".encode() + acts.block_bytes(sheet, size, made) + b"expect %d\n" % len(expected) + expected
+
+
+def is_answered(act, answer, held):
+    """Whether an act is answered as its edge says: of the whole answer of a panel, the lines that have to stand in it."""
+    return all(line in answer for line in held) if act[0] in ("show", "cut") else answer == held
+
+
+def history_edge(name, lines, size, rows):
+    """Acts whose answers are written by hand; what a call without an axis answers is not replayed."""
+    sheet, session = damage.sheet_of(lines), history.Session(damage.sheet_of(lines), size)
+    for act, held in rows:
+        if not is_answered(act, acts.act_lines(session, act), held):
+            raise build.CannotCompare(f"not recorded: {name} is answered otherwise than its edge says: {act!r}")
+    return history_block(name, sheet, size, [act for act, _ in rows if act[:2] != ("enter", acts.NO_AXIS)])
+
+
+def made_history(case, rust):
+    """Acts that are made for a sheet; none where its block is long."""
+    made = acts.made(case.sheet, case.answer.state)
+    if made is None:
+        return None
+    difference = history_compare.difference(case.sheet, *made, rust)
+    if difference:
+        raise build.CannotCompare(f"not recorded: the judges differ on the history of {case.name}: {difference}")
+    replayed = [act for act in made[1] if act[:2] != ("enter", acts.NO_AXIS)]
+    return history_block(case.name, case.sheet, made[0], replayed)
+
+
+def write_histories(rust):
+    """Panels that are edited and recalled: the edges, and acts made for sheets of several families."""
+    blocks = [history_edge(*edge) for edge in history_edges.edges()]
+    for family, count in ACTED.items():
+        cases = (case for case in made_cases(family, rust, SEED + 12) if not case.refused)
+        made = filter(None, (made_history(case, rust) for case in cases))
+        blocks += taken(made, count, lambda block: len(block) <= LONGEST_ACTS)
+    keep("histories", blocks)
 
 
 def write_accepted(rust):
@@ -473,7 +516,7 @@ def check():
     return 1 if found else 0
 
 
-WRITERS = {"limits": write_limits, "areas": write_areas, "pictures": write_pictures, "cells": write_cells, "trials": write_trials, "lines": write_lines,
+WRITERS = {"limits": write_limits, "areas": write_areas, "pictures": write_pictures, "cells": write_cells, "trials": write_trials, "histories": write_histories, "lines": write_lines,
            "short": write_short, "entries": write_entries, "accepted": write_accepted, "refused": write_refused, "large": write_cut,
            "differences": write_differences, "cursor": write_cursor, "resize": write_resize}
 

@@ -2,9 +2,12 @@
 import argparse
 import collections
 
+import acts
 import build
+import history_compare
 import maker
-from compare import Rust, any_order, columns_alone, compare, compare_lines
+import model
+from compare import Rust, any_order, columns_alone, compare, compare_lines, first_difference
 from judged import Library, Program, judged
 from shrink import shrink
 
@@ -40,7 +43,7 @@ def show(number, made, rust, asked):
     result = compare_made(number, made, rust, asked)
     print(f"difference at sheet {number} ({family}):")
     if not any(difference.startswith("damage") for difference in result.differences):
-        again = lambda *other: compare_made(number, (*other, None), rust, asked)
+        again = lambda *other: compare_made(number, (*other, None, family), rust, asked)
         sheet, calls = shrink(sheet, calls, lambda *other: bool(again(*other).differences))
         result = again(sheet, calls)
     print_small(sheet, calls, result.differences)
@@ -54,11 +57,24 @@ def compare_conversions(rust, seed):
     return sum(difference is not None for difference in found)
 
 
+def history_differences(sheet, rust, asked):
+    """Acts on the panel of an accepted sheet: the model beside plain sheets and the Rust, and the library beside the model."""
+    answer = model.Answer(sheet)
+    made = None if answer.refused else acts.made(sheet, answer.state)
+    if made is None:
+        return []
+    own = acts.answer_lines(sheet, *made)
+    beside = [first_difference(f"{one.name}: history", own, one.history_answer(sheet, *made)) for one in asked if isinstance(one, Library)]
+    return list(filter(None, [history_compare.difference(sheet, *made, rust), *beside]))
+
+
 def compare_made(number, made, rust, asked):
-    """One made sheet, now and then with the claims about two runs."""
+    """One made sheet, now and then with the claims about two runs and with acts on its panel."""
     result = compare(*made[:2], rust, asked, made[2])
     if number % EVERY == 0:
         result.differences += filter(None, [columns_alone(*made[:2]), any_order(*made[:2])])
+    if number % EVERY == 1 or made[3] == "history":
+        result.differences += history_differences(made[0], rust, asked)
     return result
 
 

@@ -6,6 +6,7 @@ from unittest import mock
 
 import binary32
 import cursor
+import history
 import model
 import placing
 import reader
@@ -1270,6 +1271,256 @@ FOUND_BY_EDGES.update({
     "every trial packed sparsely": (model, "try_name", always_packed(placing.SPARSE)),
     "every trial packed densely": (model, "try_name", always_packed(placing.DENSE)),
 })
+
+
+# Readings of histories: found by the edges of them, and by the library.
+
+right_texts_in = history.texts_in
+right_settled = history.settled
+right_written_out = history.written_out
+right_calls_in = history.calls_in
+right_with_lines = history.with_lines
+right_after_the_lines = history.after_the_lines
+right_enter_all = history.enter_all
+right_settle_line = history.settle_line
+right_edit = history.Session.edit
+right_recall = history.Session.recall
+
+
+def steps_dropped_by_a_refusal(self):
+    self.last = self.step
+
+
+def bytes_cleared_by_a_recall(self):
+    _, place = right_texts_in(self.lines, self.step)
+    self.lines[place:] = bytes([history.UNWRITTEN] * (len(self.lines) - place))
+
+
+def bytes_after_the_last_line(self, place):
+    """The bytes of dropped lines not given back."""
+    try:
+        return len(self.lines) - right_texts_in(self.lines, self.last)[1]
+    except reader.Refused:
+        return len(self.lines) - place
+
+
+def line_feed_left_out(self, place, line):
+    if self.free_bytes(place) < len(line) - 1:
+        raise reader.Refused(reader.HISTORY_FULL, 0)
+
+
+def one_byte_kept_free(self, place, line):
+    if self.free_bytes(place) <= len(line):
+        raise reader.Refused(reader.HISTORY_FULL, 0)
+
+
+def room_looked_at_first(self, text):
+    """16 before the refusals of the edit."""
+    _, place = history.texts_in_sheet(self.sheet, self.lines, self.step)
+    self.check_line(place, history.history_line(self.next_number(), text))
+    right_edit(self, text)
+
+
+def stores_looked_at_first(self, text):
+    """10 before the refusals of the edit."""
+    self.check_stores()
+    right_edit(self, text)
+
+
+def room_before_stores(self):
+    """10 after 16: not before the line is seen to fit."""
+
+
+def numbered_after_the_last(self):
+    return self.last + 1
+
+
+def numbered_from_0(number, text):
+    return b"%d\t%s\n" % (number - 1, text)
+
+
+def area_before_the_others(panel, text):
+    number = right_settle_line(panel, text)
+    if not number and text.startswith(b"area"):
+        names = list(panel.areas)
+        panel.areas = {name: panel.areas[name] for name in names[-1:] + names[:-1]}
+    return number
+
+
+def names_of_the_sheet(panel):
+    """The names written out as they were before the edits."""
+    state = right_written_out(panel)
+    state.entries = {letter: list(history.entries_before[letter]) for letter in model.LETTERS}
+    return state
+
+
+def counts_of_the_sheet(letters):
+    """The explicit counts left as they were before the edits, on these axes."""
+    def written(panel):
+        state = right_written_out(panel)
+        for letter in letters:
+            state.explicit[letter] = history.explicit_before[letter]
+        return state
+    return written
+
+
+def with_state_before(written):
+    """The same, what the sheet says noted first."""
+    def settled(sheet, texts):
+        before = model.Answer(sheet).state
+        if before is None:
+            return right_settled(sheet, texts)
+        history.entries_before, history.explicit_before = before.entries, before.explicit
+        with mock.patch.object(history, "written_out", written):
+            return right_settled(sheet, texts)
+    return settled
+
+
+def entries_dropped_by_a_track(texts):
+    """The direct entries before the last track lost."""
+    last = max((place for place, text in enumerate(texts) if text.startswith(b"track")), default=0)
+    right_calls_in(texts)
+    return right_calls_in(texts[last:])
+
+
+def entries_before_the_names(state, calls):
+    number = right_enter_all(state, calls)
+    for letter in model.LETTERS:
+        direct = [(line, name) for of, line, name in state.accepted if of == letter]
+        if direct:
+            state.entries[letter] = direct + state.entries[letter][:-len(direct)]
+    return number
+
+
+def entries_not_counted(state, calls):
+    """More than 4,096 entries taken."""
+    with mock.patch.dict(reader.MOST, entry=10 ** 6):
+        return right_enter_all(state, calls)
+
+
+def faults_of_entries_alone(state, calls):
+    """A refused direct entry passed over."""
+    right_enter_all(state, calls)
+    return 0
+
+
+def sheet_not_counted_anew(panel):
+    return reader.UNREAD if reader.is_open(panel) else 0
+
+
+def last_line_told(sheet, texts):
+    """A refused edit told at the line after the sheet's last."""
+    try:
+        return right_settled(sheet, texts)
+    except reader.Refused as refused:
+        raise reader.Refused(refused.number, sheet.count(b"\n") + 1, refused.pair) from refused
+
+
+def pair_not_told(sheet, texts):
+    try:
+        return right_settled(sheet, texts)
+    except reader.Refused as refused:
+        raise reader.Refused(refused.number, refused.line) from refused
+
+
+def as_if_one_line_more(panel, text):
+    """A line counted for the length of the sheet: unread after 32,768 bytes."""
+    return reader.UNREAD if history.length_before + len(text) + 1 > reader.LONGEST_SHEET else right_settle_line(panel, text)
+
+
+def with_length_noted(sheet, texts):
+    history.length_before = len(sheet)
+    with mock.patch.object(history, "settle_line", as_if_one_line_more):
+        return right_with_lines(sheet, texts)
+
+
+def last_edit_alone(sheet, past, text):
+    """The panel of the sheet and the new edit alone, as after a recall to 0."""
+    return right_settled(sheet, [text])
+
+
+def settled_without_the_last(sheet, texts):
+    return right_settled(sheet, texts[:-1])
+
+
+def forged_lines_taken(sheet, past, text):
+    """Lines that no edit wrote told by their own refusal."""
+    return right_settled(sheet, past + [text])
+
+
+def any_numbers(lines, count):
+    """Lines taken whatever number stands before them."""
+    texts, place = [], 0
+    for _ in range(count):
+        end = lines.find(b"\n", place)
+        if end < 0:
+            raise reader.Refused(reader.NO_STEP, 0)
+        texts.append(bytes(lines[place:end]).partition(b"\t")[2])
+        place = end + 1
+    return texts, place
+
+
+def no_step_before_short(self, step):
+    if self.is_above(step):
+        raise reader.Refused(reader.NO_STEP, 0)
+    right_recall(self, step)
+
+
+def later_steps_dropped_by_a_recall(self, step):
+    right_recall(self, step)
+    self.last = step
+
+
+def axis_before_the_name(self, letter, line, name):
+    if letter not in model.LETTERS:
+        raise reader.Refused(reader.COUNT, 0)
+    right_edit_name(self, letter, line, name)
+
+
+right_edit_name = history.Session.edit_name
+SHEET_WORDS = history.SHEET_WORDS
+
+FOUND_BY_HISTORIES = {
+    "a recall of one edit more": (history.Session, "recalled_count", lambda self, step: min(step + 1, self.last)),
+    "a recall of one edit less": (history.Session, "recalled_count", lambda self, step: max(step - 1, 0)),
+    "the last step above the last": (history.Session, "is_above", lambda self, step: step >= self.last > 0),
+    "a step above the last recalled": (history.Session, "is_above", lambda self, step: step > self.last + 1),
+    "17 before 10": (history.Session, "recall", no_step_before_short),
+    "later steps dropped by a recall": (history.Session, "recall", later_steps_dropped_by_a_recall),
+    "later steps dropped by a refused edit": (history.Session, "after_refusal", steps_dropped_by_a_refusal),
+    "the bytes cleared by a recall": (history.Session, "after_recall", bytes_cleared_by_a_recall),
+    "the bytes of dropped lines not given back": (history.Session, "free_bytes", bytes_after_the_last_line),
+    "the line feed left out of a line's bytes": (history.Session, "check_line", line_feed_left_out),
+    "one byte kept free": (history.Session, "check_line", one_byte_kept_free),
+    "16 before other refusals": (history.Session, "edit", room_looked_at_first),
+    "10 before other refusals": (history.Session, "edit", stores_looked_at_first),
+    "short stores not looked at": (history.Session, "check_stores", room_before_stores),
+    "a step numbered after the last one": (history.Session, "next_number", numbered_after_the_last),
+    "steps numbered from 0": (history, "history_line", numbered_from_0),
+    "an area that is late": (history, "reopen", lambda panel: None),
+    "an area before the others": (history, "settle_line", area_before_the_others),
+    "an edit refused for the sheet's length": (history, "with_lines", with_length_noted),
+    "names not written out anew": (history, "settled", with_state_before(names_of_the_sheet)),
+    "the explicit counts of the sheet": (history, "settled", with_state_before(counts_of_the_sheet("cr"))),
+    "the rows' explicit count forgotten": (history, "settled", with_state_before(counts_of_the_sheet("r"))),
+    "direct entries lost with a track": (history, "calls_in", entries_dropped_by_a_track),
+    "direct entries before the sheet's": (history, "enter_all", entries_before_the_names),
+    "direct entries not counted beside a track's": (history, "enter_all", entries_not_counted),
+    "a refused entry passed over": (history, "enter_all", faults_of_entries_alone),
+    "the sheet not counted anew": (history, "after_the_lines", sheet_not_counted_anew),
+    "an edit refused at a line": (history, "settled", last_line_told),
+    "12 without its pair": (history, "settled", pair_not_told),
+    "a `name` line taken as an edit": (history, "SHEET_WORDS", SHEET_WORDS + (b"name",)),
+    "a `cell` line taken as an edit": (history, "SHEET_WORDS", SHEET_WORDS + (b"cell",)),
+    "a `row` line taken as an edit": (history, "SHEET_WORDS", SHEET_WORDS + (b"row",)),
+    "an `item` line taken as an edit": (history, "SHEET_WORDS", SHEET_WORDS + (b"item",)),
+    "placements left out of the edits": (history, "SHEET_WORDS", (b"area", b"track")),
+    "the edits before the last one forgotten": (history, "settled_with", last_edit_alone),
+    "an edit that changes nothing": (history, "settled", settled_without_the_last),
+    "lines of no edit told by their refusal": (history, "settled_with", forged_lines_taken),
+    "lines taken by any number": (history, "texts_in", any_numbers),
+    "no axis before a bad name": (history.Session, "edit_name", axis_before_the_name),
+}
 
 
 @contextlib.contextmanager

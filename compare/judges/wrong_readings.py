@@ -1,9 +1,12 @@
 """Puts each wrong reading into the model and shows that the comparison finds it."""
 
+import acts
 import build
 import cell_edges
 import cursor_edges
 import damage
+import history
+import history_edges
 import maker
 import model
 import placing
@@ -97,6 +100,63 @@ class ByHand:
         return [difference] if difference else []
 
 
+def histories_by_hand():
+    """The edges of histories: each with its bytes and its acts."""
+    return [(damage.sheet_of(lines), size, rows) for _, lines, size, rows in history_edges.edges()]
+
+
+def as_calls(rows):
+    """The acts of an edge, but for looks at a panel after what no call wrote: the library's program can't show such a one."""
+    made = [act for act, _ in rows]
+    forged = next((place for place, act in enumerate(made) if act[0] in ("steps", "put")), len(made))
+    return made[:forged] + [act for act in made[forged:] if act[0] not in ("show", "cut")]
+
+
+def histories_made(count=400):
+    """Acts that are made for sheets, before any reading is put in place."""
+    for sheet, *_ in (maker.make(SEED, number, "history") for number in range(count)):
+        state = model.Answer(sheet).state
+        made = acts.made(sheet, state) if state else None
+        if made:
+            yield sheet, *made
+
+
+# A difference in the bytes of a history is long.
+LONGEST_SHOWN = 200
+
+
+class HistoriesByHand:
+    """The difference of one edge of histories from its answers that are written by hand."""
+    starts = ("edge",)
+    shrinks = False
+
+    def found(self, sheet, size, rows):
+        session = history.Session(sheet, size)
+        for act, held in rows:
+            own = acts.act_lines(session, act)
+            difference = first_difference("edge", [line for line in held if line in own] if act[0] in ("show", "cut") else own, held)
+            if difference:
+                return [difference[:LONGEST_SHOWN]]
+        return []
+
+
+class HistoriesByTheLibrary:
+    """The difference of acts on one sheet from the library's answers."""
+    starts = (Library.name,)
+    shrinks = False
+
+    def __init__(self, process):
+        self.process = process
+        self.known = {}
+
+    def found(self, sheet, size, made):
+        key = sheet, size, tuple(made)
+        if key not in self.known:
+            self.known[key] = self.process.history_answer(*key)
+        difference = first_difference(Library.name, acts.answer_lines(*key), self.known[key])
+        return [difference[:LONGEST_SHOWN]] if difference else []
+
+
 def found(judge, sheet, calls, expected):
     try:
         return judge.found(sheet, calls, expected)
@@ -139,7 +199,7 @@ def try_all(readings, sheets, judge):
     return missed
 
 
-def try_library(sheets):
+def try_library(sheets, acted):
     """Every reading once more, the library the only judge, where it is built."""
     archive = find(None, *LIBRARY)
     if archive is None:
@@ -152,6 +212,7 @@ def try_library(sheets):
     asked = {name: reading for name, reading in readings.items() if name not in NOT_BY_THE_LIBRARY}
     library = Library(build_library(archive))
     missed = try_all(asked, sheets, ByTheLibrary(library, sheets))
+    missed += try_all(wrong.FOUND_BY_HISTORIES, acted, HistoriesByTheLibrary(library))
     library.close()
     return missed
 
@@ -167,9 +228,11 @@ def main():
     missed += try_all(wrong.FOUND_BY_RECOUNT, sheets, ByTheJudges(asked, FROM_THE_RECOUNT))
     missed += try_all(wrong.FOUND_BY_CSS, sheets, ByTheJudges(asked, FROM_CSS))
     missed += try_all(wrong.FOUND_BY_EDGES, by_hand(), ByHand())
+    acted, written = list(histories_made()), histories_by_hand()
+    missed += try_all(wrong.FOUND_BY_HISTORIES, written, HistoriesByHand())
     rust.close()
-    missed += try_library(sheets)
-    count = sum(map(len, EVERY))
+    missed += try_library(sheets, acted + [(sheet, size, as_calls(rows)) for sheet, size, rows in written])
+    count = sum(map(len, EVERY)) + len(wrong.FOUND_BY_HISTORIES)
     print(f"{count} wrong readings, {missed} not found")
     return 1 if missed else 0
 

@@ -116,11 +116,16 @@ fn print_placed(out: &mut Vec<u8>, panel: &Answers, lands: Vec<Land>, pair: Opti
 }
 
 /// The whole answer of a panel, edited or only displayed; nothing but the refusal where one of its cells has no place.
-pub fn print_answers(out: &mut Vec<u8>, panel: &Answers, pair: Option<Pair>) {
+pub fn print_whole(out: &mut Vec<u8>, panel: &Answers, pair: Option<Pair>) {
     match panel.place_cells(Packing::Sparse) {
         Ok(lands) => print_placed(out, panel, lands, pair),
         Err(refusal) => print_refusal(out, refusal),
     }
+}
+
+/// The same, and the numbers of name entries.
+pub fn print_answers(out: &mut Vec<u8>, panel: &Answers, pair: Option<Pair>) {
+    print_whole(out, panel, pair);
     let grid = panel.grid();
     writeln!(out, "entries\tc\t{}\nentries\tr\t{}", grid.columns.entries, grid.rows.entries).unwrap();
 }

@@ -2,6 +2,7 @@
 use crate::answer::{print_answers, print_pair, print_refusal};
 use crate::blocks::{bytes, calls, head, questions, Call};
 use crate::calls::{display_sheet, enter_name, read_sheet, Numbers};
+use crate::histories::print_acts;
 use crate::lent::{Lent, TEXT};
 use crate::palgwern::{Display, Panel, Room, State};
 use crate::questions::print_questions;
@@ -73,17 +74,27 @@ fn displayed(lent: &mut Lent, sheet: &[u8], questions: &[String]) -> Vec<u8> {
     out
 }
 
-/// For each block `sheet ..` or `display ..` an `answer BYTES` and the answer. What is in them is for others to judge: 0 faults.
+/// A sheet, its entry calls and questions, read or only displayed.
+fn asked(input: &mut impl BufRead, panel: &mut Panel, lent: &mut Lent, word: &str, bytes_of_sheet: usize) -> Vec<u8> {
+    let sheet = bytes(input, bytes_of_sheet);
+    let (calls, questions) = (calls(input), questions(input));
+    match word {
+        "sheet" => answer(panel, lent, &sheet, &calls, &questions),
+        "display" => displayed(lent, &sheet, &questions),
+        _ => panic!("another head is due"),
+    }
+}
+
+/// For each block `sheet ..` or `display ..`, or `bytes ..` for a history, an `answer BYTES` and the answer. What is in them is for others to
+/// judge: 0 faults.
 pub fn run(mut input: impl BufRead, mut output: impl Write) -> u64 {
     let mut panel = Panel::empty();
     let mut lent = Lent::filled(0xa5);
     while let Some((word, count)) = head(&mut input) {
-        let sheet = bytes(&mut input, count.parse().expect("a number"));
-        let (calls, questions) = (calls(&mut input), questions(&mut input));
+        let count = count.parse().expect("a number");
         let text = match word.as_str() {
-            "sheet" => answer(&mut panel, &mut lent, &sheet, &calls, &questions),
-            "display" => displayed(&mut lent, &sheet, &questions),
-            _ => panic!("another head is due"),
+            "bytes" => print_acts(&mut input, count),
+            _ => asked(&mut input, &mut panel, &mut lent, &word, count),
         };
         writeln!(output, "answer {}", text.len()).unwrap();
         output.write_all(&text).unwrap();

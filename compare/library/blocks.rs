@@ -29,6 +29,11 @@ pub fn number(input: &mut impl BufRead, word: &str) -> Option<usize> {
     Some(rest.parse().expect("a number"))
 }
 
+/// A part of what follows the word of a head.
+pub fn part(rest: &str, at: usize) -> &str {
+    rest.split(' ').nth(at).expect("a part of a head")
+}
+
 pub fn bytes(input: &mut impl BufRead, count: usize) -> Vec<u8> {
     let mut bytes = vec![0; count];
     input.read_exact(&mut bytes).unwrap();

@@ -5,6 +5,7 @@ use crate::cells;
 use crate::chance::Chance;
 use crate::cursor;
 use crate::forging::{Forged, Sheets, KINDS};
+use crate::histories;
 use crate::lent::{ITEMS, RUN, TEXT};
 use crate::palgwern::Grid;
 use crate::planted::{self, FAULTS};
@@ -21,11 +22,12 @@ const SHOWN: u64 = 20;
 /// Seconds after which a call is said not to end.
 const PATIENCE: u64 = 120;
 /// Calls of each panel, by name; those that look at the tables are made more often.
-const CALLS: [&str; 29] = [
+const CALLS: [&str; 34] = [
     "read_sheet", "display_sheet", "enter_name", "enter_name", "explicit_size", "line_count", "record_count", "resolve_placement", "resolve_placement",
     "resolve_placement", "resolve_placement", "line_name", "line_name", "line_name", "line_name", "records", "records",
     "resolve_placements", "line_names", "nearest_line", "placements_within", "placements_within", "placements_around", "placements_around",
     "least_resize", "place_cells", "place_cells", "try_name", "try_name",
+    "edit", "edit", "edit_name", "recall", "recall",
 ];
 static CALLS_MADE: AtomicU64 = AtomicU64::new(0);
 
@@ -108,6 +110,13 @@ fn lend(call: &str, chance: &mut Chance, sheets: &Sheets, forged: &mut Forged, n
             forged.lent.bytes[TEXT].fill_with(&a_name(chance));
             trials::lend_answers(&mut forged.lent);
         }
+        "edit" | "edit_name" | "recall" => {
+            let sheet = if chance.once_in(4) { a_sheet(chance, sheets) } else { sheets.accepted[chance.below(sheets.accepted.len())].0.clone() };
+            histories::lend(chance, &mut forged.lent, &sheet);
+            if call == "edit_name" {
+                forged.lent.bytes[TEXT].fill_with(&a_name(chance));
+            }
+        }
         "records" => lend_records(chance, forged, numbers),
         "place_cells" => cells::lend_lands(&mut forged.lent),
         "resolve_placements" | "line_names" => runs::lend_run(call, &mut forged.lent),
@@ -136,6 +145,9 @@ fn make(call: &str, forged: &Forged, numbers: Numbers) -> (u32, Promises) {
         "least_resize" => promises::least_resize(lent, state.grid, numbers),
         "place_cells" => cells::placed(lent, state.grid, numbers),
         "try_name" => trials::tried(lent, *state, numbers),
+        "edit" => histories::edited(lent, *state),
+        "edit_name" => histories::name_edited(lent, *state, numbers),
+        "recall" => histories::recalled(lent, *state),
         "nearest_line" => cursor::nearest(lent, state.grid, cursor::numbers(call, numbers)),
         "placements_within" => cursor::within(lent, state.grid, cursor::numbers(call, numbers)),
         "placements_around" => cursor::around(lent, state.grid, cursor::numbers(call, numbers)),

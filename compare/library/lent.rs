@@ -13,6 +13,9 @@ pub const COLUMN_STORE: usize = 1;
 pub const ROW_STORE: usize = 2;
 pub const TEXT: usize = 3;
 pub const ITEMS: usize = 4;
+/// The sheet and the lines of a panel that is edited through a history.
+pub const SHEET: usize = 5;
+pub const LINES: usize = 6;
 
 /// The regions of the panel's words.
 pub const COLUMNS: Range<usize> = COLUMNS_START..COLUMNS_START + AXIS_WORDS;
@@ -120,14 +123,14 @@ fn same_but_for<T: Copy + PartialEq>(own: &[Guarded<T>], others: &[Guarded<T>], 
 #[derive(Clone, PartialEq)]
 pub struct Lent {
     pub words: [Guarded<u64>; 3],
-    pub bytes: [Guarded<u8>; 5],
+    pub bytes: [Guarded<u8>; 7],
 }
 
 impl Lent {
-    /// Every buffer filled with one byte; text, items, run and lands empty.
+    /// Every buffer filled with one byte; text, items, sheet, lines, run and lands empty.
     pub fn filled(byte: u8) -> Lent {
         let word = u64::from_ne_bytes([byte; 8]);
-        let (words, bytes) = ([PANEL_WORDS, 0, 0], [PANEL_BYTES, STORE_BYTES, STORE_BYTES, 0, 0]);
+        let (words, bytes) = ([PANEL_WORDS, 0, 0], [PANEL_BYTES, STORE_BYTES, STORE_BYTES, 0, 0, 0, 0]);
         Lent { words: words.map(|length| Guarded::new(length, word, 0)), bytes: bytes.map(|length| Guarded::new(length, byte, 0)) }
     }
 

@@ -9,6 +9,7 @@ mod chance;
 mod cursor;
 mod forge;
 mod forging;
+mod histories;
 mod lent;
 #[path = "../../bindings/palgwern.rs"]
 mod palgwern;

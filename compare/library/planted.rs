@@ -5,7 +5,7 @@ use crate::palgwern::{raw, AREA_NAMES_START, PLACEMENT_NUMBERS};
 use std::sync::atomic::{AtomicUsize, Ordering};
 
 /// The faults, from 1 on.
-pub const FAULTS: [&str; 60] = [
+pub const FAULTS: [&str; 70] = [
     "a refused sheet changes a word",
     "a word that the tables held reaches the panel",
     "a sheet writes past the words",
@@ -66,6 +66,16 @@ pub const FAULTS: [&str; 60] = [
     "a trial with a packing that is none is answered",
     "a trial is written past its lands",
     "a trial on a full axis is refused by 10",
+    "a refused edit writes its line",
+    "a refused edit gives another step back",
+    "an edit writes past its line",
+    "an edit writes past the lines",
+    "an edit skips a step",
+    "an edit keeps the later steps",
+    "an edit has a pair beside another refusal than 12",
+    "a recall writes a line",
+    "a recall drops the later steps",
+    "a recall gives another panel",
 ];
 
 /// The fault in place, 0 for none.
@@ -215,6 +225,30 @@ pub fn in_trial(lent: &mut Lent, numbers: Numbers, answer: &mut raw::TrialAnswer
         58 if answer.number == 4 && numbers.place > 1 => answer.number = 0,
         59 if answer.number == 0 => lent.words[lands].write_past(7),
         60 if answer.number == 8 => answer.number = 10,
+        _ => (),
+    }
+}
+
+pub fn in_edit(lent: &mut Lent, answer: &mut raw::EditAnswer) {
+    let lines = lent.bytes[LINES].content_mut();
+    match planted() {
+        61 if answer.number != 0 && !lines.is_empty() => lines[0] ^= 1,
+        62 if answer.number == 4 => answer.history.step ^= 1,
+        63 if answer.number == 0 => *lines.last_mut().expect("a line") ^= 1,
+        64 if answer.number == 0 => lent.bytes[LINES].write_past(7),
+        65 if answer.number == 0 => answer.history.step += 1,
+        66 if answer.number == 0 => answer.history.last += 1,
+        67 if answer.number == 16 => answer.later = 1,
+        _ => (),
+    }
+}
+
+pub fn in_recall(lent: &mut Lent, answer: &mut raw::EditAnswer) {
+    let lines = lent.bytes[LINES].content_mut();
+    match planted() {
+        68 if answer.number == 0 && !lines.is_empty() => lines[0] ^= 1,
+        69 if answer.number == 0 => answer.history.last = answer.history.step,
+        70 if answer.number == 0 => answer.panel.grid.placements += 1,
         _ => (),
     }
 }

@@ -9,3 +9,4 @@ pub mod Layout
 pub mod Sizes
 pub mod Areas
 pub mod Trial
+pub mod History

@@ -20,6 +20,7 @@ ghost use Rattle.panel_resolving.specs.Placements.{WrittenNumbers, placements_wr
 pub mod areas;
 mod cells;
 mod cursor;
+mod history;
 mod hits;
 pub mod layout;
 pub mod lines;

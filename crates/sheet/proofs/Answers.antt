@@ -35,14 +35,16 @@ use Rattle.sheet_rules.proofs.Fits.{empty_fits_sheet, display_fits}
 use Rattle.sheet_rules.proofs.Chosen.{none-overlap}
 use Rattle.sheet_rules.proofs.Former.{display-other}
 use Rattle.sheet.specs.Runs.{HeldRun, stopped, held_run, held_overlap, held_broken, held_after, held_sheet, with_broken, held_judged}
-use Rattle.sheet.specs.Steps.{fault_in, line_of, EndsAsRun, refused_answer, overlap_answer, judged_by, judgement, read_under}
+use Rattle.sheet_step.specs.declared.Draft.{Draft}
+use Rattle.sheet_step.specs.Drafts.{held_of}
+use Rattle.sheet.specs.Steps.{fault_in, line_of, EndsAsRun, refused_answer, overlap_answer, judged_by, judgement, zero_held, copied, read_under}
 use Rattle.sheet.proofs.Steps.{has_number}
 use Rattle.sheet.proofs.Follows.{held_sized, Follows, run_follows, overlap_follows, broken_follows}
 
 -- ---- the store of an axis
 
 -- bytes at the start of a store that has room for them
-put-start : (store bytes : List ℕ) → length bytes ≤ length store → put_bytes store 0 bytes ≡ bytes ++ drop (length bytes) store
+pub put-start : (store bytes : List ℕ) → length bytes ≤ length store → put_bytes store 0 bytes ≡ bytes ++ drop (length bytes) store
 unfolding put_bytes
 put-start store bytes h =
     let e : 0 + length bytes ≡ length bytes = omega arith in
@@ -50,7 +52,7 @@ put-start store bytes h =
     (sets-eq bytes store 0 (omega arith) ∙ ap (λ (k : ℕ). bytes ++ drop k store) e)
 
 -- the names of an axis, in a store of the size asked for
-put-names : (v : AxisView) (store : List ℕ) → Fits v → 32768 ≤ length store → put_bytes store 0 (part_of (names_store v) 0 (length (axis_bytes v))) ≡ pasted v store
+pub put-names : (v : AxisView) (store : List ℕ) → Fits v → 32768 ≤ length store → put_bytes store 0 (part_of (names_store v) 0 (length (axis_bytes v))) ≡ pasted v store
 unfolding names_store
 put-names v store f h =
     ap (put_bytes store 0) (pad-take 32768 (axis_bytes v) f.bytes)
@@ -63,18 +65,7 @@ abbrev pub answer_in : Overlap → PanelHeld → Tables → SheetRead
 answer_in o h t =
     record {
       answer = record { refusal = no_refusal; earlier = o.earlier; later = o.later; panel = h.panel };
-      tables = record {
-        columns = h.columns;
-        rows = h.rows;
-        column_marks = h.column_marks;
-        row_marks = h.row_marks;
-        areas = h.areas;
-        area_bytes = h.area_bytes;
-        placements = h.placements;
-        placement_bytes = h.placement_bytes;
-        column_store = put_bytes t.column_store 0 (part_of h.column_bytes 0 h.panel.room.columns.used);
-        row_store = put_bytes t.row_store 0 (part_of h.row_bytes 0 h.panel.room.rows.used);
-      };
+      tables = copied h t.column_store t.row_store;
     }
 
 -- a refusal: an answer, and everything lent as it was
@@ -92,7 +83,7 @@ module _ (p : Overlap) (o : Outcome) (t : Tables) where
   answer-short z k = rw (eq-eqb o.fault 0 z, k)
 
   -- stores that are not short
-  enough : short_stores t ≡ false → (32768 ≤ length t.column_store) × (32768 ≤ length t.row_store)
+  pub enough : short_stores t ≡ false → (32768 ≤ length t.column_store) × (32768 ≤ length t.row_store)
   enough = go (ltb (length t.column_store) 32768) (ltb (length t.row_store) 32768) refl refl
     where
       go : (a b : Bool) → ltb (length t.column_store) 32768 ≡ a → ltb (length t.row_store) 32768 ≡ b → (a || b) ≡ false → (32768 ≤ length t.column_store) × (32768 ≤ length t.row_store)
@@ -113,10 +104,6 @@ module _ (p : Overlap) (o : Outcome) (t : Tables) where
 
 -- ---- from what was read
 
--- zeros, to read into
-abbrev pub zero_held : PanelHeld
-zero_held = panel_held_of zero_panel zero_panel_reading (replicate panel_words 0) (replicate panel_bytes 0) (replicate 32768 0) (replicate 32768 0)
-
 -- a sheet that is not too long
 fold_follows : (s : List ℕ) → length s ≤ 32768 → Follows (held_sheet s zero_held) (fold_of s)
 unfolding fold_of held_sheet
@@ -125,7 +112,7 @@ fold_follows s k =
     (subst (λ (h : PanelHeld). Follows (held_after (held_run 1 (split 10 s) h)) (run 1 (split 10 s) empty_view)) zeros_same
     (run_follows 1 (split 10 s) empty_view empty_fits_sheet))
 
-sheet_broken : (s : List ℕ) → length s ≤ 32768 → held_broken 1 (split 10 s) zero_held ≡ broken_of s
+pub sheet_broken : (s : List ℕ) → length s ≤ 32768 → held_broken 1 (split 10 s) zero_held ≡ broken_of s
 unfolding broken_of
 sheet_broken s k =
     rw (le-ltb 32768 (length s) k)
@@ -267,11 +254,10 @@ module _ (former : Bool) (s : List ℕ) (few : length s ≤ 32768) (end : Result
         ∙ (unrefused (tables_in w b cs rs) z).1
 
 -- what is answered from words and bytes, where nothing is refused
-pub answer_in_lem : (o : Overlap) (p : Panel) (q : Reading) (v a c d w b cs rs : List ℕ)
-    → record { answer = record { refusal = no_refusal; earlier = o.earlier; later = o.later; panel = p }; tables = tables_in v a (put_bytes cs 0 (part_of c 0 p.room.columns.used)) (put_bytes rs 0 (part_of d 0 p.room.rows.used)) }
-    ≡ answer_in o (panel_held_of p q v a c d) (tables_in w b cs rs)
+pub answer_in_lem : (o : Overlap) (d : Draft) (w b cs rs : List ℕ)
+    → record { answer = accepted_with o d.panel; tables = copied (held_of d) cs rs } ≡ answer_in o (held_of d) (tables_in w b cs rs)
 unfolding tables_in panel_held_of
-answer_in_lem o p q v a c d w b cs rs = refl
+answer_in_lem o d w b cs rs = refl
 
 -- ---- a sheet that is accepted has no pair
 

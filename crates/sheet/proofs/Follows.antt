@@ -64,26 +64,27 @@ follows_stop n m h v f e z =
     let k : eqb n 0 ≡ false = ne_eqb n 0 (λ y. z (sym e ∙ y)) in
     rw k (record { fault = e; line = λ y. refl; held = λ y. absurd (z y) })
 
--- a line that is not the last: the rest goes on, with what is held and with the view
-line_follows : (n : ℕ) (fs : List (List ℕ)) (v : PanelView) → FitsSheet v → (next : PanelHeld → HeldRun) (rest : PanelView → Outcome)
-    → Follows (held_after (next (held_panel (line_step v fs).panel))) (rest (line_step v fs).panel)
-    → Follows
-    (held_after (cond (eqb (line_in (held_panel v) fs).fault 0) (next (line_in (held_panel v) fs).held) (stopped (line_in (held_panel v) fs).fault n (line_in (held_panel v) fs).held)))
-    (cond (eqb (line_step v fs).fault 0) (rest (line_step v fs).panel) (outcome (line_step v fs).fault n v))
-line_follows n fs v f next rest q = go (eqb (line_step v fs).fault 0) refl
-  where
-    go : (t : Bool) → eqb (line_step v fs).fault 0 ≡ t
-        → Follows
-        (held_after (cond (eqb (line_in (held_panel v) fs).fault 0) (next (line_in (held_panel v) fs).held) (stopped (line_in (held_panel v) fs).fault n (line_in (held_panel v) fs).held)))
-        (cond t (rest (line_step v fs).panel) (outcome (line_step v fs).fault n v))
-    go true e =
-        let z : (line_step v fs).fault ≡ 0 = eqb-true (line_step v fs).fault 0 e in
-        rw (eq-eqb (line_in (held_panel v) fs).fault 0 (line_fault_lem v f fs ∙ z))
-        (subst (λ (h : PanelHeld). Follows (held_after (next h)) (rest (line_step v fs).panel)) (sym (line-held v f fs z)) q)
-    go false e =
-        let z : (line_step v fs).fault ≡ 0 → ⊥ = eqb-false (line_step v fs).fault 0 e in
-        rw (ne_eqb (line_in (held_panel v) fs).fault 0 (λ y. z (sym (line_fault_lem v f fs) ∙ y)))
-        (follows_stop (line_in (held_panel v) fs).fault n (line_in (held_panel v) fs).held v (line_step v fs).fault (line_fault_lem v f fs) z)
+-- a line that is not the last: the rest goes on, with what is held and with the view, in any relation that refusals at the same line are in
+module _ (As : HeldRun → Outcome → Type 0) (stop : (n m : ℕ) (h : PanelHeld) (v : PanelView) (f : ℕ) → n ≡ f → (f ≡ 0 → ⊥) → As (stopped n m h) (outcome f m v)) where
+  pub line_follows : (n : ℕ) (fs : List (List ℕ)) (v : PanelView) → FitsSheet v → (next : PanelHeld → HeldRun) (rest : PanelView → Outcome)
+      → As (next (held_panel (line_step v fs).panel)) (rest (line_step v fs).panel)
+      → As
+      (cond (eqb (line_in (held_panel v) fs).fault 0) (next (line_in (held_panel v) fs).held) (stopped (line_in (held_panel v) fs).fault n (line_in (held_panel v) fs).held))
+      (cond (eqb (line_step v fs).fault 0) (rest (line_step v fs).panel) (outcome (line_step v fs).fault n v))
+  line_follows n fs v f next rest q = go (eqb (line_step v fs).fault 0) refl
+    where
+      go : (t : Bool) → eqb (line_step v fs).fault 0 ≡ t
+          → As
+          (cond (eqb (line_in (held_panel v) fs).fault 0) (next (line_in (held_panel v) fs).held) (stopped (line_in (held_panel v) fs).fault n (line_in (held_panel v) fs).held))
+          (cond t (rest (line_step v fs).panel) (outcome (line_step v fs).fault n v))
+      go true e =
+          let z : (line_step v fs).fault ≡ 0 = eqb-true (line_step v fs).fault 0 e in
+          rw (eq-eqb (line_in (held_panel v) fs).fault 0 (line_fault_lem v f fs ∙ z))
+          (subst (λ (h : PanelHeld). As (next h) (rest (line_step v fs).panel)) (sym (line-held v f fs z)) q)
+      go false e =
+          let z : (line_step v fs).fault ≡ 0 → ⊥ = eqb-false (line_step v fs).fault 0 e in
+          rw (ne_eqb (line_in (held_panel v) fs).fault 0 (λ y. z (sym (line_fault_lem v f fs) ∙ y)))
+          (stop (line_in (held_panel v) fs).fault n (line_in (held_panel v) fs).held v (line_step v fs).fault (line_fault_lem v f fs) z)
 
 -- ---- the end
 
@@ -104,14 +105,14 @@ axis_end : (x : AxisView) → Fits x → (ended_axis x).answer.fault ≡ axis_fa
 axis_end x f = end-answer (state_of x) (reading_of x) (axis_words x) ∙ end_fault_lem x f
 
 -- where nothing is refused
-end-held : (v : PanelView) → FitsPanel v → end_fault v ≡ 0 → (held_end 0 (held_panel v)).held ≡ held_sized v
+pub end-held : (v : PanelView) → FitsPanel v → end_fault v ≡ 0 → (held_end 0 (held_panel v)).held ≡ held_sized v
 unfolding held_panel held_sized ended_panel end_fault sized_panel
 end-held v f e =
     let z = first_zero (axis_fault v.columns) (axis_fault v.rows) e in
     rw (end_same v.columns f.columns z.0, end_same v.rows f.rows z.1)
 
 -- the fault
-end_first : (n : ℕ) (v : PanelView) → FitsPanel v → (held_end n (held_panel v)).fault ≡ end_fault v
+pub end_first : (n : ℕ) (v : PanelView) → FitsPanel v → (held_end n (held_panel v)).fault ≡ end_fault v
 unfolding held_panel ended_panel end_fault
 end_first n v f = rw (axis_end v.columns f.columns, axis_end v.rows f.rows)
 
@@ -137,7 +138,7 @@ run_follows n (l ∷ []) v f = go (eqb (length l) 0)
     go true = end_follows n v f.panel
     go false = follows_stop 1 n (held_panel v) v 1 refl (λ y. omega arith)
 run_follows n (l ∷ m ∷ ls) v f =
-    line_follows n (split 9 l) v f (held_run (n + 1) (m ∷ ls)) (run (n + 1) (m ∷ ls)) (run_follows (n + 1) (m ∷ ls) (line_step v (split 9 l)).panel (line-fits v f (split 9 l)))
+    line_follows (λ r o. Follows (held_after r) o) follows_stop n (split 9 l) v f (held_run (n + 1) (m ∷ ls)) (run (n + 1) (m ∷ ls)) (run_follows (n + 1) (m ∷ ls) (line_step v (split 9 l)).panel (line-fits v f (split 9 l)))
 
 -- ---- the overlap
 

@@ -1,13 +1,13 @@
 -- The steps of reading a sheet: on the words that are lent, and under either rule.
-use Rattle.std.specs.Prelude.{List, ℕ, ◌<◌, ◌≡◌, Bool, cond, eqb, Option, Some, None, Result, Ok, Err}
+use Rattle.std.specs.Prelude.{List, ℕ, ◌<◌, ◌≡◌, Bool, cond, eqb, replicate, Option, Some, None, Result, Ok, Err}
 use Rattle.coordinates.specs.declared.axis.Axis.{Axis}
 use Rattle.axis_tables.specs.declared.AxisState.{AxisState}
 use Rattle.axis_tables.specs.Readings.{AxisReading}
-use Rattle.axis_tables.specs.Runs.{with_part}
-use Rattle.panel_tables.specs.Regions.{first_word, axis_words_in}
+use Rattle.axis_tables.specs.Runs.{with_part, put_bytes, part_of}
+use Rattle.panel_tables.specs.Regions.{panel_words, panel_bytes, first_word, axis_words_in}
 use Rattle.coordinates.specs.declared.refusal.Fault.{Fault}
 use Rattle.coordinates.specs.Refusals.{overlap, number_of}
-use Rattle.panel_tables.specs.Written.{zero_panel, PanelHeld}
+use Rattle.panel_tables.specs.Written.{zero_panel, zero_panel_reading, PanelHeld, panel_held_of}
 use Rattle.sheet_rules.specs.declared.Overlap.{Overlap}
 use Rattle.sheet_rules.specs.declared.LineFault.{LineFault}
 use Rattle.sheet_rules.specs.declared.SheetFault.{SheetFault}
@@ -81,6 +81,28 @@ judged_by former p fault line = cond former (refused_answer fault line) (cond (e
 abbrev pub judgement : Result (Unit {0}) SheetFault → SheetAnswer
 judgement (Ok u) = refused_answer 0 0
 judgement (Err fault) = refused_with fault
+
+-- ---- what is lent, and what is read into
+
+-- zeros
+abbrev pub zero_held : PanelHeld
+zero_held = panel_held_of zero_panel zero_panel_reading (replicate panel_words 0) (replicate panel_bytes 0) (replicate 32768 0) (replicate 32768 0)
+
+-- once the tables of what is held are copied out: the names of an axis at the start of its store, of which the rest stays
+abbrev pub copied : PanelHeld → List ℕ → List ℕ → Tables
+copied h column_store row_store =
+    record {
+      columns = h.columns;
+      rows = h.rows;
+      column_marks = h.column_marks;
+      row_marks = h.row_marks;
+      areas = h.areas;
+      area_bytes = h.area_bytes;
+      placements = h.placements;
+      placement_bytes = h.placement_bytes;
+      column_store = put_bytes column_store 0 (part_of h.column_bytes 0 h.panel.room.columns.used);
+      row_store = put_bytes row_store 0 (part_of h.row_bytes 0 h.panel.room.rows.used);
+    }
 
 -- a panel with the first overlap of its sheet, or why it is refused
 abbrev pub answered_read : Result ReadPanel SheetFault → SheetAnswer

@@ -31,7 +31,7 @@ fn end_in(axis: Axis, before: AxisAfter, words: &mut [u64; PANEL_WORDS]) -> Resu
 }
 
 // Both axes: the first of their faults, and the panel with their sizes. All else stays.
-pub(crate) fn end_panel(draft: &mut Draft) -> Result<(), Fault>
+pub fn end_panel(draft: &mut Draft) -> Result<(), Fault>
     ensures { record { fault = refused_by result; line = 0; held = held_of draft.new } ≡ held_end 0 (held_of draft.old) }
 {
     let columns = draft.axis(Axis::Column);

@@ -2,18 +2,18 @@
 
 #![tactic(auto)]
 
-mod end;
-mod lines;
+pub mod end;
+pub mod lines;
 mod read;
 
 use panel_tables::Panel;
-pub use read::{display_sheet, read_sheet};
+pub use read::{copy_out, display_sheet, read_sheet};
 use sheet_rules::{LineFault, Overlap};
 
 // The lines of a sheet that were read: the first overlap on the way, the line of the last row of a broken picture, and the line after the
 // last, or what the lines are refused by.
 #[derive(Clone, Copy, Debug, PartialEq, Eq)]
-pub(crate) struct LinesRead {
+pub struct LinesRead {
     pub overlap: Option<Overlap>,
     pub broken: Option<u32>,
     pub end: Result<u32, LineFault>,

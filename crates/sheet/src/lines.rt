@@ -17,7 +17,7 @@ use sheet_step::{Draft, read_line};
 use text::{LINE_FEED, part_end};
 
 // The overlap of a line, numbered from 1: the area that it shares a cell with, and its own, which comes after so many.
-fn overlap_at(shared: Option<u32>, areas: u32, line: u32) -> Option<Overlap>
+pub fn overlap_at(shared: Option<u32>, areas: u32, line: u32) -> Option<Overlap>
     requires { area_number_of shared ≤ 64 }
     ensures overlap { noted result ≡ noted_at (area_number_of shared) areas line }
     ensures numbered { NumberedPair result }
@@ -56,7 +56,7 @@ fn refused_at(overlap: Option<Overlap>, broken: Option<u32>, fault: Fault, line:
 }
 
 // Line after line into the draft, until one is refused; the first overlap and the last row of a broken picture are noted, and reading goes on.
-pub(crate) fn read_lines(sheet: &[u8], draft: &mut Draft) -> LinesRead
+pub fn read_lines(sheet: &[u8], draft: &mut Draft) -> LinesRead
     requires { length sheet.now ≤ 32768 }
     ensures lines { record { fault = fault_in result.end; line = stop_in result.end; held = held_of draft.new } ≡ held_run 1 (split 10 sheet.now) (held_of draft.old) }
     ensures overlap { noted result.overlap ≡ held_overlap 1 (split 10 sheet.now) (held_of draft.old) }

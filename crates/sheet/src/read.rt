@@ -5,7 +5,8 @@ ghost use Rattle.sheet_rules.specs.Answers.{noted, NumberedPair, TellsPair, answ
 ghost use Rattle.sheet_rules.specs.Panels.{tables_in};
 ghost use Rattle.sheet_rules.specs.Sheet.{overlap_of};
 ghost use Rattle.sheet_rules.specs.Read.{SheetRead, read_sheet, DisplayRead, read_display};
-ghost use Rattle.sheet.specs.Steps.{fault_in, line_of, judged_by, judgement, answered_read, read_under};
+ghost use Rattle.sheet_step.specs.Drafts.{held_of};
+ghost use Rattle.sheet.specs.Steps.{fault_in, line_of, judged_by, judgement, copied, answered_read, read_under};
 
 use crate::end::read_panel;
 use crate::{ReadPanel, SheetRun};
@@ -33,6 +34,27 @@ fn copy_names(store: &mut [u8], bytes: &[u8; AXIS_BYTES], used: u32)
     ensures { store.new ≡ put_bytes store.old 0 (part_of bytes.now 0 used) }
 {
     put_bytes(store, 0, part_from(bytes, 0, used));
+}
+
+// The tables of a draft and the names of its axes, copied into the lent arrays and stores.
+#[tactic(auto, unfolding(sheet_rules::specs::Panels::tables_in, panel_tables::specs::Written::panel_held_of))]
+pub fn copy_out(
+    draft: &Draft,
+    words: &mut [u64; PANEL_WORDS],
+    bytes: &mut [u8; PANEL_BYTES],
+    columnstore: &mut [u8],
+    rowstore: &mut [u8],
+)
+    ensures { tables_in words.new bytes.new columnstore.new rowstore.new ≡ copied (held_of draft.now) columnstore.old rowstore.old }
+{
+    *words = draft.words;
+    *bytes = draft.bytes;
+    copy_names(
+        columnstore,
+        &draft.column_bytes,
+        draft.panel.room.columns.used,
+    );
+    copy_names(rowstore, &draft.row_bytes, draft.panel.room.rows.used);
 }
 
 // The panel that a sheet describes under one of the two rules, in the answer and the lent arrays and stores, with the first overlap. On a
@@ -67,13 +89,9 @@ fn read_tables(
     if shorter < AXIS_BYTES {
         return Err(SheetFault::Whole(Fault::Short));
     }
-    let panel = draft.panel;
-    *words = draft.words;
-    *bytes = draft.bytes;
-    copy_names(columnstore, &draft.column_bytes, panel.room.columns.used);
-    copy_names(rowstore, &draft.row_bytes, panel.room.rows.used);
+    copy_out(&draft, words, bytes, columnstore, rowstore);
     Ok(ReadPanel {
-        panel,
+        panel: draft.panel,
         overlap: run.overlap,
     })
 }

@@ -40,7 +40,7 @@ fn seen_grid<'a>(
 }
 
 // A sheet that is refused.
-fn seen_fault(expected: Expected, fault: SheetFault) -> Expected {
+pub fn seen_fault(expected: Expected, fault: SheetFault) -> Expected {
     let told = LineFault::from(fault);
     let refused = expected.refused(told.fault, told.line);
     match fault {

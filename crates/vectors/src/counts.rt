@@ -7,6 +7,7 @@ pub struct Counts {
     pub blocks: u64,
     pub calls: u64,
     pub questions: u64,
+    pub acts: u64,
     pub rows: u64,
     pub different: u64,
 }
@@ -17,6 +18,12 @@ impl Counts {
         self.blocks = self.blocks.wrapping_add(1);
         self.calls = self.calls.wrapping_add(u64::from(calls));
         self.questions = self.questions.wrapping_add(u64::from(questions));
+    }
+
+    // One block of acts more.
+    pub fn add_acts(&mut self, acts: u32) {
+        self.blocks = self.blocks.wrapping_add(1);
+        self.acts = self.acts.wrapping_add(u64::from(acts));
     }
 
     // So many rows more.
@@ -33,6 +40,7 @@ impl Counts {
         writeln!(out, "blocks\t{}", self.blocks)?;
         writeln!(out, "calls\t{}", self.calls)?;
         writeln!(out, "questions\t{}", self.questions)?;
+        writeln!(out, "acts\t{}", self.acts)?;
         writeln!(out, "rows\t{}", self.rows)?;
         writeln!(out, "different\t{}", self.different)
     }

@@ -11,6 +11,7 @@ pub enum Word {
     Ask,
     Cut,
     Lines,
+    History,
     Other,
 }
 
@@ -75,6 +76,7 @@ fn word_of(word: &[u8]) -> Word {
         b"ask" => Word::Ask,
         b"cut" => Word::Cut,
         b"lines" => Word::Lines,
+        b"history" => Word::History,
         _ => Word::Other,
     }
 }

@@ -1,6 +1,6 @@
-// Replays recorded lists from standard input. A block is a sheet, read or only displayed, entry calls, questions and the expected answers; a row
-// is the conversion of a grid line and back. Prints the first lines of those that differ, how many there are, and how many differ. Some
-// are wrong on purpose, and say so.
+// Replays recorded lists from standard input. A block is a sheet, read or only displayed, entry calls, questions and the expected answers, or a
+// sheet with acts on its panel and its history; a row is the conversion of a grid line and back. Prints the first lines of those that differ, how
+// many there are, and how many differ. Some are wrong on purpose, and say so.
 
 #![tactic(auto)]
 
@@ -11,6 +11,7 @@ mod cells;
 mod conversions;
 mod counts;
 mod expected;
+mod histories;
 mod hits;
 mod input;
 mod marks;

@@ -2,6 +2,7 @@
 use crate::block::Block;
 use crate::conversions::different_rows;
 use crate::counts::Counts;
+use crate::histories::ActedSheet;
 use crate::input::{Reader, Word, head_of};
 use crate::tables::Tables;
 use crate::window::Window;
@@ -28,6 +29,13 @@ fn replay_block(input: &mut Reader, counts: &mut Counts, tables: &mut Tables) ->
     u64::from(!block.is_same(tables))
 }
 
+// The sheet with its acts after their `history` line: 1 where it differs.
+fn replay_acts(input: &mut Reader, counts: &mut Counts, tables: &mut Tables) -> u64 {
+    let acted = ActedSheet::read(input);
+    counts.add_acts(acted.acts);
+    u64::from(!acted.is_same(tables))
+}
+
 // The rows after their `lines` line: how many differ.
 fn replay_rows(input: &mut Reader, counts: &mut Counts, number: u32) -> u64 {
     counts.add_rows(number);
@@ -45,6 +53,7 @@ fn replay_next<W: Write>(
     let head = head_of(line);
     let different = match head.word {
         Word::Lines => replay_rows(input, counts, head.number),
+        Word::History => replay_acts(input, counts, tables),
         _ => replay_block(input, counts, tables),
     };
     if different != 0 && counts.different < MOST_NAMED {

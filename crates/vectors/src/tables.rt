@@ -61,7 +61,7 @@ fn at_most(count: u32, bytes: usize) -> usize
 }
 
 // How many bytes of both stores are lent: all where no lengths are given.
-fn lent(lengths: Option<StoreLengths>) -> (usize, usize)
+pub fn lent(lengths: Option<StoreLengths>) -> (usize, usize)
     ensures { (result.0 ≤ 32800) × (result.1 ≤ 32800) }
 {
     match lengths {

@@ -33,8 +33,8 @@ pub returns-clause-read : goal.returns-clause-read
 returns-clause-read c =
     let a = c.args in
     let k = c.read_panel-run in
-    rw (c.copy_names.ensures, c.copy_names-2.ensures)
-    (answer_in_lem (noted k.result.overlap) k.new.draft.panel (panel_reading k.new.draft.reading) k.new.draft.words k.new.draft.bytes k.new.draft.column_bytes k.new.draft.row_bytes a.words.now a.bytes.now a.columnstore.now a.rowstore.now
+    rw c.copy_out.ensures
+    (answer_in_lem (noted k.result.overlap) k.new.draft a.words.now a.bytes.now a.columnstore.now a.rowstore.now
     ∙ read_done a.former a.sheet.now (omega arith) k.result.end (held_of k.new.draft) (panel_held_of c.default.result (panel_reading c.default-2.result) (replicate 26368 0) (replicate 94816 0) (replicate 32768 0) (replicate 32768 0)) (start-zero _ _ (search rules) c.default-2.ensures) k.ensures.run (noted k.result.overlap) k.ensures.overlap a.words.now a.bytes.now a.columnstore.now a.rowstore.now c.in_ok-judged.ensures c.min-shorter.result c.min-shorter.ensures c.if-shorter-lt-AXIS_BYTES.false)
 
 pub returns-in_err-judged-clause-fault : goal.returns-in_err-judged-clause-fault

@@ -1,0 +1,3 @@
+// What an edit is, and what edits after a sheet come to: definitions and laws alone.
+
+#![tactic(auto)]

@@ -1,0 +1,5 @@
+use Rattle.history_demands.proofs.Answers as Answers
+use Rattle.history_demands.proofs.history_answers.Goals as goal
+
+pub returns : goal.returns
+returns c = Answers.history_answers
