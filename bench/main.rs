@@ -3,6 +3,7 @@
 #![allow(dead_code, unused_imports, unreachable_pub, unpredictable_function_pointer_comparisons)]
 
 mod answers;
+mod arguments;
 mod cells;
 mod compute;
 mod cursor;
@@ -37,7 +38,7 @@ use timing::pair;
 
 const STAGES: [&str; 5] = ["sizes", "names", "placements", "records", "line names"];
 /// What is timed beside the stages.
-const PARTS: [&str; 6] = ["reading", "templates", "cursor", "cells", "trials", "history"];
+const PARTS: [&str; 7] = ["reading", "templates", "cursor", "cells", "trials", "history", "arguments"];
 const GROWTH: [&str; 4] = ["small", "medium", "large, 16 names", "large, 1,440 names"];
 
 /// Both sides of a sheet, after they were seen to answer alike; ends the program where they do not.
@@ -95,7 +96,7 @@ fn readings(sheets: &[Sheet]) {
     [panels::forty_lines(), panels::longest()].iter().chain(sheets).for_each(reading);
 }
 
-/// Every stage, the reading, the templates, the cursor, the cells, the trials and the history, or those that are named.
+/// Every stage, the reading, the templates, the cursor, the cells, the trials, the history and what is given by argument, or those that are named.
 fn main() {
     let words: Vec<String> = std::env::args().skip(1).collect();
     if let Some(word) = words.iter().find(|word| !PARTS.contains(&word.as_str()) && !STAGES.contains(&word.as_str())) {
@@ -134,5 +135,8 @@ fn main() {
     }
     if asked("history") {
         history::print();
+    }
+    if asked("arguments") {
+        arguments::print();
     }
 }

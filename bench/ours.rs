@@ -102,7 +102,7 @@ impl Ours {
 }
 
 /// Of a record's first word its kind and whether it is collapsed.
-fn without_sources(mut words: Vec<u64>) -> Vec<u64> {
+pub(crate) fn without_sources(mut words: Vec<u64>) -> Vec<u64> {
     words.iter_mut().step_by(RECORD_WORDS).for_each(|word| *word &= 3);
     words
 }

@@ -102,6 +102,40 @@ impl Theirs {
         })
     }
 
+    /// One placement with its names resolved.
+    pub(crate) fn placement(&self, at: usize) -> Line<NonNamedGridPlacement> {
+        let (axis, line) = &self.input.placements[at];
+        black_box(self.resolver.resolve_line_names(black_box(line), area_axis(*axis)))
+    }
+
+    /// The columns at another inner size: repetitions and count, and a resolver with all names; answers the one before it.
+    pub(crate) fn resize(&mut self, inner: f32) -> NamedLineResolver<String> {
+        self.input.columns.inner = Some(inner);
+        self.sizes[0] = self.column_size();
+        let (resolver, explicit) = resolver(&self.input, self.sizes, &[]);
+        self.explicit = explicit;
+        std::mem::replace(&mut self.resolver, resolver)
+    }
+
+    /// The repetitions of the columns and their explicit count.
+    pub(crate) fn size_now(&self) -> (u16, u16) {
+        (self.sizes[0].0, self.explicit[0])
+    }
+
+    /// The records of the columns with other implicit counts; answers how many.
+    pub(crate) fn records_with(&mut self, negative: u16, positive: u16) -> usize {
+        let counts = TrackCounts::from_raw(black_box(negative), self.explicit[0], black_box(positive));
+        let (tracks, items) = (&mut self.tracks[0], &self.items[0]);
+        let has_item = |index: usize| items[index] != 0;
+        initialize_grid_tracks(tracks, counts, &self.input.style, AXES[0], self.sizes[0].0, has_item);
+        black_box(tracks).len()
+    }
+
+    /// The records of the columns as they were written last.
+    pub(crate) fn column_records(&self) -> Vec<u64> {
+        self.tracks[0].iter().flat_map(record_words).collect()
+    }
+
     pub(crate) fn placement_count(&self) -> usize {
         self.input.placements.len()
     }

@@ -4,10 +4,10 @@
  * Link target/staticlib/libpalgwern.a (x86-64 Linux), which `tools/make palgwern` writes. Every call is proved to end and to
  * answer as its contract in crates/palgwern/src says, whatever the panel and what is lent hold. What C must ensure:
  *
- * - stack: 512 KiB of room for palgwern_read_sheet, palgwern_display_sheet, palgwern_try_name, palgwern_edit, palgwern_edit_name and
- *   palgwern_recall, 192 KiB for palgwern_line_names, 128 KiB for palgwern_placements_within, palgwern_placements_around and
- *   palgwern_place_cells, 64 KiB for each other call (`bindings/stack` bounds each from the archive's instructions, and `bindings/test`
- *   measures them);
+ * - stack: 512 KiB of room for palgwern_read_sheet, palgwern_display_sheet, palgwern_try_name, palgwern_edit, palgwern_edit_name,
+ *   palgwern_recall, palgwern_resize and palgwern_resolve_given, 192 KiB for palgwern_line_names, 128 KiB for
+ *   palgwern_placements_within, palgwern_placements_around and palgwern_place_cells, 64 KiB for each other call (`bindings/stack` bounds
+ *   each from the archive's instructions, and `bindings/test` measures them);
  * - memory: everything that is lent is initialized, whatever it holds, and not null; an array has the length that is stated here,
  *   a pointer with a length has so many elements, and one of length 0 still points somewhere;
  * - no overlap: what a call may write (no `const`) is part of nothing else that is lent to it, and nobody else reads or writes it
@@ -102,8 +102,14 @@ enum palgwern_packing { PALGWERN_SPARSE = 0, PALGWERN_DENSE = 1 };
 
 enum palgwern_axis_number { PALGWERN_COLUMNS = 0, PALGWERN_ROWS = 1 };
 
-/* Kinds of an end of a resolved placement. */
-enum palgwern_end { PALGWERN_END_AUTO = 0, PALGWERN_END_LINE = 1, PALGWERN_END_SPAN = 3 };
+/* Kinds of an end of a placement: a resolved one has no names. */
+enum palgwern_end {
+    PALGWERN_END_AUTO = 0,
+    PALGWERN_END_LINE = 1,
+    PALGWERN_END_NAMED = 2,
+    PALGWERN_END_SPAN = 3,
+    PALGWERN_END_NSPAN = 4
+};
 
 /* The first word of a record: these added, and 4 times its source. */
 enum palgwern_record { PALGWERN_GUTTER = 1, PALGWERN_COLLAPSED = 2 };
@@ -201,7 +207,8 @@ typedef struct palgwern_panel {
 } palgwern_panel;
 
 /* Answers: `number` is the refusal's, 0 where there is none; the rest is 0 where there is one, but for the panel of
- * palgwern_enter_name and what an edit through a history and a recall hand back, which come as they came. */
+ * palgwern_enter_name and palgwern_resize, what an edit through a history and a recall hand back, and the grid of
+ * palgwern_with_implicit, which come as they came. */
 typedef struct palgwern_panel_answer { uint32_t number; uint32_t line; palgwern_panel panel; } palgwern_panel_answer;
 /* `earlier` and `later`: the first two areas that share a cell (smallest later, then smallest earlier), numbered from 1 in sheet order;
  * of a sheet they come with refusal 12 alone, of a display wherever it is accepted and there are any. */
@@ -444,6 +451,49 @@ palgwern_area_answer palgwern_named_area(
  * components, which no sheet gives). */
 palgwern_size_answer palgwern_size_at(palgwern_panel panel, const uint64_t words[PALGWERN_PANEL_WORDS], uint32_t axis, uint32_t inner);
 
+/* The panel of the same sheet with another inner size of an axis, followed by the same accepted entries: the names of the template are
+ * written out anew, and the direct entries come after them in their order. `inner` has the bits of an f32. All words stay but those of the
+ * axis's entries, and so do the bytes of both stores. Refuses by 3 (no size from 0 to 65,535), then by 4 (no axis, or more than 10,000
+ * explicit tracks at that size), by 8 (more than 4,096 entries, the direct ones counted) and by 10 (a short store). */
+palgwern_panel_answer palgwern_resize(
+    palgwern_panel panel, uint64_t words[PALGWERN_PANEL_WORDS],
+    const uint8_t *columnstore, size_t columnstore_bytes, const uint8_t *rowstore, size_t rowstore_bytes,
+    uint32_t axis, uint32_t inner);
+
+/* ---- placements and implicit tracks by argument, which no sheet lists: the panel stays */
+
+/* A placement: its axis, and of each end the kind, the number and how many bytes of the names are its own. A number or a name that its kind
+ * does not use is not read: `auto` uses neither, `line` and `span` no name. */
+typedef struct palgwern_given {
+    uint32_t axis;
+    uint32_t startkind;
+    int32_t startnumber;
+    uint32_t startname;
+    uint32_t endkind;
+    int32_t endnumber;
+    uint32_t endname;
+} palgwern_given;
+/* How many placements were resolved; `index` is that of the placement that is refused, 0 where the call as a whole is. */
+typedef struct palgwern_given_answer { uint32_t number; uint32_t index; uint32_t count; } palgwern_given_answer;
+
+/* Placements with their names resolved, as `place` lines with the same ends after those of the sheet would be: `numbers` has eight for each,
+ * as palgwern_resolve_placements writes them. `names` has the bytes of all names one after the other, start before end. Refuses by 8 (more
+ * than 256), then by 10 (fewer bytes of names than the placements say), then for the first placement that has it by 2 (a used name that is
+ * none), or else by 4 (an axis, a kind or a used number outside its range), and last by 10 (a short store); nothing is written then. None
+ * given are none answered. */
+palgwern_given_answer palgwern_resolve_given(
+    palgwern_grid grid, const uint64_t words[PALGWERN_PANEL_WORDS], const uint8_t bytes[PALGWERN_PANEL_BYTES],
+    const uint8_t *columnstore, size_t columnstore_bytes, const uint8_t *rowstore, size_t rowstore_bytes,
+    const palgwern_given *given, size_t given_length, const uint8_t *names, size_t names_bytes,
+    int32_t numbers[PALGWERN_PLACEMENT_RUN]);
+
+/* A grid for any answering call. */
+typedef struct palgwern_grid_answer { uint32_t number; palgwern_grid grid; } palgwern_grid_answer;
+
+/* The grid with so many implicit tracks before and after the explicit ones of an axis, as an `extra` line gives them; spare sizes stay. It
+ * answers, with what was lent, as the panel of that sheet. Refuses by 4 (no axis, or more than 10,000), and then the grid is as it came. */
+palgwern_grid_answer palgwern_with_implicit(palgwern_grid grid, uint32_t axis, uint32_t negative, uint32_t positive);
+
 /* ---- lines and tracks by argument, without a panel. Lines are origin-zero lines, 0 the first explicit one, where none is called a grid
  * line. A count above 10,000 is refused by 4, and so is a line outside -10,000..10,000. */
 
@@ -544,6 +594,16 @@ static inline palgwern_area_answer palgwern_tables_named_area(const palgwern_tab
 
 static inline palgwern_size_answer palgwern_tables_size_at(const palgwern_tables *t, palgwern_panel panel, uint32_t axis, uint32_t inner) {
     return palgwern_size_at(panel, t->words, axis, inner);
+}
+
+static inline palgwern_panel_answer palgwern_tables_resized(palgwern_tables *t, palgwern_panel panel, uint32_t axis, uint32_t inner) {
+    return palgwern_resize(panel, t->words, t->columnstore, sizeof t->columnstore, t->rowstore, sizeof t->rowstore, axis, inner);
+}
+
+static inline palgwern_given_answer palgwern_tables_given(const palgwern_tables *t, palgwern_grid grid, const palgwern_given *given,
+    size_t length, const void *names, size_t bytes, int32_t numbers[PALGWERN_PLACEMENT_RUN]) {
+    return palgwern_resolve_given(grid, t->words, t->bytes, t->columnstore, sizeof t->columnstore, t->rowstore, sizeof t->rowstore, given,
+        length, (const uint8_t *)names, bytes, numbers);
 }
 
 static inline palgwern_count_answer palgwern_tables_names(const palgwern_tables *t, palgwern_grid grid, uint32_t axis,

@@ -23,7 +23,7 @@
 //!
 //! A [`Panel`] owns the buffers that the library reads and writes and hands them over together, so what the calls ask of a caller
 //! holds: initialized arrays of the right lengths that do not overlap. One thing is left to the program: 512 KiB of stack for
-//! [`Panel::read`], [`Display::read`], [`Panel::try_name`] and the calls of [`Recorded`], which every Rust thread has unless it was asked
+//! [`Panel::read`], [`Display::read`], [`Panel::try_name`], [`Answers::resolve_given`] and the calls of [`Recorded`], which every Rust thread has unless it was asked
 //! for less.
 //!
 //! A call answers with a [`Refusal`] where its contract has one for it. Calls that have none for a panel that was read answer at once;
@@ -311,6 +311,34 @@ pub mod raw {
         pub end: u32,
     }
 
+    /// A placement by argument, with how many bytes of the names are those of each end.
+    #[repr(C)]
+    #[derive(Clone, Copy, Debug, PartialEq, Eq)]
+    pub struct GivenPlacement {
+        pub axis: u32,
+        pub startkind: u32,
+        pub startnumber: i32,
+        pub startname: u32,
+        pub endkind: u32,
+        pub endnumber: i32,
+        pub endname: u32,
+    }
+
+    #[repr(C)]
+    #[derive(Clone, Copy, Debug, PartialEq, Eq)]
+    pub struct GivenAnswer {
+        pub number: u32,
+        pub index: u32,
+        pub count: u32,
+    }
+
+    #[repr(C)]
+    #[derive(Clone, Copy, Debug, PartialEq, Eq)]
+    pub struct GridAnswer {
+        pub number: u32,
+        pub grid: Grid,
+    }
+
     #[repr(C)]
     #[derive(Clone, Copy, Debug, PartialEq, Eq)]
     pub struct ConversionAnswer {
@@ -417,6 +445,16 @@ pub mod raw {
             columnstore_bytes: usize, rowstore: *const u8, rowstore_bytes: usize, axis: u32, name: *const u8, name_bytes: usize,
         ) -> AreaAnswer;
         pub fn palgwern_size_at(panel: State, words: *const [u64; PANEL_WORDS], axis: u32, inner: u32) -> SizeAnswer;
+        pub fn palgwern_resize(
+            panel: State, words: *mut [u64; PANEL_WORDS], columnstore: *const u8, columnstore_bytes: usize, rowstore: *const u8,
+            rowstore_bytes: usize, axis: u32, inner: u32,
+        ) -> PanelAnswer;
+        pub fn palgwern_resolve_given(
+            grid: Grid, words: *const [u64; PANEL_WORDS], bytes: *const [u8; PANEL_BYTES], columnstore: *const u8,
+            columnstore_bytes: usize, rowstore: *const u8, rowstore_bytes: usize, given: *const GivenPlacement, given_length: usize,
+            names: *const u8, names_bytes: usize, numbers: *mut [i32; PLACEMENT_RUN],
+        ) -> GivenAnswer;
+        pub fn palgwern_with_implicit(grid: Grid, axis: u32, negative: u32, positive: u32) -> GridAnswer;
         pub fn palgwern_into_origin_zero_line(line: i32, tracks: u32) -> ConversionAnswer;
         pub fn palgwern_into_grid_line(line: i32, tracks: u32) -> LineAnswer;
         pub fn palgwern_next_track(counts: TrackCounts, line: i32) -> TrackAnswer;
@@ -436,6 +474,8 @@ const _: () = assert!(size_of::<TrackCounts>() == 12 && size_of::<raw::Conversio
 const _: () = assert!(size_of::<raw::AreaAnswer>() == 12);
 const _: () = assert!(size_of::<raw::Trial>() == 12 && size_of::<raw::TrialAnswer>() == 16);
 const _: () = assert!(size_of::<History>() == 16 && size_of::<raw::NameEdit>() == 8 && size_of::<raw::EditAnswer>() == 208);
+const _: () = assert!(size_of::<raw::GivenPlacement>() == 28 && size_of::<raw::GivenAnswer>() == 12);
+const _: () = assert!(size_of::<raw::GridAnswer>() == 136);
 const _: () = assert!(size_of::<raw::TrackAnswer>() == 8 && size_of::<raw::LineRecordAnswer>() == 12);
 
 /// A refusal by its word in the table of refusals.
@@ -630,6 +670,52 @@ pub struct Placement {
     pub startheld: bool,
     pub endheld: bool,
 }
+
+/// An end of a placement by argument, as the fields of a `place` line say it.
+#[derive(Clone, Copy, Debug, PartialEq, Eq)]
+pub enum GivenEnd<'a> {
+    Auto,
+    Line(i16),
+    Named(&'a [u8], i16),
+    Span(u16),
+    NamedSpan(&'a [u8], u16),
+}
+
+impl<'a> GivenEnd<'a> {
+    /// Its kind, its number and its name, 0 and empty where it has none.
+    fn parts(self) -> (u32, i32, &'a [u8]) {
+        match self {
+            GivenEnd::Auto => (0, 0, b""),
+            GivenEnd::Line(line) => (1, line.into(), b""),
+            GivenEnd::Named(name, line) => (2, line.into(), name),
+            GivenEnd::Span(span) => (3, span.into(), b""),
+            GivenEnd::NamedSpan(name, span) => (4, span.into(), name),
+        }
+    }
+}
+
+/// A placement that no sheet lists.
+#[derive(Clone, Copy, Debug, PartialEq, Eq)]
+pub struct Given<'a> {
+    pub axis: Axis,
+    pub start: GivenEnd<'a>,
+    pub end: GivenEnd<'a>,
+}
+
+/// Why placements by argument are refused: the word, and the placement that has it, from 0; 0 where the call as a whole is refused.
+#[derive(Clone, Copy, Debug, PartialEq, Eq)]
+pub struct GivenRefusal {
+    pub word: Word,
+    pub index: usize,
+}
+
+impl fmt::Display for GivenRefusal {
+    fn fmt(&self, f: &mut fmt::Formatter) -> fmt::Result {
+        write!(f, "placement {} refused by {} ({})", self.index, self.word as u32, self.word)
+    }
+}
+
+impl std::error::Error for GivenRefusal {}
 
 /// How cells are packed.
 #[derive(Clone, Copy, Debug, PartialEq, Eq)]
@@ -970,6 +1056,22 @@ impl Panel {
         refused_or(answer.number, AxisSize { repetitions: answer.repetitions, explicit: answer.explicit })
     }
 
+    /// Gives an axis another inner size: the panel is then that of the same sheet with it, followed by the same accepted entries. On a
+    /// refusal the panel stays. `Word::Value` where `inner` is no length from 0 to 65,535, `Word::Count` for more than 10,000 explicit
+    /// tracks, `Word::Crowded` for more than 4,096 entries.
+    pub fn resize(&mut self, axis: Axis, inner: f32) -> Result<(), Refusal> {
+        let state = self.state();
+        let held = &mut self.answers;
+        // SAFETY: as in `Panel::read_again`; the stores are read alone.
+        let answer = unsafe {
+            raw::palgwern_resize(
+                state, &mut *held.words, held.columnstore.as_ptr(), STORE_BYTES, held.rowstore.as_ptr(), STORE_BYTES, axis as u32,
+                inner.to_bits(),
+            )
+        };
+        self.after(answer.number, answer.line, answer.panel)
+    }
+
     /// The panel as the library has it.
     pub fn state(&self) -> State {
         State { grid: self.answers.grid, room: self.room }
@@ -1121,6 +1223,47 @@ impl Answers {
             )
         };
         counted(answer)
+    }
+
+    /// Placements by argument with their names resolved, as `place` lines after those of the sheet would be; the panel stays. `Word::Name`
+    /// at the first with a name that is none, `Word::Crowded` for more than 256.
+    pub fn resolve_given(&self, given: &[Given]) -> Result<Vec<Placement>, GivenRefusal> {
+        let mut numbers = zeroed();
+        let written = self.write_given(given, &mut numbers)?;
+        Ok((0..written).map(|at| Placement::of(part(&*numbers, at))).collect())
+    }
+
+    /// Writes the same, eight numbers each; answers how many. On a refusal nothing is written.
+    pub fn write_given(&self, given: &[Given], numbers: &mut [i32; PLACEMENT_RUN]) -> Result<usize, GivenRefusal> {
+        let mut names = Vec::new();
+        let mut lent = Vec::with_capacity(given.len());
+        for one in given {
+            let ((startkind, startnumber, start), (endkind, endnumber, end)) = (one.start.parts(), one.end.parts());
+            names.extend_from_slice(start);
+            names.extend_from_slice(end);
+            let [startname, endname] = [start, end].map(|name| u32::try_from(name.len()).unwrap_or(u32::MAX));
+            lent.push(raw::GivenPlacement { axis: one.axis as u32, startkind, startnumber, startname, endkind, endnumber, endname });
+        }
+        // SAFETY: as in `write_placements`; `lent` and `names` are vectors of their own.
+        let answer = unsafe {
+            raw::palgwern_resolve_given(
+                self.grid, &*self.words, &*self.bytes, self.columnstore.as_ptr(), STORE_BYTES, self.rowstore.as_ptr(), STORE_BYTES,
+                lent.as_ptr(), lent.len(), names.as_ptr(), names.len(), numbers,
+            )
+        };
+        match answer.number {
+            0 => Ok(answer.count as usize),
+            number => Err(GivenRefusal { word: Refusal::of(number, 0).word, index: answer.index as usize }),
+        }
+    }
+
+    /// What would answer with so many implicit tracks before and after the explicit ones of an axis, as an `extra` line gives them: all
+    /// buffers are copied. `Word::Count` for more than 10,000.
+    pub fn with_implicit(&self, axis: Axis, negative: u32, positive: u32) -> Result<Answers, Refusal> {
+        // SAFETY: numbers only.
+        let answer = unsafe { raw::palgwern_with_implicit(self.grid, axis as u32, negative, positive) };
+        accepted(answer.number, 0)?;
+        Ok(Answers { grid: answer.grid, ..self.clone() })
     }
 
     /// The placements of an axis with both lines within a span of pixels, its ends included, by their indexes, ascending; none where

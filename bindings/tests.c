@@ -24,12 +24,14 @@ _Static_assert(sizeof(palgwern_area_answer) == 12, "area answer");
 _Static_assert(sizeof(palgwern_trial) == 12 && sizeof(palgwern_trial_answer) == 16, "trial, trial answer");
 _Static_assert(sizeof(palgwern_history) == 16 && sizeof(palgwern_name_edit) == 8, "history, name");
 _Static_assert(sizeof(palgwern_edit_answer) == 208 && offsetof(palgwern_edit_answer, panel) == 16 && offsetof(palgwern_edit_answer, history) == 192, "edit answer");
+_Static_assert(sizeof(palgwern_given) == 28 && sizeof(palgwern_given_answer) == 12, "given, given answer");
+_Static_assert(sizeof(palgwern_grid_answer) == 136 && offsetof(palgwern_grid_answer, grid) == 8, "grid answer");
 _Static_assert(sizeof(palgwern_track_answer) == 8 && sizeof(palgwern_line_record_answer) == 12, "track and record answers");
 
 _Static_assert(PALGWERN_PLACEMENT_RUN == 2 * PALGWERN_PLACEMENTS * PALGWERN_PLACEMENT_NUMBERS, "run of placements");
 _Static_assert((int)PALGWERN_LINE_NAME_RUN == (int)PALGWERN_ENTRIES, "run of line names");
 
-static palgwern_tables tables, before;
+static palgwern_tables tables, before, copied;
 static uint64_t all[PALGWERN_LARGEST_RECORDS * PALGWERN_RECORD_WORDS], some[30], names[PALGWERN_LINE_NAME_RUN];
 static int32_t numbers[PALGWERN_PLACEMENT_RUN];
 static uint32_t hits[PALGWERN_HITS];
@@ -718,6 +720,61 @@ static void sizes(void) {
     CHECK(is_size_at(palgwern_tables_size_at(&tables, read.panel, PALGWERN_COLUMNS, 0), PALGWERN_CROWDED, 0, 0));
 }
 
+/* Columns of 100 with gaps of 10 and a name each, as often as fit in an inner size, and a name after them. */
+#define NAMED_COLUMNS(inner) \
+    "axis\tc\t" inner "\tmax\tlen\t41200000\nrepeat\tc\tfill\nname\tc\tx\ntrack\tc\tlen\t42c80000\tlen\t42c80000\nend\tc\nname\tc\ty\n"
+
+/* Columns of 1 with a name each. */
+#define NAMED_PIXELS "axis\tc\t41200000\tmax\tlen\t00000000\nrepeat\tc\tfill\nname\tc\tx\ntrack\tc\tlen\t3f800000\tlen\t3f800000\nend\tc\n"
+
+static const struct { const char *text; float inner; } named_columns[] = {
+    {NAMED_COLUMNS("42c60000"), 99}, {NAMED_COLUMNS("43a00000"), 320}, {NAMED_COLUMNS("447a0000"), 1000}, {NAMED_COLUMNS("00000000"), 0}};
+
+static palgwern_panel read_and_enter(palgwern_tables *t, const char *text) {
+    palgwern_panel read = palgwern_tables_read(t, text, strlen(text)).panel;
+    read = palgwern_tables_enter(t, read, PALGWERN_COLUMNS, 7, TEXT("z")).panel;
+    read = palgwern_tables_enter(t, read, PALGWERN_ROWS, 1, TEXT("x")).panel;
+    return palgwern_tables_enter(t, read, PALGWERN_COLUMNS, 1, TEXT("x")).panel;
+}
+
+/* One size after the other: each time the panel and all that is lent are those of the sheet with that size and the same entries. */
+static void resized_panels(void) {
+    size_t count = sizeof named_columns / sizeof *named_columns;
+    memset(&tables, 0, sizeof tables);
+    memset(&copied, 0, sizeof copied);
+    palgwern_panel held = read_and_enter(&tables, named_columns[0].text);
+    for (size_t i = 1; i <= 2 * count; i++) {
+        palgwern_panel wanted = read_and_enter(&copied, named_columns[i % count].text);
+        palgwern_panel_answer a = palgwern_tables_resized(&tables, held, PALGWERN_COLUMNS, bits_of(named_columns[i % count].inner));
+        CHECK(a.number == 0 && a.line == 0 && same(a.panel, wanted) && !memcmp(&tables, &copied, sizeof tables));
+        held = a.panel;
+    }
+    palgwern_panel_answer a = palgwern_tables_resized(&tables, held, PALGWERN_ROWS, bits_of(5));
+    CHECK(a.number == 0 && a.panel.grid.rows.space.definite == 1 && !memcmp(&tables, &copied, sizeof tables));
+}
+
+static int resize_refused(palgwern_panel_answer a, palgwern_panel held, uint32_t number) {
+    return a.number == number && a.line == 0 && same(a.panel, held) && !memcmp(&tables, &before, sizeof tables);
+}
+
+/* 3, then 4, 8 and 10, with all as it came: 8 for what the sheet writes out, and for that with the direct entries. */
+static void refused_resizes(void) {
+    palgwern_panel held = read_and_enter(&tables, NAMED_PIXELS);
+    size_t n = PALGWERN_STORE_BYTES;
+    before = tables;
+    for (uint32_t axis = 0; axis < 3; axis++) {
+        CHECK(resize_refused(palgwern_resize(held, tables.words, tables.columnstore, 0, tables.rowstore, 0, axis, 0x477fff01), held, PALGWERN_VALUE));
+    }
+    CHECK(resize_refused(palgwern_resize(held, tables.words, tables.columnstore, 0, tables.rowstore, 0, 2, 0), held, PALGWERN_COUNT));
+    CHECK(resize_refused(palgwern_resize(held, tables.words, tables.columnstore, 0, tables.rowstore, 0, 0, bits_of(10001)), held, PALGWERN_CROWDED));
+    CHECK(resize_refused(palgwern_resize(held, tables.words, tables.columnstore, 0, tables.rowstore, 0, 0, bits_of(4097)), held, PALGWERN_CROWDED));
+    CHECK(resize_refused(palgwern_resize(held, tables.words, tables.columnstore, 0, tables.rowstore, 0, 0, bits_of(4095)), held, PALGWERN_CROWDED));
+    CHECK(resize_refused(palgwern_resize(held, tables.words, tables.columnstore, n - 1, tables.rowstore, n, 0, 0), held, PALGWERN_SHORT));
+    CHECK(resize_refused(palgwern_resize(held, tables.words, tables.columnstore, n, tables.rowstore, n - 1, 0, 0), held, PALGWERN_SHORT));
+    palgwern_panel_answer a = palgwern_tables_resized(&tables, held, PALGWERN_COLUMNS, bits_of(4094));
+    CHECK(a.number == 0 && a.panel.grid.columns.entries == PALGWERN_ENTRIES);
+}
+
 /* Grid lines beside explicit tracks, and their origin-zero lines: -1 is the last line, 32,767 and -32,768 are held, and an explicit count
  * above 10,000 or a line of no 16 bits is refused before line 0. */
 static const struct { int32_t line; uint32_t tracks, number; int32_t converted; uint32_t held; } converted_lines[] = {
@@ -842,7 +899,7 @@ static void cells(void) {
 #define NAMED_CELL "cell\tnamed\tx\t1\tnamed\tx\t-1" NO_END NO_END "\n"
 #define LAST_CELL "cell\tnamed\tx\t-1" NO_END NO_END NO_END "\n"
 
-static palgwern_tables tried, copied;
+static palgwern_tables tried;
 static palgwern_panel tried_panel;
 static int32_t copied_numbers[PALGWERN_PLACEMENT_RUN];
 static uint64_t copied_lands[PALGWERN_CELLS];
@@ -1072,6 +1129,118 @@ static void refused_for_others(void) {
     CHECK(is_step(palgwern_recorded_recall(&recorded, &recorded_tables, 2), 2, 2));
 }
 
+/* ---- placements and implicit tracks by argument */
+
+/* `place` lines, and the placements with the same ends and the bytes of their names, those that are not read among them. */
+static const struct { const char *line; palgwern_given given; const char *names; } given_lines[] = {
+    {"place\tc\tnamed\tx\t-1\tspan\t-\t2\n", {0, PALGWERN_END_NAMED, -1, 1, PALGWERN_END_SPAN, 2, 0}, "x"},
+    {"place\tr\tline\t-\t-2\tnamed\ta\t0\n", {1, PALGWERN_END_LINE, -2, 0, PALGWERN_END_NAMED, 0, 1}, "a"},
+    {"place\tc\tauto\t-\t0\tnspan\tx\t2\n", {0, PALGWERN_END_AUTO, -99999, 2, PALGWERN_END_NSPAN, 2, 1}, " \nx"},
+    {"place\tc\tnamed\ta\t0\tnamed\tx\t1\n", {0, PALGWERN_END_NAMED, 0, 1, PALGWERN_END_NAMED, 1, 1}, "ax"},
+    {"place\tr\tline\t-\t-32768\tspan\t-\t65535\n", {1, PALGWERN_END_LINE, -32768, 0, PALGWERN_END_SPAN, 65535, 0}, ""},
+    {"place\tr\tnspan\ta\t65535\tline\t-\t32767\n", {1, PALGWERN_END_NSPAN, 65535, 1, PALGWERN_END_LINE, 32767, 40},
+     "a----------------------------------------"},
+};
+
+enum { GIVEN_LINES = sizeof given_lines / sizeof *given_lines };
+
+#define GIVEN_SHEET "area\ta\t1\t2\t2\t4\nname\tc\tx\n" COLUMN_LINE COLUMN_LINE COLUMN_LINE "place\tc\tnamed\tx\t1\tnamed\tx\t2\n"
+
+static palgwern_tables beside;
+static palgwern_panel beside_panel;
+
+/* Whether placements by argument have this number and index, all else in the answer 0, and nothing is written. */
+static int given_refused(palgwern_given_answer a, uint32_t number, uint32_t index) {
+    for (size_t i = 0; i < PALGWERN_PLACEMENT_RUN; i++) if (numbers[i] != 0x07070707) return 0;
+    return a.number == number && a.index == index && a.count == 0;
+}
+
+/* Placements by argument beside the same panel. */
+static palgwern_given_answer give(const palgwern_given *given, size_t length, const char *text) {
+    fill_answers();
+    before = beside;
+    palgwern_given_answer a = palgwern_tables_given(&beside, beside_panel.grid, given, length, text, strlen(text), numbers);
+    CHECK(!memcmp(&before, &beside, sizeof beside));
+    return a;
+}
+
+/* Each gets what the last line of the sheet gets, by itself and among the others. */
+static void given_placements(void) {
+    palgwern_given given[GIVEN_LINES];
+    palgwern_placement_answer wanted[GIVEN_LINES];
+    char text[256] = "", with_line[512];
+    beside_panel = palgwern_tables_read(&beside, TEXT(GIVEN_SHEET)).panel;
+    for (size_t i = 0; i < GIVEN_LINES; i++) {
+        snprintf(with_line, sizeof with_line, "%s%s", GIVEN_SHEET, given_lines[i].line);
+        palgwern_sheet_answer read = palgwern_tables_read(&copied, with_line, strlen(with_line));
+        CHECK(read.number == 0 && read.panel.grid.placements == 2);
+        wanted[i] = palgwern_tables_placement(&copied, read.panel.grid, 1);
+        given[i] = given_lines[i].given;
+        strcat(text, given_lines[i].names);
+        palgwern_given_answer a = give(given + i, 1, given_lines[i].names);
+        CHECK(a.number == 0 && a.index == 0 && a.count == 1 && !memcmp(numbers, wanted + i, sizeof *wanted));
+        CHECK(numbers[PALGWERN_PLACEMENT_NUMBERS] == 0x07070707);
+    }
+    palgwern_given_answer a = give(given, GIVEN_LINES, text);
+    CHECK(a.number == 0 && a.index == 0 && a.count == GIVEN_LINES && !memcmp(numbers, wanted, sizeof wanted));
+    CHECK(numbers[PALGWERN_PLACEMENT_NUMBERS * GIVEN_LINES] == 0x07070707 && given_refused(give(given, 0, ""), 0, 0));
+}
+
+/* The second of two is refused: 2 for a used name that is none, else 4. */
+static void refused_given(void) {
+    static const palgwern_given good = {1, PALGWERN_END_LINE, 1, 0, PALGWERN_END_SPAN, 1, 0};
+    static const palgwern_given counts[] = {
+        {2, PALGWERN_END_LINE, 1, 0, PALGWERN_END_SPAN, 1, 0}, {0, 5, 0, 0, PALGWERN_END_AUTO, 0, 0}, {0, PALGWERN_END_AUTO, 0, 0, 5, 0, 0},
+        {0, PALGWERN_END_LINE, 32768, 0, PALGWERN_END_AUTO, 0, 0}, {0, PALGWERN_END_AUTO, 0, 0, PALGWERN_END_LINE, -32769, 0},
+        {0, PALGWERN_END_NAMED, 32768, 1, PALGWERN_END_AUTO, 0, 0}, {0, PALGWERN_END_AUTO, 0, 0, PALGWERN_END_NAMED, -32769, 1},
+        {0, PALGWERN_END_SPAN, 65536, 0, PALGWERN_END_AUTO, 0, 0}, {0, PALGWERN_END_AUTO, 0, 0, PALGWERN_END_SPAN, -1, 0},
+        {0, PALGWERN_END_NSPAN, 65536, 1, PALGWERN_END_AUTO, 0, 0}, {0, PALGWERN_END_AUTO, 0, 0, PALGWERN_END_NSPAN, -1, 1}};
+    static const palgwern_given unnamed[] = {
+        {2, PALGWERN_END_NAMED, 32768, 0, PALGWERN_END_AUTO, 0, 0}, {0, PALGWERN_END_AUTO, 0, 0, PALGWERN_END_NSPAN, -1, 0},
+        {0, PALGWERN_END_NAMED, 1, 33, PALGWERN_END_AUTO, 0, 0}, {0, PALGWERN_END_LINE, 1, 32, PALGWERN_END_NAMED, 1, 2}};
+    static const char text[] = "--------------------------------\x7f-";
+    for (size_t i = 0; i < sizeof counts / sizeof *counts; i++) {
+        palgwern_given two[] = {good, counts[i]};
+        CHECK(given_refused(give(two, 2, "x"), PALGWERN_COUNT, 1) && given_refused(give(two + 1, 1, "x"), PALGWERN_COUNT, 0));
+    }
+    for (size_t i = 0; i < sizeof unnamed / sizeof *unnamed; i++) {
+        palgwern_given two[] = {good, unnamed[i]};
+        CHECK(given_refused(give(two, 2, text), PALGWERN_NAME, 1));
+    }
+}
+
+/* The call as a whole: 8, then 10 for missing names, before any placement; a short store after them all. */
+static void refused_runs(void) {
+    static palgwern_given many[PALGWERN_PLACEMENTS + 1];
+    size_t n = PALGWERN_STORE_BYTES;
+    for (size_t i = 0; i <= PALGWERN_PLACEMENTS; i++) many[i] = given_lines[0].given;
+    CHECK(given_refused(give(many, PALGWERN_PLACEMENTS + 1, ""), PALGWERN_CROWDED, 0));
+    many[0].axis = 2;
+    CHECK(given_refused(give(many, 2, "x"), PALGWERN_SHORT, 0) && given_refused(give(many, 2, "xx"), PALGWERN_COUNT, 0));
+    fill_answers();
+    CHECK(given_refused(palgwern_resolve_given(beside_panel.grid, beside.words, beside.bytes, beside.columnstore, n - 1, beside.rowstore, n,
+        many, 1, (const uint8_t *)"x", 1, numbers), PALGWERN_COUNT, 0));
+    CHECK(given_refused(palgwern_resolve_given(beside_panel.grid, beside.words, beside.bytes, beside.columnstore, n, beside.rowstore, n - 1,
+        many + 1, 1, (const uint8_t *)"x", 1, numbers), PALGWERN_SHORT, 0));
+    char text[PALGWERN_PLACEMENTS + 1] = "";
+    memset(text, 'x', PALGWERN_PLACEMENTS);
+    palgwern_given_answer a = give(many + 1, PALGWERN_PLACEMENTS, text);
+    CHECK(a.number == 0 && a.count == PALGWERN_PLACEMENTS);
+}
+
+/* The grid of the sheet with that `extra` line; all that is lent is the same, in stores that held nothing before. */
+static void implicit_tracks(void) {
+    memset(&copied, 0, sizeof copied);
+    palgwern_sheet_answer read = palgwern_tables_read(&copied, TEXT(GIVEN_SHEET "extra\tc\t2\t10000\n"));
+    palgwern_grid_answer wide = palgwern_with_implicit(beside_panel.grid, PALGWERN_COLUMNS, 2, 10000);
+    CHECK(read.number == 0 && wide.number == 0 && same_grids(wide.grid, read.panel.grid) && !memcmp(&copied, &beside, sizeof copied));
+    static const uint32_t faulty[][3] = {{2, 0, 0}, {PALGWERN_ROWS, 10001, 0}, {PALGWERN_COLUMNS, 0, 10001}};
+    for (size_t i = 0; i < sizeof faulty / sizeof *faulty; i++) {
+        palgwern_grid_answer a = palgwern_with_implicit(wide.grid, faulty[i][0], faulty[i][1], faulty[i][2]);
+        CHECK(a.number == PALGWERN_COUNT && same_grids(a.grid, wide.grid));
+    }
+}
+
 /* The calls, one for each number. */
 static void *call(void *number) {
     switch (*(int *)number) {
@@ -1105,6 +1274,9 @@ static void *call(void *number) {
     case 27: palgwern_recorded_edit(&recorded, &recorded_tables, TEXT("enter\tc\t1\tz")); break;
     case 28: palgwern_recorded_edit_name(&recorded, &recorded_tables, 0, 1, TEXT("z")); break;
     case 29: palgwern_recorded_recall(&recorded, &recorded_tables, 1); break;
+    case 30: palgwern_tables_given(&tables, panel.grid, &given_lines[0].given, 1, TEXT("x"), numbers); break;
+    case 31: palgwern_with_implicit(panel.grid, 0, 1, 1); break;
+    case 32: palgwern_tables_resized(&tables, panel, 0, 0); break;
     }
     return NULL;
 }
@@ -1129,8 +1301,8 @@ static void stacks(void) {
         "resolve_placement", "line_name", "records", "resolve_placements", "line_names", "display_sheet", "nearest_line",
         "placements_within", "placements_around", "least_resize", "into_origin_zero_line", "into_grid_line", "next_track",
         "previous_line", "line_record", "layout", "size_at",
-        "drawn_area", "named_area", "place_cells", "try_name", "edit", "edit_name", "recall"};
-    static const size_t kibibytes[] = {0, 448, 48, 48, 48, 48, 48, 48, 48, 160, 160, 448, 48, 160, 160, 48, 48, 48, 48, 48, 48, 48, 48, 48, 48, 160, 448, 448, 448, 448};
+        "drawn_area", "named_area", "place_cells", "try_name", "edit", "edit_name", "recall", "resolve_given", "with_implicit", "resize"};
+    static const size_t kibibytes[] = {0, 448, 48, 48, 48, 48, 48, 48, 48, 160, 160, 448, 48, 160, 160, 48, 48, 48, 48, 48, 48, 48, 48, 48, 48, 160, 448, 448, 448, 448, 448, 48, 448};
     size_t none = stack_of(0);
     printf("stack in bytes:");
     for (size_t i = 1; i < sizeof names / sizeof *names; i++) {
@@ -1168,9 +1340,15 @@ int main(int count, char **words) {
     edits();
     refused_history();
     refused_for_others();
+    given_placements();
+    refused_given();
+    refused_runs();
+    implicit_tracks();
     stacks();
     resizes();
     sizes();
+    resized_panels();
+    refused_resizes();
     areas();
     refused_areas();
     conversions();

@@ -394,6 +394,55 @@ fn refused_by_histories() {
     panel.edit_name(Axis::Rows, 1, "x").unwrap();
 }
 
+/// `place` lines, and the placements with the same ends.
+const GIVEN: [(&str, Given); 4] = [
+    ("place\tc\tnamed\tx\t-1\tspan\t-\t2\n", Given { axis: Axis::Columns, start: GivenEnd::Named(b"x", -1), end: GivenEnd::Span(2) }),
+    ("place\tr\tline\t-\t-32768\tnamed\ta\t0\n", Given { axis: Axis::Rows, start: GivenEnd::Line(-32_768), end: GivenEnd::Named(b"a", 0) }),
+    ("place\tc\tnspan\ta-start\t2\tline\t-\t3\n", Given { axis: Axis::Columns, start: GivenEnd::NamedSpan(b"a-start", 2), end: GivenEnd::Line(3) }),
+    ("place\tr\tauto\t-\t0\tspan\t-\t65535\n", Given { axis: Axis::Rows, start: GivenEnd::Auto, end: GivenEnd::Span(65_535) }),
+];
+
+/// Each gets what the last line of the sheet gets, by itself and among the others; the panel stays.
+#[test]
+fn given_placements() {
+    let panel = Panel::read(TRIED).unwrap();
+    let before = panel.clone();
+    let placements = panel.resolve_given(&GIVEN.map(|(_, given)| given)).unwrap();
+    assert_eq!((placements.len(), panel.resolve_given(&[])), (GIVEN.len(), Ok(vec![])));
+    for ((line, given), placement) in GIVEN.into_iter().zip(placements) {
+        let held = Panel::read([TRIED, line.as_bytes()].concat()).unwrap();
+        assert_eq!(held.placement(held.placements() - 1), Ok(placement));
+        assert_eq!(panel.resolve_given(&[given]), Ok(vec![placement]));
+    }
+    assert!(panel == before);
+}
+
+#[test]
+fn refused_given() {
+    let panel = Panel::read(TRIED).unwrap();
+    let free = Given { axis: Axis::Rows, start: GivenEnd::Auto, end: GivenEnd::Span(1) };
+    let named = |name| Given { start: GivenEnd::Named(name, 1), ..free };
+    let refused = |given: &[Given]| {
+        let mut numbers = [7; PLACEMENT_RUN];
+        let refusal = panel.write_given(given, &mut numbers).err();
+        assert!(refusal.is_none() || numbers.iter().all(|&number| number == 7));
+        refusal
+    };
+    assert_eq!(refused(&[free, named(b""), named(b"x")]), Some(GivenRefusal { word: Word::Name, index: 1 }));
+    assert_eq!(refused(&[named(b"no name")]), Some(GivenRefusal { word: Word::Name, index: 0 }));
+    assert_eq!(refused(&[free; 257]), Some(GivenRefusal { word: Word::Crowded, index: 0 }));
+    assert_eq!(panel.resolve_given(&[named(b"x"); 256]).map(|placements| placements.len()), Ok(256));
+    assert_eq!(refused(&[named(b"\x7f")]).unwrap().to_string(), "placement 0 refused by 2 (name)");
+}
+
+#[test]
+fn implicit_tracks() {
+    let panel = Panel::read(TRIED).unwrap();
+    let extended = Panel::read([TRIED, b"extra\tc\t2\t10000\n"].concat()).unwrap();
+    assert!(panel.with_implicit(Axis::Columns, 2, 10_000).unwrap() == *extended);
+    assert_eq!(panel.with_implicit(Axis::Rows, 0, 10_001).err(), refusal(Word::Count, 0));
+}
+
 /// A sheet of columns with a fill of one track, `kind` its kind and `bits` those of its size.
 fn filled(axis: &str, kind: &str, bits: &str) -> String {
     format!("axis\tc\t{axis}\nrepeat\tc\tfill\ntrack\tc\t{kind}\t{bits}\t{kind}\t{bits}\nend\tc\n")
@@ -476,6 +525,47 @@ fn resized_sheets() {
 }
 
 /// The last line, a line before the first, lines that are held, and there and back; refused are line 0, counts and lines of no range.
+/// The panel of a sheet with three entries, refused ones left out.
+fn read_and_enter(sheet: &str) -> Result<Panel, Refusal> {
+    let mut panel = Panel::read(sheet)?;
+    for (axis, line, name) in [(Axis::Columns, 7, "z"), (Axis::Rows, 1, "x"), (Axis::Columns, 0, "z"), (Axis::Columns, 1, "x")] {
+        assert_eq!(panel.enter(axis, line, name).is_err(), line == 0);
+    }
+    Ok(panel)
+}
+
+/// A resize leaves the panel of the sheet with that inner size and the same entries, also after others.
+#[test]
+fn resized_panels() {
+    let sheet = std::str::from_utf8(LAYOUT).unwrap();
+    let mut panel = read_and_enter(sheet).unwrap();
+    for half in (0..4_000u16).rev().step_by(13) {
+        let inner = f32::from(half) / 2.0;
+        let read = read_and_enter(&sheet.replacen("axis\tc\t44070000", &format!("axis\tc\t{:08x}", inner.to_bits()), 1));
+        assert_eq!(panel.resize(Axis::Columns, inner).map_err(|refusal| refusal.word), read.as_ref().map(|_| ()).map_err(|refusal| refusal.word));
+        assert!(read.is_err() || panel == read.unwrap());
+    }
+}
+
+/// Columns of 1 with a name each: 8 comes at 4,097 entries, those that were entered counted. Without names, one beside a fill: 4 comes at
+/// 10,001 columns. On a refusal the panel stays.
+#[test]
+fn refused_resizes() {
+    let sheet = filled("41200000\tmax\tlen\t00000000", "len", "3f800000").replace("track", "name\tc\tx\ntrack");
+    let mut panel = read_and_enter(&sheet).unwrap();
+    let before = panel.clone();
+    for inner in [-0.0, -1.0, 65_535.5, f32::NAN, f32::INFINITY] {
+        assert_eq!(panel.resize(Axis::Rows, inner).err(), refusal(Word::Value, 0));
+    }
+    assert_eq!(panel.resize(Axis::Columns, 4_095.0).err(), refusal(Word::Crowded, 0));
+    assert!(panel == before);
+    let mut beside = Panel::read(filled("41200000\tmax\tlen\t00000000", "len", "3f800000") + "track\tc\tlen\t3f800000\tlen\t3f800000\n").unwrap();
+    assert_eq!(beside.resize(Axis::Columns, 10_001.0).err(), refusal(Word::Count, 0));
+    assert_eq!((panel.resize(Axis::Columns, 4_094.0), panel.size(Axis::Columns).repetitions), (Ok(()), 4_094));
+    assert_eq!(panel.resize(Axis::Columns, 10.0), Ok(()));
+    assert!(panel == before);
+}
+
 #[test]
 fn conversions() {
     let line = |line, held| Ok(OriginZeroLine { line, held });

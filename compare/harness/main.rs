@@ -1,4 +1,4 @@
-//! Stand-in for the crate root, and the program around the driver.
+//! Stand-in for the crate root, and the program around the drivers.
 #![allow(dead_code, unused_imports, unreachable_pub, unpredictable_function_pointer_comparisons)]
 
 mod compute;
@@ -21,5 +21,9 @@ mod batch;
 
 fn main() {
     std::panic::set_hook(Box::new(|_| {}));
-    batch::run(std::env::args().skip(1).collect());
+    let words: Vec<String> = std::env::args().skip(1).collect();
+    match words.first().map(String::as_str) {
+        Some("--engine") => compute::grid::engine::run(std::io::stdin().lock()),
+        _ => batch::run(words),
+    }
 }

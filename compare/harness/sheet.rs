@@ -39,6 +39,13 @@ impl Input {
             AbsoluteAxis::Vertical => &self.rows,
         }
     }
+
+    pub(crate) fn axis_mut(&mut self, axis: AbsoluteAxis) -> &mut AxisInput {
+        match axis {
+            AbsoluteAxis::Horizontal => &mut self.columns,
+            AbsoluteAxis::Vertical => &mut self.rows,
+        }
+    }
 }
 
 impl AxisInput {
@@ -105,7 +112,7 @@ impl AxisInput {
 }
 
 /// The value whose bits are written in eight hexadecimal digits.
-fn number_of_bits(field: &str) -> f32 {
+pub(crate) fn number_of_bits(field: &str) -> f32 {
     f32::from_bits(u32::from_str_radix(field, 16).unwrap())
 }
 
@@ -190,7 +197,8 @@ fn draw_row(areas: &mut Vec<GridTemplateArea<String>>, row: u16, words: &[&str])
     }
 }
 
-fn placement(fields: &[&str]) -> GridPlacement<String> {
+/// An end by its kind, name and number.
+pub(crate) fn placement(fields: &[&str]) -> GridPlacement<String> {
     let (name, number) = (fields[1].to_string(), fields[2]);
     match fields[0] {
         "auto" => GridPlacement::Auto,

@@ -4,9 +4,12 @@ pub mod Cursor
 pub mod Cells
 pub mod Hits
 pub mod Resize
+pub mod Resized
 pub mod Lines
 pub mod Layout
 pub mod Sizes
 pub mod Areas
 pub mod Trial
 pub mod History
+pub mod Implicit
+pub mod Given

@@ -20,11 +20,14 @@ ghost use Rattle.panel_resolving.specs.Placements.{WrittenNumbers, placements_wr
 pub mod areas;
 mod cells;
 mod cursor;
+pub mod given;
 mod history;
 mod hits;
+pub mod implicit;
 pub mod layout;
 pub mod lines;
 pub mod resize;
+pub mod resized;
 pub mod sizes;
 mod trial;
 

@@ -16,7 +16,7 @@ use sheet_end::size::size_in;
 use sizing::range::length_in_range;
 
 // The state of an axis with another inner size, by its bits.
-fn state_at(state: AxisState, inner: u32) -> AxisState
+pub fn state_at(state: AxisState, inner: u32) -> AxisState
     ensures { result ≡ state_at state inner }
 {
     let mut after = state;

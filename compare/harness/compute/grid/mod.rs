@@ -1,4 +1,5 @@
-//! Stand-in: the modules that are compared, and the driver that calls them.
+//! Stand-in: the modules that are compared, and the drivers that call them.
+pub(crate) mod engine;
 mod explicit_grid;
 pub(crate) mod panel;
 mod types;

@@ -20,16 +20,16 @@ pub(crate) struct Wanted {
 /// A direct entry: axis, line and name.
 pub(crate) type Entry = (AbsoluteAxis, u32, String);
 
-const AXES: [AbsoluteAxis; 2] = [AbsoluteAxis::Horizontal, AbsoluteAxis::Vertical];
+pub(super) const AXES: [AbsoluteAxis; 2] = [AbsoluteAxis::Horizontal, AbsoluteAxis::Vertical];
 
-fn letter(axis: AbsoluteAxis) -> char {
+pub(super) fn letter(axis: AbsoluteAxis) -> char {
     match axis {
         AbsoluteAxis::Horizontal => 'c',
         AbsoluteAxis::Vertical => 'r',
     }
 }
 
-fn area_axis(axis: AbsoluteAxis) -> GridAreaAxis {
+pub(super) fn area_axis(axis: AbsoluteAxis) -> GridAreaAxis {
     match axis {
         AbsoluteAxis::Horizontal => GridAreaAxis::Column,
         AbsoluteAxis::Vertical => GridAreaAxis::Row,
@@ -37,7 +37,7 @@ fn area_axis(axis: AbsoluteAxis) -> GridAreaAxis {
 }
 
 /// Repetitions and template count of an axis, by the sizes of a style.
-fn template_size(input: &Input, style: &PanelStyle, axis: AbsoluteAxis) -> (u16, u16) {
+pub(super) fn template_size(input: &Input, style: &PanelStyle, axis: AbsoluteAxis) -> (u16, u16) {
     let of_axis = input.axis(axis);
     let strategy = match of_axis.rule_is_min {
         false => AutoRepeatStrategy::MaxRepetitionsThatDoNotOverflow,
@@ -47,7 +47,7 @@ fn template_size(input: &Input, style: &PanelStyle, axis: AbsoluteAxis) -> (u16,
 }
 
 /// A resolver with its explicit counts, the larger of template count and areas, and the direct entries.
-fn resolver(input: &Input, sizes: [(u16, u16); 2], entries: &[Entry]) -> (NamedLineResolver<String>, [u16; 2]) {
+pub(super) fn resolver(input: &Input, sizes: [(u16, u16); 2], entries: &[Entry]) -> (NamedLineResolver<String>, [u16; 2]) {
     let mut resolver = NamedLineResolver::new(&input.style, sizes[0].0, sizes[1].0);
     let explicit = [sizes[0].1.max(resolver.area_column_count()), sizes[1].1.max(resolver.area_row_count())];
     resolver.set_explicit_column_count(explicit[0]);
@@ -58,7 +58,7 @@ fn resolver(input: &Input, sizes: [(u16, u16); 2], entries: &[Entry]) -> (NamedL
     (resolver, explicit)
 }
 
-fn records(input: &Input, axis: AbsoluteAxis, explicit: u16, repetitions: u16) -> Vec<GridTrack> {
+pub(super) fn records(input: &Input, axis: AbsoluteAxis, explicit: u16, repetitions: u16) -> Vec<GridTrack> {
     let of_axis = input.axis(axis);
     let counts = TrackCounts::from_raw(of_axis.negative, explicit, of_axis.positive);
     let mut tracks = Vec::new();
@@ -82,7 +82,7 @@ fn kind_and_value(size: CompactLength) -> (&'static str, u32) {
     (kind, size.value().to_bits())
 }
 
-fn print_record(out: &mut String, index: usize, track: &GridTrack) {
+pub(super) fn print_record(out: &mut String, index: usize, track: &GridTrack) {
     let kind = match track.kind {
         GridTrackKind::Track => "track",
         GridTrackKind::Gutter => "gutter",
@@ -102,7 +102,7 @@ fn print_end(out: &mut String, end: NonNamedGridPlacement) {
     .unwrap();
 }
 
-fn print_placement(out: &mut String, axis: AbsoluteAxis, line: Line<NonNamedGridPlacement>) {
+pub(super) fn print_placement(out: &mut String, axis: AbsoluteAxis, line: Line<NonNamedGridPlacement>) {
     write!(out, "place\t{}", letter(axis)).unwrap();
     print_end(out, line.start);
     print_end(out, line.end);
