@@ -2,13 +2,14 @@
 ghost use Rattle.std.specs.Prelude.{◌≡◌, ◌+◌, ◌≤◌, length};
 ghost use Rattle.std.proofs.lemmas.List.Edits.{sets};
 
-// Values from a place on, where there is room for them.
-#[tactic(auto, using(crate::proofs::Sets::put_sets))]
+// Values from a place on, where there is room for them. A loop, since the library's `copy_from_slice` asks a program in C for `memmove`.
 pub(crate) fn copy_within<T: Copy>(items: &mut [T], at: usize, values: &[T])
     requires { at + length values.now ≤ length items.old }
     ensures { items.new ≡ sets items.old at values.now }
 {
-    items[at..at + values.len()].copy_from_slice(values);
+    for place in 0..values.len() {
+        items[at + place] = values[place];
+    }
 }
 
 // Values from a place on, as far as there are places.

@@ -5,6 +5,16 @@ ghost use Rattle.history_lines.specs.Written.{place_after, bytes_after};
 
 use text::{Decimal, LINE_FEED, TAB};
 
+// Bytes that take the place of as many others. A loop, since the library's `copy_from_slice` asks a program in C for `memmove`.
+fn copy_over(bytes: &mut [u8], text: &[u8])
+    requires { length bytes.old ≡ length text.now }
+    ensures { bytes.new ≡ text.now }
+{
+    for place in 0..text.len() {
+        bytes[place] = text[place];
+    }
+}
+
 // A line that is written: a step's number and its text.
 #[derive(Clone, Copy)]
 pub struct StepLine<'a> {
@@ -30,9 +40,9 @@ impl StepLine<'_> {
         let digits = Decimal::new(self.number);
         let tab = digits.as_bytes().len();
         let end = line.len() - 1;
-        line[..tab].copy_from_slice(digits.as_bytes());
+        copy_over(&mut line[..tab], digits.as_bytes());
         line[tab] = TAB;
-        line[tab + 1..end].copy_from_slice(self.text);
+        copy_over(&mut line[tab + 1..end], self.text);
         line[end] = LINE_FEED;
     }
 

@@ -4,8 +4,6 @@ use mathlib.Core.Path.{◌≡◌, refl, sym, ap, ◌∙◌, subst}
 use mathlib.Core.Bool.{Bool, true, false, cond, ◌||◌}
 use mathlib.Core.List.{List}
 use lib.Ieee.{Float}
-use Rattle.std.specs.Prelude.{Option, Some, None, is_some}
-use Rattle.explicit_size.specs.declared.repeat.RepeatSpaces.{RepeatSpaces}
 use Rattle.std.proofs.lemmas.Bool.{or_parts}
 use Rattle.sizing.specs.Words.{zero32}
 use Rattle.sizing.specs.declared.Sizing.TheVariants.{Length}
@@ -33,21 +31,14 @@ module _ (words minimums maximums : List ℕ) (strategy : AutoRepeatStrategy) (g
     unfolding count_in repetitions_in
     count-right t = go (has_percentage minimums || has_percentage maximums) refl
       where
-        here : (spaces : Option RepeatSpaces) → count_by strategy (whole32 t) spaces ≡ repetitions_at strategy gap cs t
-            → cond (is_some spaces) (count_by strategy (whole32 t) spaces) (repetitions_at strategy gap cs t) ≡ repetitions_at strategy gap cs t
-        here (Some spaces) e = e
-        here None e = refl
-
         go : (b : Bool) → (has_percentage minimums || has_percentage maximums) ≡ b
-            → cond (is_some (cond b None (spaces_by (gathered_of zero32 cs) gap))) (count_by strategy (whole32 t) (cond b None (spaces_by (gathered_of zero32 cs) gap))) (repetitions_at strategy gap cs t)
-            ≡ repetitions_at strategy gap cs t
+            → cond b (repetitions_at strategy gap cs t) (count_by strategy (whole32 t) (spaces_by (gathered_of zero32 cs) gap)) ≡ repetitions_at strategy gap cs t
         go true e = refl
         go false e =
-            here (spaces_by (gathered_of zero32 cs) gap)
-            (let p = or_parts (has_percentage minimums) (has_percentage maximums) e in
+            let p = or_parts (has_percentage minimums) (has_percentage maximums) e in
             let c : gathered_of zero32 cs ≡ gathered_of (whole32 t) cs = gathered-constant minimums maximums p.0 p.1 zero32 (whole32 t) words in
             ap (λ (s : TemplateSummary). count_by strategy (whole32 t) (spaces_by s gap)) c
-            ∙ sym (counted-at (gathered_of (whole32 t) cs) (subst (Gathered 64) c g) (whole32 t) strategy (Length gap)))
+            ∙ sym (counted-at (gathered_of (whole32 t) cs) (subst (Gathered 64) c g) (whole32 t) strategy (Length gap))
 
 -- a search asks nothing but its test
 pub same_search : (p q : ℕ → Bool) → ((t : ℕ) → p t ≡ q t) → (size k d : ℕ) → search_from p size d k ≡ search_from q size d k

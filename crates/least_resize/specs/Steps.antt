@@ -1,5 +1,5 @@
 -- The steps of the search, by what of a repeat is found once. The laws in proofs/Counts.antt join them to the counts at each size (Search.antt).
-use Rattle.std.specs.Prelude.{ℕ, Bool, cond, not, ◌&&◌, ◌||◌, List, eqb, leb, Float, None, is_some}
+use Rattle.std.specs.Prelude.{ℕ, Bool, cond, not, ◌&&◌, ◌||◌, List, eqb, leb, Float}
 use Rattle.sizing.specs.Words.{zero32}
 use Rattle.template_rules.specs.Template.{Component, template_of}
 use Rattle.template_rules.specs.Space.{whole32}
@@ -11,18 +11,19 @@ use Rattle.least_resize.specs.Resize.{largest_size}
 use Rattle.least_resize.specs.Search.{repetitions_at}
 use Rattle.least_resize.specs.Percentages.{has_percentage}
 
--- what is found once: where there are no percentages the spaces are the same at every size, and where there are, none are
+-- what is found once: where there are no percentages the spaces are the same at every size
 abbrev pub repeat_of : List ℕ → List ℕ → List ℕ → AutoRepeatStrategy → Float → SizedRepeat
 repeat_of components minimums maximums strategy gap =
     record {
       strategy = strategy;
       gap = gap;
-      spaces = cond (has_percentage minimums || has_percentage maximums) None (spaces_by (gathered_of zero32 (template_of components minimums maximums)) gap);
+      percentages = has_percentage minimums || has_percentage maximums;
+      spaces = spaces_by (gathered_of zero32 (template_of components minimums maximums)) gap;
     }
 
--- the count at a size: from what was found once, or from the template at that size
+-- the count at a size: from the template at that size, or from what was found once
 unfoldable pub count_in : SizedRepeat → List Component → ℕ → ℕ
-count_in r cs size = cond (is_some r.spaces) (count_by r.strategy (whole32 size) r.spaces) (repetitions_at r.strategy r.gap cs size)
+count_in r cs size = cond r.percentages (repetitions_at r.strategy r.gap cs size) (count_by r.strategy (whole32 size) r.spaces)
 
 -- whether it is not n, at a size in the range
 unfoldable pub differs_in : SizedRepeat → List Component → ℕ → ℕ → Bool

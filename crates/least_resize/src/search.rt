@@ -8,16 +8,17 @@ ghost use Rattle.least_resize.specs.Search.{repetitions_at, at_distance, least_r
 ghost use Rattle.least_resize.specs.Steps.{repeat_of, count_in, differs_in};
 
 use crate::percentage::has_percentage;
-use explicit_size::repeat::{RepeatSpaces, repeat_spaces, template_repetitions};
+use explicit_size::repeat::{RepeatSpaces, repeat_spaces, repetitions_in, template_repetitions};
 use sizing::Sizing;
 use template_rules::{AutoRepeatStrategy, RepeatSpace, SizeTables, Template};
 
-// An automatic repeat whose count is asked for at many sizes: which repetitions, the gap, and what decides the count, the same at every size;
-// none where its template has percentages, or where no automatic repeat counts.
+// An automatic repeat whose count is asked for at many sizes: which repetitions, the gap, whether its template has percentages, and what
+// decides the count, the same at every size where it has none; nothing where no automatic repeat counts.
 #[derive(Clone, Copy, Debug, PartialEq)]
 pub struct SizedRepeat {
     pub strategy: AutoRepeatStrategy,
     pub gap: f32,
+    pub percentages: bool,
     pub spaces: Option<RepeatSpaces>,
 }
 
@@ -31,7 +32,8 @@ fn repeat_of(template: Template<'_>, strategy: AutoRepeatStrategy, gap: f32) -> 
     SizedRepeat {
         strategy,
         gap,
-        spaces: spaces.filter(|_| !percentages),
+        percentages,
+        spaces,
     }
 }
 
@@ -43,7 +45,7 @@ struct Search<'a> {
 }
 
 impl Search<'_> {
-    // The count at a size: the template is walked anew only where nothing decides it at every size.
+    // The count at a size: the template is walked anew only where percentages stand in it.
     #[tactic(auto, unfolding(crate::specs::Steps::count_in))]
     fn count_at(self, size: u16) -> u32
         ensures { result ≡ count_in self.entry.repeat (components_of self.entry.template) size }
@@ -51,18 +53,19 @@ impl Search<'_> {
         let SizedRepeat {
             strategy,
             gap,
+            percentages,
             spaces,
         } = self.repeat;
         let inner = size as f32;
-        if let Some(spaces) = spaces {
-            return spaces.count_in(strategy, inner);
+        if percentages {
+            let space = RepeatSpace {
+                inner: Some(inner),
+                strategy,
+                gap: Sizing::Length(gap),
+            };
+            return template_repetitions(self.template, space);
         }
-        let space = RepeatSpace {
-            inner: Some(inner),
-            strategy,
-            gap: Sizing::Length(gap),
-        };
-        template_repetitions(self.template, space)
+        repetitions_in(spaces, strategy, inner)
     }
 
     // Whether the count at a size is another than the one now.

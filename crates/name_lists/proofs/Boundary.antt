@@ -3,15 +3,16 @@
 use mathlib.Core.Path.{◌≡◌, refl, sym, ◌∙◌, ap}
 use mathlib.Core.Bool.{Bool, true, false, cond}
 use mathlib.Core.List.{List, [], ◌∷◌, map}
-use Prim.Native.Nat.{ℕ, suc, ◌+◌, ◌-◌, ◌≤◌, ◌<◌}
+use Prim.Native.Nat.{ℕ, zero, suc, ◌+◌, ◌-◌, ◌≤◌, ◌<◌}
 use native.Mathlib.Omega.{arith}
 use borrow.Author.Tests.{leb-true, leb-false, le-leb, eq-eqb, ne_eqb}
 use lib.Dec.{eqb, leb}
-use lib.ListN.{length, take, drop, length-drop}
+use lib.ListN.{length, take, drop, length-drop, drop_of_length-le}
 use lib.Seq.{drop-drop}
 use Rattle.name_entries.specs.Entries.{entry_of}
+use Rattle.name_entries.specs.LineEntries.{entries_after}
 use Rattle.std.proofs.lemmas.Bool.{and_parts}
-use Rattle.name_lists.specs.Lists.{part_word, line_words, on_line}
+use Rattle.name_lists.specs.Lists.{part_word, line_words, on_line, lists_from}
 use Rattle.name_lists.specs.Ascending.{ascends_from, ascends, count_up_to}
 use Rattle.name_lists.proofs.OnLine.{line-entries}
 
@@ -114,3 +115,16 @@ module _ (entries : List ℕ) where
       -- the entries between two boundaries show the same names of the line as all do
       pub between-words : (store : List ℕ) → line_words (take (end - at) (drop at entries)) store line ≡ line_words entries store line
       between-words store = rw between-on (ap (map (part_word store)) (line-entries line store entries))
+
+  -- where no entries are left, no line from there on lists a name
+  module _ (store : List ℕ) (at line : ℕ) (past : length entries ≤ at) (b : Boundary entries at line) where
+    none-shown : (later : ℕ) → line ≤ later → line_words entries store later ≡ []
+    unfolding on_line entries_after
+    none-shown later h =
+        let none : on_line later entries ≡ [] = b.holds later h ∙ ap (on_line later) (drop_of_length-le entries {i = at} past) in
+        sym (ap (map (part_word store)) (line-entries later store entries)) ∙ ap (λ (l : List ℕ). line_words l store later) none
+
+    pub none-listed : (later k : ℕ) → line ≤ later → lists_from entries store later k ≡ []
+    unfolding lists_from
+    none-listed later zero h = refl
+    none-listed later (suc k) h = rw (none-shown later h) (none-listed (suc later) k (omega (arith, h)))

@@ -1,6 +1,6 @@
 -- The lists of the explicit lines, one line after the other, as a loop takes them.
 use mathlib.Core.Path.{◌≡◌, subst}
-use mathlib.Core.List.{List}
+use mathlib.Core.List.{List, []}
 use Prim.Native.Nat.{ℕ, ◌+◌, ◌-◌, ◌≤◌, ◌<◌}
 use native.Mathlib.Omega.{arith}
 use lib.ListN.{length, take, drop, length-drop}
@@ -27,6 +27,10 @@ module _ (explicit : ℕ) (entries store lent : List ℕ) where
 
     pub lines-done : explicit + 1 < line → Written lent (lists explicit entries store) words count
     lines-done h = rests-none lent (lists explicit entries store) words count (lines_from explicit entries store line) held.0 (lines_end explicit entries store line h)
+
+    -- and all are where the others list nothing
+    pub lines-left : lines_from explicit entries store line ≡ [] → Written lent (lists explicit entries store) words count
+    lines-left e = rests-none lent (lists explicit entries store) words count (lines_from explicit entries store line) held.0 e
 
     -- the words behind those that are there
     module _ (left : ℕ) (rest : left ≡ length words - count) (h : line ≤ explicit + 1) (room : length entries ≤ length lent) where

@@ -33,7 +33,11 @@ impl ExplicitNames<'_> {
     {
         let mut count: usize = 0;
         let mut at = entries_up_to(self.names.entries, 0);
-        for line in 1..=self.explicit + 1 {
+        for line in 1..self.explicit + 2 {
+            // No line after the last entry has a name.
+            if at == self.names.entries.len() {
+                return count;
+            }
             let end = at + entries_up_to(&self.names.entries[at..], line);
             let own = Names {
                 entries: &self.names.entries[at..end],

@@ -1,5 +1,6 @@
 -- Laws of the resolver.
 pub mod Integers
+pub mod Counting
 pub mod Finding
 pub mod Questions
 pub mod Theorems

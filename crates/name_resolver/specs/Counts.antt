@@ -1,5 +1,5 @@
 -- How the lines of a name are counted: from which line, which way, and past how many.
-use Rattle.std.specs.Prelude.{Bool, true, false, ℕ, zero, suc, pred, ℤ, pos, negsuc, ◌+ℤ◌, ◌-ℤ◌}
+use Rattle.std.specs.Prelude.{Bool, true, false, ℕ, zero, suc, pred, ◌≤◌, min, ℤ, pos, negsuc, ◌+ℤ◌, ◌-ℤ◌}
 use Rattle.name_rules.specs.Css.{Side, start, end}
 use Rattle.name_rules.specs.Rule.{Seek, at, left}
 use Rattle.name_lines.specs.declared.Way.TheVariants.{Up, Down}
@@ -15,6 +15,19 @@ is_zero (negsuc k) = false
 abbrev pub index_count : ℕ → ℤ → Count
 index_count explicit (pos i) = record { way = Up; first = pos 0; over = pred i }
 index_count explicit (negsuc i) = record { way = Down; first = pos explicit; over = i }
+
+-- the most that 32 bits hold: lines that a count passes over, and the last that one begins at
+abbrev pub most_counted : ℕ
+most_counted = 4294967295
+
+-- a count that passes over no more
+abbrev pub held_count : Count → Count
+held_count c = record c { over = min c.over most_counted }
+
+-- a number of 32 bits and a sign, as far before 0 as from it on
+abbrev pub LineFits : ℤ → Type 0
+LineFits (pos l) = l ≤ most_counted
+LineFits (negsuc k) = k ≤ most_counted
 
 -- a span of a start counts back from the line before o, a span of an end on from the line after it; a span of 0 as 1
 abbrev pub span_count : Side → ℕ → ℤ → Count

@@ -1,6 +1,7 @@
 // What an end of a placement asks for.
 ghost use Rattle.coordinates.specs.Answers.{answered_conversion};
 ghost use Rattle.name_lines.specs.Areas.{side_of};
+ghost use Rattle.name_resolver.specs.Counts.{LineFits};
 ghost use Rattle.name_resolver.specs.Steps.{count_question, index_edge, named_question, question_back, question_of, span_question, written_end};
 ghost use Rattle.std.specs.Prelude.{◌≡◌};
 
@@ -45,7 +46,8 @@ struct Counted {
 
 impl Counted {
     // The question of a count back: a line before the first is counted to without a search.
-    fn question_back(self, last: i32, over: u32) -> Asked
+    fn question_back(self, last: i64, over: u32) -> Asked
+        requires { LineFits last }
         ensures { result ≡ question_back self.explicit self.name last over self.held }
     {
         match u32::try_from(last) {
@@ -60,7 +62,7 @@ impl Counted {
                 held: self.held,
             }),
             Err(_) => {
-                let line = OriginZeroLine::hold(i64::from(last) - i64::from(over));
+                let line = OriginZeroLine::hold(last - i64::from(over));
                 Asked::Resolved(end_on_line(self.explicit, self.held, line))
             }
         }
@@ -68,6 +70,7 @@ impl Counted {
 
     // The question of a count of the name's lines.
     fn question(self, edge: Option<GridAreaEnd>, count: Count) -> Asked
+        requires { LineFits count.first }
         ensures { result ≡ count_question self.explicit self.name edge count self.held }
     {
         match count.way {
@@ -95,7 +98,8 @@ fn named_question(explicit: u16, name: Name, index: i16, side: GridAreaEnd) -> A
         name,
         held: false,
     };
-    counted.question(edge_of_index(index, side), Count::of_index(index, explicit))
+    let count = Count::of_index(i64::from(index), explicit);
+    counted.question(edge_of_index(index, side), count)
 }
 
 // What a span of a name asks for beside a grid line, which is held first and whose mark it takes over: span 1 where that is 0.

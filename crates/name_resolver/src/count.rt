@@ -4,7 +4,7 @@ ghost use Rattle.coordinates.specs.Held.{HeldAs};
 ghost use Rattle.name_rules.specs.Rule.{settle};
 ghost use Rattle.name_lines.specs.Areas.{side_of};
 ghost use Rattle.name_lines.specs.Marks.{seek_of};
-ghost use Rattle.name_resolver.specs.Counts.{first_line, found_line, index_count, span_count};
+ghost use Rattle.name_resolver.specs.Counts.{first_line, found_line, held_count, index_count, most_counted, span_count};
 
 use coordinates::{MarkedLine, OriginZeroLine};
 use name_lines::{GridAreaEnd, Way};
@@ -13,20 +13,27 @@ use name_lines::{GridAreaEnd, Way};
 #[derive(Clone, Copy, Debug, PartialEq, Eq)]
 pub struct Count {
     pub way: Way,
-    pub first: i32,
+    pub first: i64,
     pub over: u32,
 }
 
+// A number, held at the most that 32 bits hold.
+fn held_number(number: u64) -> u32
+    ensures { result ≡ min number most_counted }
+{
+    u32::try_from(number).unwrap_or(u32::MAX)
+}
+
 impl Count {
-    // How an index counts: positive from line 0 on, negative from the last explicit line back.
-    pub fn of_index(index: i16, explicit: u16) -> Count
-        ensures { result ≡ index_count explicit index }
+    // How an index counts: positive from line 0 on, negative from the last explicit line back. How many it passes over is held at 32 bits.
+    pub fn of_index(index: i64, explicit: u16) -> Count
+        ensures { result ≡ held_count (index_count explicit index) }
     {
-        let over = u32::from(index.unsigned_abs().saturating_sub(1));
+        let over = held_number(index.unsigned_abs().saturating_sub(1));
         if index < 0 {
             Count {
                 way: Way::Down,
-                first: i32::from(explicit),
+                first: i64::from(explicit),
                 over,
             }
         } else {
@@ -42,7 +49,7 @@ impl Count {
     pub fn of_span(span: u16, beside: OriginZeroLine, end: GridAreaEnd) -> Count
         ensures { result ≡ span_count (side_of end) span beside.0 }
     {
-        let line = i32::from(beside.0);
+        let line = i64::from(beside.0);
         let over = u32::from(span.saturating_sub(1));
         match end {
             GridAreaEnd::Start => Count {
@@ -59,11 +66,11 @@ impl Count {
     }
 }
 
-// Where a count forwards begins: a line before the first counts as the first.
-pub fn first_line(line: i32) -> u32
-    ensures { result ≡ first_line line }
+// Where a count forwards begins: a line before the first counts as the first. Held at 32 bits.
+pub fn first_line(line: i64) -> u32
+    ensures { result ≡ min (first_line line) most_counted }
 {
-    line.max(0).unsigned_abs()
+    held_number(line.max(0).unsigned_abs())
 }
 
 // The line that a search forwards comes to; missing lines are counted on past the explicit grid, or from `first` on, held at 10,000, with its mark.

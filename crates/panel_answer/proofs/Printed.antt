@@ -38,11 +38,11 @@ read_as : {r : SheetRead} {after : Tables} {read : Result Panel SheetFault} (a :
     → read ≡ a → record { answer = answered_sheet a; tables = after } ≡ r
 read_as {r} {after} {read} a e k = ap (λ (x : Result Panel SheetFault). record { answer = answered_sheet x; tables = after }) (sym k) ∙ e
 
-pub refused_printed : {r : SheetRead} {after : Tables} {read : Result Panel SheetFault} (before : List ℕ) (fault : SheetFault) (h : GridHeld)
-    → record { answer = answered_sheet read; tables = after } ≡ r → read ≡ Err fault → Printed r before (text_from h (Refused (refused_with fault).refusal))
-refused_printed {r} {after} {read} before fault h e k =
-    subst (λ (x : SheetRead). Printed x before (text_from h (Refused (refused_with fault).refusal))) (read_as (Err fault) e k)
-    (refused (refused-number fault) (text-refused h (refused_with fault).refusal))
+pub refused_printed : {r : SheetRead} {after : Tables} {read : Result Panel SheetFault} (before : List ℕ) (fault : SheetFault) (h : GridHeld) (first : AnswerLine)
+    → record { answer = answered_sheet read; tables = after } ≡ r → read ≡ Err fault → first ≡ Refused (refused_with fault).refusal → Printed r before (text_from h first)
+refused_printed {r} {after} {read} before fault h first e k f =
+    subst (λ (x : SheetRead). Printed x before (text_from h first)) (read_as (Err fault) e k)
+    (refused (refused-number fault) (ap (text_from h) f ∙ text-refused h (refused_with fault).refusal))
 
 pub placed_printed : {r : SheetRead} {after : Tables} {read : Result Panel SheetFault} (before : List ℕ) (panel : Panel) (lands : List ℕ) (c : Result ℕ LineFault) (first : AnswerLine)
     → record { answer = answered_sheet read; tables = after } ≡ r → read ≡ Ok panel → CellsAnswered panel.grid (lent_of after) Sparse before lands c → first ≡ first_line c

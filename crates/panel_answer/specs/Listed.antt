@@ -3,7 +3,7 @@ use Rattle.std.specs.Prelude.{ℕ, Option, Some, None}
 use Rattle.coordinates.specs.declared.axis.Axis.{Axis}
 use Rattle.coordinates.specs.Refusals.{Refusal}
 use Rattle.track_rules.specs.declared.TrackWalk.{TrackWalk}
-use Rattle.sheet_rules.specs.Answers.{refused_with}
+use Rattle.panel_answer.specs.declared.LineRefusal.{LineRefusal}
 use Rattle.panel_answer.specs.declared.AnswerLine.{AnswerLine as Told}
 use Rattle.panel_answer.specs.declared.AnswerLine.TheVariants.{Refused as ToldRefused, Size as ToldSize, Record as ToldRecord, Place as ToldPlace, Cell as ToldCell}
 
@@ -16,9 +16,13 @@ pub data AnswerLine : Type 0 where
   Cell : ℕ → AnswerLine
   End : AnswerLine
 
+-- a refusal's number and line
+abbrev pub told_refusal : LineRefusal → Refusal
+told_refusal r = record { number = r.number; line = r.line }
+
 -- a line that is left
 abbrev pub answered_line : Told → AnswerLine
-answered_line (ToldRefused f) = Refused (refused_with f).refusal
+answered_line (ToldRefused r) = Refused (told_refusal r)
 answered_line (ToldSize a) = Size a
 answered_line (ToldRecord a i s) = Record a i s
 answered_line (ToldPlace i) = Place i

@@ -7,7 +7,7 @@ ghost use Rattle.panel_answer.specs.Printed.{PrintedFor};
 ghost use Rattle.panel_answer.specs.Text.{text_from};
 ghost use Rattle.panel_answer.specs.Walk.{first_line};
 
-use crate::{AnswerLine, Begun};
+use crate::{AnswerLine, Begun, LineRefusal};
 use cell_placing::{MOST_PLACED, Packing};
 use coordinates::Axis;
 use panel_placing::place_cells;
@@ -22,7 +22,7 @@ fn first_line(placed: Result<u32, LineFault>) -> AnswerLine
 {
     match placed {
         Ok(_) => AnswerLine::Size(Axis::Column),
-        Err(fault) => AnswerLine::Refused(SheetFault::Line(fault)),
+        Err(fault) => AnswerLine::Refused(LineRefusal::from(SheetFault::Line(fault))),
     }
 }
 
@@ -43,7 +43,7 @@ pub fn begin_answer(
         Err(fault) => {
             return Begun {
                 grid: Grid::default(),
-                first: AnswerLine::Refused(fault),
+                first: AnswerLine::Refused(LineRefusal::from(fault)),
             };
         }
     };

@@ -25,8 +25,8 @@ pub fn fill(
         if out.len() - count < LINE_BYTES {
             return Filled { count, next };
         }
-        count += put_line(&mut out[count..], grid, lent, lands, line);
-        next = next_line(grid, lent, line);
+        count += put_line(&mut out[count..], grid, lent, lands, Some(line));
+        next = next_line(grid, lent, Some(line));
     }
     Filled { count, next }
 }

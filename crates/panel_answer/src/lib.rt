@@ -2,6 +2,10 @@
 
 #![tactic(auto)]
 
+ghost use Rattle.std.specs.Prelude.{◌≡◌};
+ghost use Rattle.sheet_rules.specs.Answers.{refused_with};
+ghost use Rattle.panel_answer.specs.Listed.{told_refusal};
+
 mod axis;
 pub mod begin;
 pub mod fill;
@@ -10,14 +14,34 @@ mod place;
 
 use coordinates::Axis;
 use panel_tables::Grid;
-use sheet_rules::SheetFault;
+use sheet_rules::{LineFault, SheetFault};
 use track_rules::TrackWalk;
 
-// A line of an answer: why the sheet is refused; the size of an axis; a record of it, by its index and what is carried to it; a placement, by its
+// A refusal as it is printed: any number and any line.
+#[derive(Clone, Copy, Debug, PartialEq, Eq)]
+pub struct LineRefusal {
+    pub number: u32,
+    pub line: u32,
+}
+
+impl From<SheetFault> for LineRefusal {
+    ghost from_gives = { λ fault refusal. told_refusal refusal ≡ (refused_with fault).refusal };
+
+    // The refusal of a sheet: the number of its fault in the table, and its line, 0 for the sheet as a whole.
+    fn from(fault: SheetFault) -> LineRefusal {
+        let told = LineFault::from(fault);
+        LineRefusal {
+            number: u32::from(told.fault),
+            line: told.line,
+        }
+    }
+}
+
+// A line of an answer: a refusal; the size of an axis; a record of it, by its index and what is carried to it; a placement, by its
 // index, without text where it is a cell's half; a cell, by its index.
 #[derive(Clone, Copy, Debug, PartialEq)]
 pub enum AnswerLine {
-    Refused(SheetFault),
+    Refused(LineRefusal),
     Size(Axis),
     Record(Axis, u32, TrackWalk),
     Place(u32),

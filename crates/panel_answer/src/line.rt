@@ -1,39 +1,39 @@
 // One line of an answer, and the line after it.
 ghost use Rattle.std.specs.Prelude.{◌≡◌};
 ghost use Rattle.panel_tables.specs.Regions.{axis_words_in, marks_in};
-ghost use Rattle.sheet_rules.specs.Answers.{refused_with};
 ghost use Rattle.panel_text.specs.Lines.{refused_line};
 ghost use Rattle.panel_text.specs.Written.{WritesLine};
 ghost use Rattle.panel_answer.specs.Answer.{held_with};
-ghost use Rattle.panel_answer.specs.Listed.{answered_line, answered_next};
+ghost use Rattle.panel_answer.specs.Listed.{answered_next, told_refusal};
 ghost use Rattle.panel_answer.specs.Walk.{line_text, next_line};
 ghost use Rattle.coordinates.specs.declared.axis.Axis.TheVariants.{Column, Row};
 
-use crate::{AnswerLine, axis, place};
+use crate::{AnswerLine, LineRefusal, axis, place};
 use cell_placing::MOST_PLACED;
 use panel_tables::{Grid, LentPanel};
-use sheet_rules::{LineFault, SheetFault};
 
-// The line of a refused sheet.
-fn put_refused(out: &mut [u8], fault: SheetFault) -> usize
-    ensures { WritesLine out.old (refused_line (refused_with fault).refusal) out.new result }
+// The line of a refusal.
+fn put_refused(out: &mut [u8], refusal: LineRefusal) -> usize
+    ensures { WritesLine out.old (refused_line (told_refusal refusal)) out.new result }
 {
-    let told = LineFault::from(fault);
-    panel_text::refused_line(out, u32::from(told.fault), told.line)
+    panel_text::refused_line(out, refusal.number, refusal.line)
 }
 
-// Writes a line at the start of lent bytes and answers its length.
+// Writes a line at the start of lent bytes and answers its length: nothing, and 0, at the end.
 pub fn put_line(
     out: &mut [u8],
     grid: Grid,
     lent: LentPanel,
     lands: &[u64; MOST_PLACED],
-    at: AnswerLine,
+    at: Option<AnswerLine>,
 ) -> usize
-    ensures { WritesLine out.old (line_text (held_with grid lent.entry lands.now) (answered_line at)) out.new result }
+    ensures { WritesLine out.old (line_text (held_with grid lent.entry lands.now) (answered_next at)) out.new result }
 {
-    match at {
-        AnswerLine::Refused(fault) => put_refused(out, fault),
+    let Some(line) = at else {
+        return 0;
+    };
+    match line {
+        AnswerLine::Refused(refusal) => put_refused(out, refusal),
         AnswerLine::Size(axis) => axis::put_size(out, grid, axis),
         AnswerLine::Record(axis, index, state) => {
             let lent = axis::lent_on(grid, lent.words, lent.bytes, axis);
@@ -44,11 +44,14 @@ pub fn put_line(
     }
 }
 
-// The line after a line, where one is left.
-pub fn next_line(grid: Grid, lent: LentPanel, at: AnswerLine) -> Option<AnswerLine>
-    ensures { answered_next result ≡ next_line grid (axis_words_in Column lent.entry.words.now) (axis_words_in Row lent.entry.words.now) (marks_in Column lent.entry.bytes.now) (marks_in Row lent.entry.bytes.now) (answered_line at) }
+// The line after a line, where one is left: none after the end.
+pub fn next_line(grid: Grid, lent: LentPanel, at: Option<AnswerLine>) -> Option<AnswerLine>
+    ensures { answered_next result ≡ next_line grid (axis_words_in Column lent.entry.words.now) (axis_words_in Row lent.entry.words.now) (marks_in Column lent.entry.bytes.now) (marks_in Row lent.entry.bytes.now) (answered_next at) }
 {
-    match at {
+    let Some(line) = at else {
+        return None;
+    };
+    match line {
         AnswerLine::Refused(_) => None,
         AnswerLine::Size(axis) => {
             let lent = axis::lent_on(grid, lent.words, lent.bytes, axis);

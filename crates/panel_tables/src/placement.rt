@@ -22,7 +22,7 @@ pub const PLACEMENT_WORDS: usize = CELL_LINES + MOST_ITEMS as usize;
 pub const PLACEMENT_BYTES: usize = CELL_LINES * LONGEST_NAME;
 
 // What the mark of a placement counts in its first word.
-const MARK_PART: u64 = 0x100_0000_0000_0000;
+pub const MARK_PART: u64 = 0x100_0000_0000_0000;
 
 // The mark of a placement is the number of its axis, and this more where it is a cell's half.
 const CELL_MARK: u32 = 2;

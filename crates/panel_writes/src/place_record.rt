@@ -3,13 +3,15 @@ ghost use Rattle.std.specs.Prelude.{◌≡◌, ◌+◌, ◌≤◌, ◌<◌, leng
 ghost use Rattle.coordinates.specs.Refusals.{refused_by};
 ghost use Rattle.panel_tables.specs.View.{end_outside, end_fault, lower, ends_fault};
 ghost use Rattle.panel_tables.specs.Areas.{InAreas, put, answered_panel};
-ghost use Rattle.panel_tables.specs.Placements.{axis_mark, end_named, no_item, item_fault, names_length, write_half, put_placement, put_cell};
+ghost use Rattle.panel_tables.specs.Placements.{axis_mark, end_named, end_word, no_item, item_fault, names_length, write_half, put_placement, put_cell};
 
 use axis_tables::name::{named_fault, put_bytes};
 use coordinates::limit::LONGEST_NAME;
 use coordinates::{Axis, Fault, set_at};
 use panel_tables::number::number_outside;
-use panel_tables::placement::{CELL_LINES, MOST_ITEMS, PLACEMENT_BYTES, start_with_mark};
+use panel_tables::placement::{
+    CELL_LINES, MARK_PART, MOST_ITEMS, PLACEMENT_BYTES, start_with_mark,
+};
 use panel_tables::{EndPlace, Panel, PlacementEnd};
 
 // The most bytes that the names of a placement take, and of a cell.
@@ -36,6 +38,19 @@ fn end_outside(end: PlacementEnd) -> bool
     ensures { result ≡ end_outside end }
 {
     4 < end.kind || number_outside(end.number)
+}
+
+// The word of an end: its kind and number, where its name lies, and an axis. Of the axis and the length of the name the lowest byte counts.
+#[tactic(auto, unfolding(panel_tables::specs::Placements::end_word))]
+pub fn end_word(axis: u64, end: PlacementEnd, offset: u32, length: u64) -> u64
+    ensures { result ≡ end_word axis end offset length }
+{
+    let place = EndPlace {
+        end,
+        offset,
+        length: (length % 0x100) as u32,
+    };
+    u64::from(place) + axis % 0x100 * MARK_PART
 }
 
 // Whether an end is refused. 2: a name of more than 32 bytes; 4: a kind or a number outside its range.

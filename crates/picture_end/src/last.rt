@@ -11,5 +11,9 @@ use crate::follow::row_follows;
 pub fn last_broken_row(broken: bool, line: &[u8], rest: &[u8]) -> bool
     ensures { result ≡ broken_row broken (split 9 line.now) (lines_from (split 10 rest.now)) }
 {
-    line_class(line) == LineClass::Row && broken && !row_follows(rest)
+    // Asked first: most lines stand in no broken picture, and need not be cut.
+    if !broken {
+        return false;
+    }
+    line_class(line) == LineClass::Row && !row_follows(rest)
 }

@@ -1,15 +1,15 @@
 // An end of a placement, or of a cell: three fields, kind, name and number.
-ghost use Rattle.std.specs.Prelude.{◌≡◌, cond};
+ghost use Rattle.std.specs.Prelude.{◌≡◌, cond, pos};
 ghost use Rattle.coordinates.specs.Refusals.{refused_by};
 ghost use Rattle.text.specs.Split.{same};
 ghost use Rattle.text.specs.Whole.{whole_of, index_in};
-ghost use Rattle.sheet_forms.specs.Answers.{end_kind_number, kind_said, integer_said, end_said, end_where_read};
+ghost use Rattle.sheet_forms.specs.Answers.{end_kind_number, kind_said, integer_said, place_end, end_field, end_of_kind, end_said, end_where_read};
 ghost use Rattle.sheet_forms.specs.Fields.{count_of};
-ghost use Rattle.sheet_forms.specs.Ends.{end_kind, end_name, index_field, span_field, numbered_end, end_within, end_of, cell_end_of};
+ghost use Rattle.sheet_forms.specs.Ends.{end_kind, end_name, index_field, span_field, end_number, numbered_end, made_end, end_within, end_of, cell_end_of};
 
 use coordinates::Fault;
 use sheet_forms::field::count;
-use sheet_forms::{EndKind, PlaceEnd, both, check_name};
+use sheet_forms::{EndField, EndKind, PlaceEnd, both, check_name};
 use text::read_index;
 
 // The largest span of a placement, and of a name.
@@ -74,7 +74,7 @@ fn span(f: &[u8], least: u16, most: u16) -> Result<i32, Fault>
 // An end of that kind with its number: a line index of `line` and `named`, a span of `span` and `nspan`, the plain one from least to most.
 #[tactic(auto, unfolding(sheet_forms::specs::Ends::end_number))]
 fn end_number(kind: EndKind, f: &[u8], least: u16, most: u16) -> Result<PlaceEnd, Fault>
-    ensures { end_said result ≡ end_where_read (numbered_end least most (end_kind_number kind) f.now) }
+    ensures { end_of_kind (end_kind_number kind) result ≡ numbered_end least most (end_kind_number kind) f.now }
 {
     match kind {
         EndKind::Auto => unused(f, b"0").map(|()| PlaceEnd::Auto),
@@ -85,32 +85,71 @@ fn end_number(kind: EndKind, f: &[u8], least: u16, most: u16) -> Result<PlaceEnd
     }
 }
 
-// An end that three fields write, its plain span from least to most.
-#[tactic(auto, unfolding(sheet_forms::specs::Ends::end_within, sheet_forms::specs::Faults::first_of), using(sheet_forms::proofs::Firsts::first_one, sheet_forms::proofs::Together::fault_number))]
-fn end_within(
-    f: &[u8],
-    name: &[u8],
-    number: &[u8],
-    least: u16,
-    most: u16,
-) -> Result<PlaceEnd, Fault>
-    ensures { end_said result ≡ end_where_read (end_within least most f.now name.now number.now) }
+// An end of that kind with number 0.
+fn without_number(kind: EndKind) -> PlaceEnd
+    ensures { place_end result ≡ record { kind = end_kind_number kind; number = pos 0 } }
 {
-    let kind = kind(f).ok_or(Fault::Unread)?;
-    let ((), end) = both(end_name(kind, name), end_number(kind, number, least, most))?;
-    Ok(end)
+    match kind {
+        EndKind::Auto => PlaceEnd::Auto,
+        EndKind::Line => PlaceEnd::Line(0),
+        EndKind::Named => PlaceEnd::Named(0),
+        EndKind::Span => PlaceEnd::Span(0),
+        EndKind::NamedSpan => PlaceEnd::NamedSpan(0),
+    }
 }
 
-// An end of a placement.
-pub fn end(f: &[u8], name: &[u8], number: &[u8]) -> Result<PlaceEnd, Fault>
-    ensures { end_said result ≡ end_where_read (end_of f.now name.now number.now) }
+// An end of that kind with its name and its number, its plain span from least to most.
+fn known_end(kind: EndKind, name: &[u8], number: &[u8], least: u16, most: u16) -> EndField
+    ensures { end_field result ≡ made_end (kind_said (Some kind)) (end_name (end_kind_number kind) name.now) (end_number least most (end_kind_number kind) number.now) }
+{
+    let end = end_number(kind, number, least, most);
+    EndField {
+        fault: both(end_name(kind, name), end).err(),
+        end: end.unwrap_or(without_number(kind)),
+    }
+}
+
+// An end that three fields write, its plain span from least to most.
+fn end_within(f: &[u8], name: &[u8], number: &[u8], least: u16, most: u16) -> EndField
+    ensures { end_field result ≡ end_within least most f.now name.now number.now }
+{
+    match kind(f) {
+        Some(kind) => known_end(kind, name, number, least, most),
+        None => EndField {
+            fault: Some(Fault::Unread),
+            end: PlaceEnd::Auto,
+        },
+    }
+}
+
+// The end that was read, or its fault.
+#[tactic(auto, using(sheet_forms::proofs::Together::fault_number))]
+fn read(field: EndField) -> Result<PlaceEnd, Fault>
+    ensures { end_said result ≡ end_where_read (end_field field) }
+{
+    match field.fault {
+        None => Ok(field.end),
+        Some(fault) => Err(fault),
+    }
+}
+
+// An end of a placement, with what is read of it beside a fault.
+pub fn end(f: &[u8], name: &[u8], number: &[u8]) -> EndField
+    ensures { end_field result ≡ end_of f.now name.now number.now }
 {
     end_within(f, name, number, 0, MOST_SPAN)
+}
+
+// An end of a placement, or its fault.
+pub fn placement_end(f: &[u8], name: &[u8], number: &[u8]) -> Result<PlaceEnd, Fault>
+    ensures { end_said result ≡ end_where_read (end_of f.now name.now number.now) }
+{
+    read(end(f, name, number))
 }
 
 // An end of a cell, which spans one track at least.
 pub fn cell_end(f: &[u8], name: &[u8], number: &[u8]) -> Result<PlaceEnd, Fault>
     ensures { end_said result ≡ end_where_read (cell_end_of f.now name.now number.now) }
 {
-    end_within(f, name, number, 1, MOST_CELL_SPAN)
+    read(end_within(f, name, number, 1, MOST_CELL_SPAN))
 }

@@ -4,7 +4,7 @@ use Rattle.std.specs.Prelude.{ℕ, Bool, true, false, cond, eqb, leb, ℤ, pos, 
 use Rattle.coordinates.specs.declared.axis.Axis.{Axis as AxisName}
 use Rattle.coordinates.specs.declared.axis.Axis.TheVariants.{Column}
 use Rattle.coordinates.specs.declared.refusal.Fault.{Fault as RefusedFor}
-use Rattle.coordinates.specs.Refusals.{number_of, refused_by}
+use Rattle.coordinates.specs.Refusals.{number_of, fault_number, refused_by}
 use Rattle.sizing.specs.declared.kind.Kind.{Kind}
 use Rattle.sizing.specs.Kinds.{number_of_kind}
 use Rattle.template_rules.specs.declared.AutoRepeatStrategy.{AutoRepeatStrategy}
@@ -17,6 +17,7 @@ use Rattle.sheet_forms.specs.declared.EndKind.{EndKind}
 use Rattle.sheet_forms.specs.declared.EndKind.TheVariants.{Auto, Line, Named, Span, NamedSpan}
 use Rattle.sheet_forms.specs.declared.PlaceEnd.{PlaceEnd as EndRead}
 use Rattle.sheet_forms.specs.declared.PlaceEnd.TheVariants.{Auto as AutoEnd, Line as LineEnd, Named as NamedEnd, Span as SpanEnd, NamedSpan as NamedSpanEnd}
+use Rattle.sheet_forms.specs.declared.EndField.{EndField as FieldsRead}
 use Rattle.sheet_forms.specs.declared.Record.{Record as Read}
 use Rattle.sheet_forms.specs.declared.Record.TheVariants.{Axis as ReadAxis, Area as ReadArea, Name as ReadName, Track as ReadTrack, Repeat as ReadRepeat, End as ReadEnd, Spare as ReadSpare, Extra as ReadExtra, Item as ReadItem, Place as ReadPlace, PictureRow as ReadRow, Cell as ReadCell}
 use Rattle.sheet_forms.specs.Faults.{rank_of}
@@ -132,6 +133,15 @@ end_or_none (Err fault) = unwritten_end
 
 abbrev pub end_said : Result EndRead RefusedFor → EndField
 end_said r = record { fault = refused_by r; end = end_or_none r }
+
+-- an end as its fields are read, and what is read of it beside a fault
+abbrev pub end_field : FieldsRead → EndField
+end_field e = record { fault = fault_number e.fault; end = place_end e.end }
+
+-- an end of a kind by its number, and that kind with number 0 beside a fault
+abbrev pub end_of_kind : ℕ → Result EndRead RefusedFor → EndField
+end_of_kind kind (Ok e) = record { fault = 0; end = place_end e }
+end_of_kind kind (Err fault) = record { fault = number_of fault; end = record { kind = kind; number = pos 0 } }
 
 -- an end where it was read, and nothing of it beside a fault
 abbrev pub end_where_read : EndField → EndField

@@ -19,18 +19,18 @@ fn after_all(number: u32) -> u64
 // The place of a fault's number in the order in which the faults of one line are looked at: the lowest first, but 12 before 8 and 10 last. A
 // number that no line of a sheet has comes after all of these.
 #[tactic(auto, unfolding(crate::specs::Faults::rank_of))]
-pub fn rank_of_number(number: u32) -> u64
+pub fn rank(number: u32) -> u64
     ensures { result ≡ rank_of number }
 {
     match Fault::try_from(number) {
-        Ok(fault) => rank(fault),
+        Ok(fault) => rank_of_fault(fault),
         Err(_) => after_all(number),
     }
 }
 
 // A fault's place in that order.
 #[tactic(auto, unfolding(crate::specs::Faults::rank_of))]
-pub fn rank(fault: Fault) -> u64
+pub fn rank_of_fault(fault: Fault) -> u64
     ensures { result ≡ rank_of (number_of fault) }
 {
     match fault {
@@ -57,7 +57,11 @@ pub fn rank(fault: Fault) -> u64
 fn first(a: Fault, b: Fault) -> Fault
     ensures { result ≡ first_named a b }
 {
-    if rank(a) <= rank(b) { a } else { b }
+    if rank_of_fault(a) <= rank_of_fault(b) {
+        a
+    } else {
+        b
+    }
 }
 
 // The first of two faults, where there is any.

@@ -10,7 +10,7 @@ ghost use Rattle.std.specs.Prelude.{◌≡◌};
 ghost use Rattle.sheet_forms.specs.Answers.{end_kind_number, place_end};
 
 use coordinates::{Axis, Fault, Line};
-pub use fault::{both, first_fault, rank, rank_of_number};
+pub use fault::{both, first_fault, rank, rank_of_fault};
 pub use name::check_name;
 use template_rules::AutoRepeatStrategy;
 
@@ -95,6 +95,14 @@ impl PlaceEnd {
             | PlaceEnd::NamedSpan(number) => number,
         }
     }
+}
+
+// An end of a `place` or `cell` line as its fields are read: a fault, if there is one, and beside it what is read of the kind and the number,
+// `auto` where no kind is, and 0 where no number is.
+#[derive(Clone, Copy, Debug, PartialEq, Eq)]
+pub struct EndField {
+    pub fault: Option<Fault>,
+    pub end: PlaceEnd,
 }
 
 // The sizes of a track, each a word.

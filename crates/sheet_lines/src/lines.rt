@@ -10,7 +10,7 @@ use crate::fields::{
 };
 use coordinates::line::{LAST_EXPLICIT_LINE, MOST_TRACKS};
 use coordinates::{Axis, Fault, Line};
-use sheet_fields::ends::{cell_end, end};
+use sheet_fields::ends::{cell_end, placement_end};
 use sheet_forms::field::{axis, count};
 use sheet_forms::{AreaRecord, CellRecord, PlaceEnd, Record, both, check_name};
 
@@ -152,8 +152,8 @@ pub(crate) fn place_line(fields: &Fields<'_>) -> Result<Record, Fault>
     fields.check_count(PLACE_FIELDS)?;
     make_place(
         axis(fields.field(1)),
-        end(fields.field(2), fields.field(3), fields.field(4)),
-        end(fields.field(5), fields.field(6), fields.field(7)),
+        placement_end(fields.field(2), fields.field(3), fields.field(4)),
+        placement_end(fields.field(5), fields.field(6), fields.field(7)),
     )
 }
 

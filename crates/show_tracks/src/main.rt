@@ -35,8 +35,8 @@ fn print_record<W: Write>(out: &mut W, track: GridTrack) -> io::Result<()> {
 }
 
 // The records that the call counts.
-fn print_records<W: Write>(out: &mut W, records: &[GridTrack], count: u32) -> io::Result<()> {
-    for record in records.iter().take(count as usize) {
+fn print_records<W: Write>(out: &mut W, records: &[GridTrack], count: usize) -> io::Result<()> {
+    for record in records.iter().take(count) {
         print_record(out, *record)?;
     }
     Ok(())
@@ -52,7 +52,7 @@ fn both_ends(words: &[u64]) -> SizeTables {
 
 // The records of an axis.
 fn show<W: Write>(out: &mut W, lent: LentTracks, axis: AxisTracks) -> io::Result<()> {
-    let count = track_run::state::fill_count(MOST_RECORDS, lent.items.len(), axis).unwrap_or(0);
+    let count = track_run::state::fill_count(MOST_RECORDS, lent.items.len(), axis);
     let records = track_run::lender::axis_records(lent, axis);
     writeln!(out, "records\t{count}")?;
     print_records(out, &records, count)

@@ -1,12 +1,13 @@
 -- The library's words for what a text holds: the first place, the parts, equality. Assumes nothing.
-use Rattle.std.proofs.Common.{ℕ, suc, ◌≡◌, ◌+◌, List, [], ◌∷◌, Bool, true, false, cond, eqb, refl, sym, ◌&&◌, nat_lt, one-add, ap, length, length-drop, drop, Bor, Option, Some, None, MatchOption, arith}
-use Rattle.std.specs.List.{position, position_or_len, slice_split, onto_first}
+use Rattle.std.proofs.Common.{ℕ, suc, ◌≡◌, ◌+◌, List, [], ◌∷◌, Bool, true, false, cond, eqb, refl, sym, ◌&&◌, nat_lt, one-add, ap, ◌∙◌, not, length, length-drop, take, drop, Bor, Option, Some, None, MatchOption, arith}
+use Rattle.std.specs.List.{position, position_or_len, prefix_len, slice_split, onto_first}
 use Rattle.std.specs.Prelude.{unwrap_or, nat_eq}
 use Rattle.std.specs.Option.{option_map}
 use Rattle.std.specs.Cmp.Lexicographic.{pointwise}
+use Rattle.std.proofs.lemmas.List.Folds.{length-prefix_len}
 use Rattle.std.proofs.lemmas.List.Recursion.{is_position_or_len}
 use borrow.Author.Tests.{ltb-true, ltb-false}
-use Rattle.text.specs.Split.{before, onto, split, same, index, place_among, Absent, FirstAt}
+use Rattle.text.specs.Split.{before, onto, split, same, index, Absent, FirstAt}
 
 -- ---- the first place
 
@@ -65,5 +66,6 @@ index_place : (f : List ℕ) (ps : List (List ℕ)) → index f ps ≡ position_
 unfolding index
 index_place f ps = is_position_or_len (index f) (λ p. pointwise nat_eq p f) refl (λ x xs. index_step f x (index f xs)) ps
 
-pub part_place : (f : List ℕ) (ps : List (List ℕ)) → position (λ p. pointwise nat_eq p f) ps ≡ place_among f ps
-part_place f ps = rw (index_place f ps) refl
+-- as many parts as a search passes before it
+pub parts_passed : (f : List ℕ) (ps : List (List ℕ)) → length (take (prefix_len (λ p. not (pointwise nat_eq p f)) ps) ps) ≡ index f ps
+parts_passed f ps = length-prefix_len (λ p. not (pointwise nat_eq p f)) ps ∙ sym (index_place f ps)

@@ -1,5 +1,5 @@
 -- A text cut at a separator byte.
-use Rattle.std.specs.Prelude.{ℕ, suc, ◌+◌, ◌≤◌, ◌<◌, ◌≡◌, List, [], ◌∷◌, Bool, true, false, cond, eqb, ltb, length, drop, Option, Some, None}
+use Rattle.std.specs.Prelude.{ℕ, suc, ◌+◌, ◌≤◌, ◌<◌, ◌≡◌, List, [], ◌∷◌, Bool, true, false, cond, eqb, length, drop}
 
 -- how many bytes stand before the first `b`; all of them where there is none
 unfoldable pub before : ℕ → List ℕ → ℕ
@@ -35,7 +35,3 @@ same (x ∷ xs) (y ∷ ys) = cond (eqb x y) (same xs ys) false
 unfoldable pub index : List ℕ → List (List ℕ) → ℕ
 index f [] = 0
 index f (p ∷ ps) = cond (same p f) 0 (suc (index f ps))
-
--- the place of f among the parts; none where it is none of them
-abbrev pub place_among : List ℕ → List (List ℕ) → Option ℕ
-place_among f ps = cond (ltb (index f ps) (length ps)) (Some (index f ps)) None

@@ -24,7 +24,7 @@ pub fn initialize_grid_tracks(
     ensures { (answered_fill result ≡ fill_answer_of axis (length records.old) (length lent.entry.items.now))
         × (records.new ≡ run_after axis (components_of lent.entry.template) (spare_sizes lent.entry.spares) lent.entry.items.now records.old) }
 {
-    let count = state::fill_count(records.len(), lent.items.len(), axis)?;
+    let count = state::check_fill(records.len(), lent.items.len(), axis)?;
     let mut at = lent.begin_at(axis, 0);
     for (index, record) in records[..count as usize].iter_mut().enumerate() {
         *record = lent.record_with(at, index as u64);

@@ -11,7 +11,7 @@ use track_rules::{AxisTracks, TrackWalk};
 // How many records are written: 2N + 1. Refuses a gap out of range by 3, a count out of range by 4, fewer records and fewer than N item bytes
 // by 10.
 #[tactic(auto, unfolding(crate::specs::Run::fill_answer_of, crate::specs::Steps::fill_count))]
-pub fn fill_count(lent: usize, items: usize, axis: AxisTracks) -> Result<u32, Fault>
+pub fn check_fill(lent: usize, items: usize, axis: AxisTracks) -> Result<u32, Fault>
     ensures answered { answered_fill result ≡ fill_answer_of axis lent items }
     ensures counted { (answered_fill result).count ≡ fill_count axis lent items }
 {
@@ -21,6 +21,16 @@ pub fn fill_count(lent: usize, items: usize, axis: AxisTracks) -> Result<u32, Fa
         return Err(Fault::Short);
     }
     Ok(count)
+}
+
+// How many records are written, none where the fill is refused.
+pub fn fill_count(lent: usize, items: usize, axis: AxisTracks) -> usize
+    ensures { result ≡ fill_count axis lent items }
+{
+    match check_fill(lent, items, axis) {
+        Ok(count) => count as usize,
+        Err(_) => 0,
+    }
 }
 
 // The state of record `index` + 1 from that of record `index`: the cursor moves after each gutter from the template's first track on.

@@ -25,7 +25,7 @@ fn seen_line<'a>(
     at: AnswerLine,
 ) -> Expected<'a> {
     let mut line = [0u8; LINE_BYTES];
-    let count = put_line(&mut line, shown.grid, shown.lent, lands, at);
+    let count = put_line(&mut line, shown.grid, shown.lent, lands, Some(at));
     expected.part(&line[..count])
 }
 
@@ -48,7 +48,7 @@ pub fn seen_answer<'a>(
         if is_listed(at, cut) {
             seen = seen_line(seen, shown, lands, at);
         }
-        next = next_line(shown.grid, shown.lent, at);
+        next = next_line(shown.grid, shown.lent, next);
     }
     seen
 }

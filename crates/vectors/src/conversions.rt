@@ -79,11 +79,12 @@ fn is_row_right(row: &[u8]) -> bool {
     }
 }
 
-// How many of the rows differ.
+// How many of the rows differ: those that hold are taken from all, since a row that a list cut short lacks is not right either.
 pub fn different_rows(rows: Lines) -> u64 {
     let lines = rows.text.split(|byte| *byte == LINE_FEED);
-    lines
+    let right = lines
         .take(rows.count as usize)
-        .filter(|row| !is_row_right(row))
-        .count() as u64
+        .filter(|row| is_row_right(row))
+        .count();
+    u64::from(rows.count).saturating_sub(right as u64)
 }

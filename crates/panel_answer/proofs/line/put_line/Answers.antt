@@ -7,9 +7,9 @@ unfolding tables_in
 returns-in-Record c =
     let a = c.args in
     let lent = c.lent_on-lent.ensures in
-    rw (c.in-Record.is, words_of c.in-Record.axis a.lent.words.now, marks_of_lem c.in-Record.axis a.lent.bytes.now)
+    rw (c.in-Some.is, c.in-Record.is, words_of c.in-Record.axis a.lent.words.now, marks_of_lem c.in-Record.axis a.lent.bytes.now)
     (rw (lent.grid, lent.tables, lent.items) at c.put_record.ensures)
 
 pub returns-in-Place : goal.returns-in-Place
 unfolding tables_in
-returns-in-Place c = rw c.in-Place.is c.put_place.ensures
+returns-in-Place c = rw (c.in-Some.is, c.in-Place.is) c.put_place.ensures

@@ -7,15 +7,15 @@ use Rattle.picture_end.specs.declared.class.LineClass.TheVariants.{Row}
 use Rattle.picture_end.proofs.Follows.{broken-either, broken-row}
 use Rattle.picture_end.proofs.last.last_broken_row.Goals as goal
 
-pub returns-else-broken : goal.returns-else-broken
-returns-else-broken c =
+pub returns-else-eq : goal.returns-else-eq
+returns-else-eq c =
     let a = c.args in
     let rest = lines_from (split 10 a.rest.now) in
     let other : c.line_class.result ≡ Row → a.broken ≡ true → ⊥ = search (rules, tests) in
     search (rules, broken-either (split 9 a.line.now) rest a.broken c.line_class.result c.line_class.ensures other)
 
-pub returns-then-broken : goal.returns-then-broken
-returns-then-broken c =
+pub returns-then-eq : goal.returns-then-eq
+returns-then-eq c =
     let a = c.args in
     let rest = lines_from (split 10 a.rest.now) in
     let is : c.line_class.result ≡ Row = search (rules, tests) in

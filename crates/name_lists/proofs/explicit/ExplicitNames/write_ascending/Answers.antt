@@ -1,11 +1,11 @@
 use native.Mathlib.Omega.{arith}
 use mathlib.Core.Path.{◌≡◌, refl, ◌∙◌, ap}
-use Prim.Native.Nat.{ℕ, ◌+◌}
+use Prim.Native.Nat.{ℕ, ◌+◌, ◌-◌}
 use lib.ListN.{drop}
 use Rattle.name_lists.specs.Ascending.{count_up_to}
-use Rattle.name_lists.proofs.Boundary.{Boundary, boundary-begin, boundary-next, between-words}
+use Rattle.name_lists.proofs.Boundary.{Boundary, boundary-begin, boundary-next, between-words, none-listed}
 use Rattle.name_template.proofs.Leading.{rest_all}
-use Rattle.name_lists.proofs.Lines.{lines-begin, lines_part, lines_sum, lines-turn, lines-last}
+use Rattle.name_lists.proofs.Lines.{lines-begin, lines_part, lines_sum, lines-turn, lines-done, lines-left}
 use Rattle.name_lists.proofs.explicit.ExplicitNames.write_ascending.Goals as goal
 use Rattle.name_lists.proofs.explicit.ExplicitNames.write_ascending.Goals.{After-entries_up_to}
 
@@ -42,11 +42,14 @@ loop-line-preserved c = let a = c.args in let l = c.loop-line in let w = c.write
           (rw (← between-words a.self.names.entries.now l.at l.line (l.at + c.entries_up_to.result) (passed d) l.invariant.0 a.self.names.store.now) w.ensures),
     )
 
-pub returns-2 : goal.returns-2
-returns-2 c = let a = c.args in let l = c.loop-line in
-    let d = (goal.at.returns-2 c).After-entries_up_to in
-    lines-last a.self.explicit a.self.names.entries.now a.self.names.store.now a.words.now l.words l.count l.line l.invariant.1 _ (omega arith) (omega arith) (omega arith) _ _
-    (rw (← between-words a.self.names.entries.now l.at l.line (l.at + c.entries_up_to.result) (passed d) l.invariant.0 a.self.names.store.now) c.write_line-count.ensures)
+pub returns-then-at-self : goal.returns-then-at-self
+returns-then-at-self c = let a = c.args in let l = c.loop-line in
+    lines-left a.self.explicit a.self.names.entries.now a.self.names.store.now a.words.now l.words l.count l.line l.invariant.1
+    (none-listed a.self.names.entries.now a.self.names.store.now l.at l.line (omega (arith, c.if-at-self.true)) l.invariant.0 l.line (a.self.explicit + 2 - l.line) (omega arith))
+
+pub returns : goal.returns
+returns c = let a = c.args in let l = c.loop-line in
+    lines-done a.self.explicit a.self.names.entries.now a.self.names.store.now a.words.now l.words l.count l.line l.invariant.1 (omega arith)
 
 pub overflow_add-count : goal.overflow_add-count
 overflow_add-count c = let a = c.args in let l = c.loop-line in
