@@ -46,6 +46,7 @@ struct Search<'a> {
 
 impl Search<'_> {
     // The count at a size: the template is walked anew only where percentages stand in it.
+    #[inline(always)]
     #[tactic(auto, unfolding(crate::specs::Steps::count_in))]
     fn count_at(self, size: u16) -> u32
         ensures { result ≡ count_in self.entry.repeat (components_of self.entry.template) size }
@@ -69,6 +70,7 @@ impl Search<'_> {
     }
 
     // Whether the count at a size is another than the one now.
+    #[inline(always)]
     #[tactic(auto, unfolding(crate::specs::Steps::differs_in))]
     fn differs_at(self, count: u32, size: u16) -> bool
         ensures { result ≡ differs_in self.entry.repeat (components_of self.entry.template) count size }

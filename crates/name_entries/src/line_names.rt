@@ -38,15 +38,19 @@ impl Names<'_> {
     }
 
     // Whether the entry at a place shows its name on the line: it is there, and no entry before has the name there. Past the end all entries are before.
+    #[inline(always)]
     #[tactic(auto, using(crate::proofs::Showing::all_before))]
     pub fn is_shown(self, place: usize, line: u32, entry: NameEntry) -> bool
         ensures { result ≡ shows line (entries_of (take place self.entry.entries.now) self.entry.store.now) (named_entry self.entry.store.now entry) }
     {
+        if entry.line != line {
+            return false;
+        }
         let before = Names {
             entries: &self.entries[..place.min(self.entries.len())],
             ..self
         };
-        entry.line == line && !before.has_written(line, name_in(self.store, entry))
+        !before.has_written(line, name_in(self.store, entry))
     }
 
     // The entry at that place, from 0, among those that show a name on the line.

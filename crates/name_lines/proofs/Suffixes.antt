@@ -107,6 +107,10 @@ pub not_joined : (n a s : Bytes) → eq_bytes (drop (length n - length s) n) s �
 not_joined n a s h =
     bytes-differ n (a ++ s) (λ e. let q : ends_with n s ≡ true = rw e (ends_joined a s) in never (sym h ∙ bytes_sym (drop (length n - length s) n) s ∙ ends_tail n s ∙ q))
 
+-- a name of another length is not joined
+pub other_length : (n a s : Bytes) → (length n ≡ length a + length s → ⊥) → eq_bytes n (a ++ s) ≡ false
+other_length n a s h = bytes-differ n (a ++ s) (λ e. h (ap length e ∙ length-append a s))
+
 pub and_no : (a : Bool) → (a && false) ≡ false
 and_no true = refl
 and_no false = refl

@@ -39,11 +39,15 @@ pub fn stem_of(name: &[u8], edge: Option<GridAreaEnd>) -> &[u8]
     &name[..name.len().saturating_sub(tail_of(edge).len())]
 }
 
-// Whether the name is the stem followed by the tail.
-#[tactic(auto, using(crate::proofs::Suffixes::joined, crate::proofs::Suffixes::not_joined))]
+// Whether the name is the stem followed by the tail. A name of another length is told without a look at its bytes.
+#[inline(always)]
+#[tactic(auto, using(crate::proofs::Suffixes::joined, crate::proofs::Suffixes::not_joined, crate::proofs::Suffixes::other_length))]
 pub fn is_joined(name: &[u8], stem: &[u8], tail: &[u8]) -> bool
     ensures { result ≡ eq_bytes name.now (stem.now ++ tail.now) }
 {
+    if name.len() != stem.len() + tail.len() {
+        return false;
+    }
     name.strip_suffix(tail)
         .is_some_and(|front| bytes::same_bytes(front, stem))
 }
@@ -62,12 +66,14 @@ impl<'a> From<&'a [u8]> for JoinedName<'a> {
 }
 
 // Whether an entry has the name.
+#[inline(always)]
 pub fn has_name(store: &[u8], word: u64, name: JoinedName) -> bool
     ensures { result ≡ eq_bytes (name_in store.now (entry_of word)) (name.entry.stem.now ++ tail_of name.entry.edge) }
 {
-    is_joined(
-        entry::name_in(store, NameEntry::from(word)),
-        name.stem,
-        tail_of(name.edge),
-    )
+    let found = entry::name_in(store, NameEntry::from(word));
+    match name.edge {
+        Some(GridAreaEnd::Start) => is_joined(found, name.stem, b"-start"),
+        Some(GridAreaEnd::End) => is_joined(found, name.stem, b"-end"),
+        None => is_joined(found, name.stem, b""),
+    }
 }

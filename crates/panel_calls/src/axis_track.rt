@@ -132,7 +132,8 @@ impl<'a> LentAxis<'a> {
         self.begin(0)
     }
 
-    // Record `index`, by what is carried to it.
+    // Record `index`, by what is carried to it. In a walk it is one with the loop, which hands on neither the axis nor what is carried.
+    #[inline(always)]
     #[tactic(auto, unfolding(track_run::specs::Steps::state_record))]
     pub fn carried(self, at: TrackWalk, index: usize) -> GridTrack
         ensures { result ≡ carried_record self.entry.grid self.entry.tables.now self.entry.items.now at index }

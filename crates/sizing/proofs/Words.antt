@@ -1,13 +1,13 @@
 -- A size in range is printed as it was read, and every word gives a size in range. Assumes nothing.
-use Rattle.std.specs.Prelude.{Some}
+use Rattle.std.specs.Prelude.{Some, None}
 use Prim.Native.Nat.{ℕ, zero, suc, ◌/◌, ◌%◌, ◌≤◌, ◌<◌}
 use mathlib.Core.Path.{◌≡◌, refl, sym, subst, ◌∙◌}
 use mathlib.Core.Bool.{Bool, true, false, cond}
 use native.Mathlib.Omega.{arith}
 use lib.Dec.{T, leb, eqb, leb→le, lit≤}
-use lib.Ieee.{Float, binary32, of_bits}
+use lib.Ieee.{Float, binary32, of_bits, mul}
 use lib.Ieee.Fits.{and_l, and_r}
-use borrow.Author.Tests.{le-leb}
+use borrow.Author.Tests.{le-leb, ne_eqb}
 use Rattle.sizing.specs.declared.Sizing.{Sizing}
 use Rattle.sizing.specs.Words.{zero32, largest_bits, largest_percent_bits, float_up_to, sizing_of_kind, sizing_of, size_word_of, kind_of, printed_bits, bits_of}
 use Rattle.sizing.specs.Definite.{definite_of}
@@ -111,3 +111,30 @@ length_word w inner h =
     let kind : w / 4294967296 ≡ 0 = omega arith in
     let bits : w % 4294967296 ≡ w = omega arith in
     rw (kind, bits)
+
+-- a word from that of a percentage of 0 to that of the largest is of kind 1
+pub percentage_word : (w : ℕ) (inner : Float) → 4294967296 ≤ w → w ≤ 5387583488 → definite_of (sizing_of w) inner ≡ Some (mul binary32 (float_up_to largest_percent_bits (w % 4294967296)) inner)
+unfolding sizing_of sizing_of_kind
+percentage_word w inner low high =
+    let kind : w / 4294967296 ≡ 1 = omega arith in
+    rw kind
+
+none_either : (t : Bool) (a b : Sizing) (inner : Float) → definite_of a inner ≡ None → definite_of b inner ≡ None → definite_of (cond t a b) inner ≡ None
+none_either true a b inner p q = p
+none_either false a b inner p q = q
+
+kind_indefinite : (kind bits : ℕ) (inner : Float) → 2 ≤ kind → definite_of (sizing_of_kind kind bits) inner ≡ None
+unfolding sizing_of_kind
+kind_indefinite kind bits inner h =
+    let length : eqb kind 0 ≡ false = ne_eqb kind 0 (λ y. omega (arith, y)) in
+    let percentage : eqb kind 1 ≡ false = ne_eqb kind 1 (λ y. omega (arith, y)) in
+    rw (length, percentage) (none_either (eqb kind 2) _ _ inner refl
+    (none_either (eqb kind 4) _ _ inner refl
+    (none_either (eqb kind 5) _ _ inner refl
+    (none_either (eqb kind 6) _ _ inner refl
+    (none_either (eqb kind 7) _ _ inner refl refl)))))
+
+-- a word from that of a fraction of 0 on is of a kind without a definite size
+pub indefinite_word : (w : ℕ) (inner : Float) → 8589934592 ≤ w → definite_of (sizing_of w) inner ≡ None
+unfolding sizing_of
+indefinite_word w inner h = kind_indefinite (w / 4294967296) (w % 4294967296) inner (omega arith)

@@ -1,8 +1,9 @@
 // A size as one word of a lent table: its kind times 2^32, and the bits of its f32.
 ghost use Rattle.std.specs.Prelude.{◌≡◌, ◌≤◌};
-ghost use Rattle.sizing.specs.Words.{float_up_to, largest_bits, sizing_of_kind, sizing_of, size_word_of, kind_of, printed_bits, bits_of};
+ghost use Rattle.sizing.specs.Words.{float_up_to, largest_bits, largest_percent_bits, sizing_of_kind, sizing_of, size_word_of, kind_of, printed_bits, bits_of};
 ghost use Rattle.sizing.specs.Kinds.{number_of_kind};
 
+use crate::definite::LARGEST_LENGTH;
 use crate::range::largest_bits;
 use crate::{Kind, Sizing};
 
@@ -32,6 +33,13 @@ pub fn length_of(bits: u32) -> f32
     float_up_to(LARGEST_BITS, bits)
 }
 
+// The f32 of the bits of a percentage in range, else 0.
+pub(crate) fn percentage_of(bits: u32) -> f32
+    ensures { result ≡ float_up_to largest_percent_bits bits }
+{
+    float_up_to(LARGEST_PERCENT_BITS, bits)
+}
+
 impl Kind {
     // A size of this kind from its bits, which a keyword does not read.
     #[tactic(auto, unfolding(crate::specs::Words::sizing_of_kind, crate::specs::Steps::largest_bits_of))]
@@ -55,9 +63,13 @@ impl Kind {
 impl From<u64> for Sizing {
     ghost from_gives = { λ word size. size ≡ sizing_of word };
 
-    // A size from its word: any word gives one, that of a number that no kind has an auto size.
+    // A size from its word: any word gives one, that of a number that no kind has an auto size. A length in range is told by one comparison,
+    // since its kind is 0: its word is its bits.
     #[tactic(auto, unfolding(crate::specs::Words::sizing_of, crate::specs::Words::sizing_of_kind))]
     fn from(word: u64) -> Sizing {
+        if word <= LARGEST_LENGTH {
+            return Sizing::Length(length_of(word as u32));
+        }
         let Ok(kind) = Kind::try_from((word / 0x1_0000_0000) as u32) else {
             return Sizing::Auto;
         };

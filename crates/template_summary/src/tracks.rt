@@ -47,7 +47,7 @@ fn add_track(totals: TrackTotals, count: RepetitionCount, track: TrackTotals) ->
     ensures { result ≡ add_totals count totals track }
 {
     TrackTotals {
-        fixed: totals.fixed && track.fixed,
+        fixed: totals.fixed & track.fixed,
         space: totals.space + space_in(count, track.space),
     }
 }
